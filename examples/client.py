@@ -1,14 +1,18 @@
 #!/usr/bin/env python3
 """A small client of a tuple space, over the frames of docs/FORMATS.md, with nothing but Python's own library.
 
-    examples/client.py demo                 starts ./linda pipe, puts, reads, takes and waits, and prints what came back
+    examples/client.py demo                 starts linda pipe, puts, reads, takes and waits, and prints what came back
     examples/client.py demo PORT CLIENT     the same with a server that listens on this port of this machine, as a client that was never used
     examples/client.py decode < lines       tells lines of hexadecimal digits, each a whole frame, in words
+
+The demo starts the program that LINDA names; else `linda` on the PATH; else that of the folder around, a repository or an unpacked release.
 
 As a module: `Client(send, receive, number)` speaks over any pair of functions, `connect(port)` gives those of a socket; a value is an int, a str or a bool; a pattern is a value, or one
 of INT, TEXT, BOOL (a formal of that kind) or ANY.
 """
 
+import os
+import shutil
 import socket
 import subprocess
 import sys
@@ -259,9 +263,16 @@ def show(send, receive, number):
     print("took", text_of(client.take("job", ANY)))
 
 
+def program():
+    """The program linda."""
+    top = Path(__file__).resolve().parent.parent
+    around = (str(it) for it in (top / "linda", top / "bin/linda") if it.is_file())
+    found = os.environ.get("LINDA") or shutil.which("linda") or next(around, None)
+    return found or sys.exit("there is no linda: set LINDA to its path, or put it on the PATH")
+
+
 def demo():
-    program = Path(__file__).resolve().parent.parent / "linda"
-    pipe = subprocess.Popen([program, "pipe"], stdin=subprocess.PIPE, stdout=subprocess.PIPE, text=True)
+    pipe = subprocess.Popen([program(), "pipe"], stdin=subprocess.PIPE, stdout=subprocess.PIPE, text=True)
 
     def send(data):
         pipe.stdin.write(data.hex() + "\n")

@@ -9,10 +9,14 @@ A worker keeps nothing on disk. When it starts again under its number it asks fo
 put no result yet, so it goes on with it; "stored", that its last result is there. So each job has one result. The work itself may be begun twice, once before the
 kill and once after it; what it led to is put once. It does the same after an error, whatever was under way then.
 
+The demo starts the program that LINDA names; else `linda` on the PATH; else that of the folder around, a repository or an unpacked release.
+
 What of this is proved: the server takes no tuple twice, keeps what it answered over a kill -9 (if files keep what was synced), and answers a repeated
 number with the reply that it gave. That this program uses it rightly is shown by the demo alone.
 """
 
+import os
+import shutil
 import subprocess
 import sys
 import tempfile
@@ -23,7 +27,12 @@ TOP = Path(__file__).resolve().parent.parent
 sys.path.insert(0, str(TOP / "clients/python"))
 from linda_space import INT, NoConnection, Space  # noqa: E402
 
-PROGRAM = TOP / "linda"
+
+def program():
+    """The program linda."""
+    around = (str(it) for it in (TOP / "linda", TOP / "bin/linda") if it.is_file())
+    found = os.environ.get("LINDA") or shutil.which("linda") or next(around, None)
+    return found or sys.exit("there is no linda: set LINDA to its path, or put it on the PATH")
 
 
 def log(*words):
@@ -59,7 +68,7 @@ def work_in(space):
 
 def serve(folder, port=0):
     """A server on that folder, and its port."""
-    server = subprocess.Popen([PROGRAM, "serve", "--port", str(port), "--dir", folder], stdout=subprocess.PIPE, text=True)
+    server = subprocess.Popen([program(), "serve", "--port", str(port), "--dir", folder], stdout=subprocess.PIPE, text=True)
     line = server.stdout.readline().split()
     if line[:1] != ["ready"]:
         sys.exit("the server did not start")

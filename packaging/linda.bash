@@ -15,16 +15,16 @@ _linda() {
         mapfile -t COMPREPLY < <(compgen -f -- "$word")
         return
         ;;
-    --port | --sessions | --lease | --status | --mode | --client | --servers)
+    --port | --sessions | --lease | --status | --metric | --mode | --client | --servers)
         COMPREPLY=()
         return
         ;;
     esac
     case ${COMP_WORDS[1]} in
-    serve) options="--port --dir --sessions --log --lease --threads --status --socket --mode --help" ;;
-    call) options="--socket --client --again --help" ;;
-    inspect) options="--tuples --clients --json --help" ;;
-    run) options="--servers --trace --help" ;;
+    serve) options="--port --dir --sessions --log --lease --threads --status --metric --socket --mode --wait --explain --help" ;;
+    call) options="--socket --client --again --together --explain --help" ;;
+    inspect) options="--tuples --clients --json --explain --help" ;;
+    run) options="--servers --trace --explain --help" ;;
     pipe) options="--help" ;;
     *) options= ;;
     esac

@@ -1,4 +1,4 @@
-#!/usr/bin/env node
+#!/usr/bin/env -S node --test-reporter=spec
 /**
  * The tests of linda_space.mjs: over servers of the program, and against recorded sessions.
  *
@@ -10,20 +10,23 @@
  */
 
 import assert from 'node:assert/strict';
-import { spawn } from 'node:child_process';
+import { spawn, spawnSync } from 'node:child_process';
+import { createHash } from 'node:crypto';
 import { once } from 'node:events';
 import { cpSync, mkdirSync, mkdtempSync, readdirSync, readFileSync, rmSync, writeFileSync } from 'node:fs';
+import http from 'node:http';
 import net from 'node:net';
 import { tmpdir } from 'node:os';
 import path from 'node:path';
 import { Duplex } from 'node:stream';
 import { describe, test } from 'node:test';
 import { setImmediate as turn, setTimeout as sleep } from 'node:timers/promises';
+import tls from 'node:tls';
 import { fileURLToPath, pathToFileURL } from 'node:url';
 import {
     Aborted, Alarm, Always, ANY, BadReply, BOOL, Busy, Choose, Closed, frames, Gone, Idle, In, INT, Kept, Left, Nack,
-    Never, NoConnection, NoNumber, Outcome, OutOfRange, pack, PACKED, range, Rd, Refused, Restored, Space, SpaceError,
-    Stored, TEXT, TimedOut, unpack, Wrap,
+    Never, NoConnection, NoNumber, NumberInUse, Outcome, OutOfRange, pack, PACKED, Pool, range, Rd, Refused, Restored,
+    Space, SpaceError, Stored, TEXT, TimedOut, unpack, Wrap,
 } from './linda_space.mjs';
 
 const HERE = path.dirname(fileURLToPath(import.meta.url));
@@ -255,6 +258,24 @@ async function failsAfter(least, call, type, properties) {
 const outcome = (base, kind, labels, raised, got = null, binds = [], value = null) => (
     new Outcome(base, kind, labels, raised, got, binds, value));
 
+/** The port of a proxy with TLS before a port, which counts its connections; its certificate, for `linda`, is in the scene's folder. */
+async function encrypted(scene, port) {
+    const [key, certificate] = ['key', 'certificate'].map((name) => path.join(scene.folder, name));
+    const words = ['req', '-x509', '-newkey', 'ec', '-pkeyopt', 'ec_paramgen_curve:P-256', '-nodes', '-subj', '/CN=linda', '-addext', 'subjectAltName=DNS:linda'];
+    const { status, stderr } = spawnSync('openssl', [...words, '-keyout', key, '-out', certificate], { encoding: 'utf8' });
+    assert.equal(status, 0, stderr);
+    scene.encrypted = 0;
+    const listener = tls.createServer({ key: readFileSync(key), cert: readFileSync(certificate) }, (stream) => {
+        scene.encrypted += 1;
+        const behind = net.connect({ port, host: '127.0.0.1', noDelay: true });
+        stream.pipe(behind).pipe(stream);
+        for (const end of [stream, behind]) end.on('error', () => { stream.destroy(); behind.destroy(); });
+    });
+    await new Promise((resolve) => { listener.listen(0, '127.0.0.1', resolve); });
+    scene.closed.push(() => listener.close());
+    return listener.address().port;
+}
+
 /** A test with a scene of its own. */
 const play = (name, work) => test(name, { timeout: LIMIT }, (context) => work(new Scene(context)));
 
@@ -304,6 +325,7 @@ function endOf(ended) {
 }
 
 function faultOf(fault) {
+    if (fault instanceof NumberInUse) return ['in use', fault.server];
     if (fault instanceof Refused) return ['refused', fault.server, fault.code, fault.detail];
     if (fault instanceof Left) return ['refused left'];
     throw fault;
@@ -486,27 +508,86 @@ describe('over servers', { concurrency: 4 }, () => {
         }
     });
 
+    play('TLS', async (scene) => {
+        const port = await encrypted(scene, (await scene.serve()).port);
+        const ca = readFileSync(path.join(scene.folder, 'certificate'));
+        const connect = (to) => tls.connect({ port: to, host: '127.0.0.1', ca, servername: 'linda' });
+        const one = await scene.space({ port }, 7, { connect }), other = await scene.space({ port }, 8, { connect });
+        const big = ['big', ...range(0, 30).map(() => 'x'.repeat(4_000))];          // several records of TLS
+        const template = ['big', ...range(0, 30).map(() => TEXT), INT];
+        for (const number of range(0, 20)) {
+            assert.equal((await one.out([...big, number])).id, number + 1);
+            assert.deepEqual(await other.take(template), [...big, number]);
+        }
+        const many = await one.outMany(range(0, 40).map((number) => [...big, number]));
+        assert.deepEqual(many, range(0, 40).map((number) => ({ server: 0, id: 21 + number })));
+        assert.equal((await other.takeMany(template, { count: 40 })).length, 40);
+        await one.out(['held']);
+        await other.holding(['held'], {}, async (offer) => {
+            assert.equal(await one.take(['held'], { timeout: 50 }), null);
+            assert.deepEqual(await offer.accept(), ['held']);
+        });
+        const taking = other.take(['late']);
+        await one.out(['late']);
+        assert.deepEqual(await taking, ['late']);
+        // All of that went over one connection of each.
+        assert.equal(scene.encrypted, 2);
+    });
+
+    play('TLS with another certificate', async (scene) => {
+        const port = await encrypted(scene, (await scene.serve()).port);
+        for (const [more, code] of [[{}, 'DEPTH_ZERO_SELF_SIGNED_CERT'], [{ servername: 'other', ca: readFileSync(path.join(scene.folder, 'certificate')) }, 'ERR_TLS_CERT_ALTNAME_INVALID']]) {
+            const connect = (to) => tls.connect({ port: to, host: '127.0.0.1', servername: 'linda', ...more });
+            const begin = performance.now();
+            const { cause } = await fails(Space.connect([port], { client: 7, connect, patience: LONG }), NoConnection, { server: 0 });
+            assert.equal(cause.code, code);
+            assert.ok(performance.now() - begin < LONG / 2, 'it was not tried again');
+        }
+    });
+
     play('the README', async (scene) => {
         const left = await scene.serve('left'), right = await scene.serve('right');
         const page = readFileSync(path.join(HERE, 'README.md'), 'utf8');
         const blocks = page.split('```js\n').slice(1).map((block) => block.split('```')[0]);
-        assert.equal(blocks.length, 2);
+        assert.equal(blocks.length, 4);
+        const listener = net.createServer();
+        await new Promise((resolve) => { listener.listen(0, '127.0.0.1', resolve); });
+        const { port } = listener.address();
+        await new Promise((resolve) => { listener.close(resolve); });
         const file = pathToFileURL(path.join(HERE, 'linda_space.mjs')).href;
-        const run = async (block, more) => {
+        const start = (block, more) => {
             const program = path.join(scene.folder, `block${more}.mjs`);
             const text = block.replace("'./linda_space.mjs'", JSON.stringify(file)).replaceAll('2500', '500')
                 .replace('[7000, 7001]', `[${left.port}, ${right.port}]`).replace('[7000]', `[${left.port}]`)
-                .replace('client: 12', 'client: 7').replace('workOn(', 'console.log(');
+                .replace('client: 12', 'client: 7').replace('workOn(', 'console.log(').replace('8080', `${port}`);
             writeFileSync(program, text);
-            const child = spawn(process.execPath, [program], PIPED);
-            const ended = once(child, 'exit');
+            return spawn(process.execPath, [program], { ...PIPED, env: { ...process.env, LINDA_STATE: scene.folder } });
+        };
+        const run = async (block, more) => {
+            const child = start(block, more), ended = once(child, 'exit');
             let told = '';
             for await (const piece of child.stdout) told += piece;
             assert.deepEqual(await ended, [0, null]);
             return told;
         };
         assert.equal(await run(blocks[0], 1), "alarm null [] [] [ 9 ]\n{ any: [ 'JSON', null, 1.5 ] }\n");
-        assert.equal(await run(blocks[1], 2), "[ 'job', 2 ]\n");
+        assert.equal(await run(blocks[3], 2), "[ 'job', 4 ]\n");
+        assert.equal(await run(blocks[1], 3), "2\n0\n[ 'dead', -1, 2, 'RangeError: -1 has no root' ]\n");
+        const web = start(blocks[2], 4);
+        scene.closed.push(() => web.kill());
+        const other = await scene.space(left, 9);
+        const asking = (async () => {
+            for (;;) {
+                try {
+                    return await (await fetch(`http://127.0.0.1:${port}/x`)).text();
+                } catch {
+                    await sleep(20);                        // nobody listens yet
+                }
+            }
+        })();
+        const { id } = await other.choose([In('request', '/x')]);
+        await other.out(['answer', id, 5]);
+        assert.equal(await asking, '5\n');
     });
 
     play('true is not one', async (scene) => {
@@ -757,7 +838,12 @@ describe('over servers', { concurrency: 4 }, () => {
         assert.equal((await peer.ask(frames.out(2, ['x']))).kind, 'stored');
         assert.equal((await peer.ask(frames.out(3, ['y']))).kind, 'stored');
         peer.stream.destroy();
-        await fails(one.out(['b']), Refused, { server: 0, reason: 'Old', detail: 3, pending: null });
+        const text = 'server 0: number in use: another program uses client number 7 (its last number is 3, and 1 was expected)';
+        const told = { server: 0, last: 3, answered: 1, client: 7, code: 'NumberInUse', message: text, pending: null };
+        await fails(one.out(['b']), NumberInUse, told);
+        for (const call of [() => one.out(['b']), () => one.take(['b']), () => one.lastReply(), () => one.leave()]) {
+            await fails(call, NumberInUse, told);
+        }
         assert.equal(one.pending, null);
     });
 
@@ -822,7 +908,7 @@ describe('over servers', { concurrency: 4 }, () => {
             null, undefined, {}, ['a'], Symbol('a')];
         const names = ['out', 'take', 'read', 'look', 'hold'];
         const ports = [[], range(1, 18), [0], [65_536], ['7000'], [''], ['a/\0'], 'a/b', '7000', 7000];
-        const clients = [-1, 2 ** 32, true, '7', [], [1, -1], null, undefined];
+        const clients = [-1, 2 ** 32, true, '7', [], [1, -1], null];
         const calls = [
             ...[...wrong, INT, ANY].map((tag) => () => one.out([tag])),
             ...[...wrong, INT].map((item) => () => one.out(['a', item])),
@@ -1161,15 +1247,47 @@ describe('waits', { concurrency: 4 }, () => {
         await fake.end();
     });
 
-    play('one call at a time', async (scene) => {
+    play('one call after another', async (scene) => {
+        const server = await scene.serve();
+        const one = await scene.space(server), other = await scene.space(server, 8);
+        const order = [], note = (name) => () => order.push(name);
+        const stored = await Promise.all(range(0, 100).map((item) => one.out(['n', item])));
+        assert.deepEqual(stored.map(({ id }) => id), range(1, 101));
+        const taking = one.take(['a']).then(note('take'));
+        const later = [one.out(['b']).then(note('out')), one.look(['b']).then(note('look'))];
+        await fails(one.out(['c'], { signal: AbortSignal.timeout(50) }), Aborted, { pending: 'sync' });
+        assert.equal(await other.look(['b']), null);
+        await other.out(['a']);
+        await Promise.all([taking, ...later]);
+        assert.deepEqual(order, ['take', 'out', 'look']);
+        assert.equal(await other.look(['c']), null);
+        // A time begins when those before have ended.
+        const [none, soon] = [one.take(['a'], { timeout: 300 }), one.take(['n', 99], { timeout: 1 })];
+        assert.deepEqual([await none, await soon], [null, ['n', 99]]);
+    });
+
+    play('a close wakes all calls', async (scene) => {
         const one = await scene.space(await scene.serve());
-        const taking = one.take(['a']);
-        for (const call of [() => one.out(['a']), () => one.take(['b']), () => one.leave(), () => one.again()]) {
-            await fails(call, Busy);
-        }
-        const ending = fails(taking, Closed);
+        const held = await one.out(['h']).then(() => one.hold(['h']));
+        const calls = [one.take(['a']), one.out(['a']), one.hold(['a']), one.lastReply(), held.accept()];
+        const ending = Promise.all(calls.map((call) => fails(call, Closed, { code: 'Closed' })));
         one.close();
         await ending;
+        held.release();
+        assert.equal(held.isHeld, false);
+        assert.throws(() => held.renew(), Closed);
+    });
+
+    play('a failed call leaves those behind it as they are', async (scene) => {
+        let server = await scene.serve();
+        const one = await scene.space(server, 7, SHORT);
+        await server.kill();
+        const calls = [one.out(['a', 1]), one.out(['a', 2]), one.take(['a', INT])];
+        await fails(calls[0], NoConnection, { pending: 'out' });
+        for (const call of calls.slice(1)) await fails(call, Busy, { pending: 'out' });
+        server = await scene.serve('one', server.port);
+        const both = await Promise.all([patient(() => one.again()), one.out(['a', 3]).catch((fault) => fault.code)]);
+        assert.deepEqual([both[0].tuple, both[1].tuple ?? both[1]], [['a', 1], ['a', 3]]);
     });
 
     // ---- a signal
@@ -1379,11 +1497,11 @@ describe('waits', { concurrency: 4 }, () => {
     });
 
     play('a hold is renewed', async (scene) => {
-        const server = await scene.serve('one', 0, '--lease', '1');
+        const server = await scene.serve('one', 0, '--lease', '2');
         const one = await scene.space(server), other = await scene.space(server, 8);
         await one.out(['job', 1]);
         const held = await one.hold(['job', INT]);
-        for (let times = 0; times < 12; times += 1) {           // at most 3 seconds pass before a lease of 1 second has run out
+        for (let times = 0; times < 12; times += 1) {           // at most 4 seconds pass before a lease of 2 seconds has run out
             await sleep(400);
             held.renew();
         }
@@ -1501,6 +1619,1386 @@ describe('waits', { concurrency: 4 }, () => {
         const counts = await Promise.all(workers);
         assert.equal(counts.reduce((sum, count) => sum + count, 0), 150);
         assert.deepEqual([await boss.look(['job', INT]), await boss.look(['done', INT])], [null, null]);
+    });
+});
+
+// ---- what is held, and how its loss is said
+
+const RENEWAL = frames.cancel(2n ** 63n - 1n);
+const GAP = 5;
+/** Waits until an offer is known to be lost, or held no more. */
+const untilLost = async (held) => { while (held.isHeld) await sleep(5); };
+/** A hold that is lost, by a kill of its server, which is there again. */
+const lostHold = async (scene, space, server, tag = 'job') => {
+    await space.out([tag, 1]);
+    const held = await space.hold([tag, INT]);
+    const again = await scene.restart(server);
+    await untilLost(held);
+    return [held, again];
+};
+
+describe('holds', { concurrency: 4 }, () => {
+    play('isHeld', async (scene) => {
+        let server = await scene.serve();
+        const one = await scene.space(server);
+        for (const item of range(0, 4)) await one.out(['job', item]);
+        const [taken, released, lost] = [await one.hold(['job', 0]), await one.hold(['job', 1]), await one.hold(['job', 2])];
+        assert.deepEqual([taken, released, lost].map((held) => held.isHeld), [true, true, true]);
+        await taken.accept();
+        released.release();
+        assert.deepEqual([taken, released, lost].map((held) => held.isHeld), [false, false, true]);
+        server = await scene.restart(server);
+        await untilLost(lost);
+        const closed = await (await scene.space(server, 9)).hold(['job', 3]);
+        scene.spaces.at(-1).close();
+        assert.equal(closed.isHeld, false);
+        const left = await scene.space(server, 10);
+        const last = await left.hold(['job', 3]);
+        await left.leave();
+        assert.equal(last.isHeld, false);
+    });
+
+    const calls = {
+        out: (one) => one.out(['x']), take: (one) => one.take(['y']), read: (one) => one.read(['y']), look: (one) => one.look(['y']),
+        choose: (one) => one.choose([In('y')]), sync: (one) => one.sync(In('y')), hold: (one) => one.hold(['y']),
+        lastReply: (one) => one.lastReply(), leave: (one) => one.leave(), outMany: (one) => one.outMany([['x']]),
+        takeMany: (one) => one.takeMany(['y'], { count: 1 }), purge: (one) => one.purge(['y']),
+    };
+    for (const [name, call] of Object.entries(calls)) {
+        play(`the loss of two is said once, by ${name}`, async (scene) => {
+            const server = await scene.serve(), one = await scene.space(server), other = await scene.space(server, 8);
+            await other.out(['y']);
+            await one.out(['job', 2]);
+            const second = await one.hold(['job', 2]);
+            const [first] = await lostHold(scene, one, server);
+            const fault = await fails(call(one), Gone, { server: 0, code: 'Gone', pending: null, name: 'Gone' });
+            assert.deepEqual([fault.offers, fault.offer], [[second, first], second]);
+            assert.match(fault.message, /^server 0: the tuple \["job", 2\] is not held any more, and was not taken \(nor are 1 more\)$/);
+            // Nothing was sent: the same call does all now, and did nothing before.
+            assert.equal(await other.look(['x']), null);
+            assert.deepEqual(await other.look(['y']), ['y']);
+            await call(one);
+            assert.deepEqual((await fails(first.accept(), name === 'leave' ? Left : Gone)).offers ?? [first], [first]);
+        });
+    }
+
+    play('a call that waits says a loss at once', async (scene) => {
+        const server = await scene.serve(), one = await scene.space(server);
+        await one.out(['job', 1]);
+        const held = await one.hold(['job', INT]);
+        const failing = fails(one.choose([In('y').nack(3)]), Gone, { pending: null });
+        await sleep(50);
+        const again = await scene.restart(server);
+        assert.deepEqual((await failing).offers, [held]);
+        assert.deepEqual(one.abandon(), [3]);
+        // The call is over: what comes now is for others.
+        await one.out(['y']);
+        assert.deepEqual(await (await scene.space(again, 8)).take(['y'], { timeout: LONG }), ['y']);
+        assert.deepEqual(await one.take(['job', INT]), ['job', 1]);
+    });
+
+    play('an out under way goes on, and the call after it says the loss', async (scene) => {
+        const fake = await scene.fake(async (peer) => {
+            await greets(peer, 0);
+            await peer.expect(frames.ask(1, true, ['a']));
+            peer.send(offer(1, 3, ['a']));
+            await peer.expect(frames.out(1, ['b']));
+        }, async (peer) => {
+            await greets(peer, 1);
+            await peer.expect(frames.out(1, ['b']));
+            peer.send(stored(1, 4));
+            await peer.expect(frames.ask(2, true, ['c']));
+            peer.send(offer(2, 5, ['c']));
+            await peer.expect(frames.accept(2, 2, 5));
+            peer.send(taken(2, 5, ['c']));
+            await peer.end();
+        });
+        const one = await scene.space(fake), held = await one.hold(['a']);
+        assert.equal((await one.out(['b'])).id, 4);
+        assert.deepEqual((await fails(one.take(['c']), Gone)).offers, [held]);
+        assert.deepEqual(await one.take(['c']), ['c']);
+        one.close();
+        await fake.end();
+    });
+
+    play('an accept says only its own loss', async (scene) => {
+        const left = await scene.serve('left'), right = await scene.serve('right');
+        const one = await scene.space([left, right], 0);
+        await one.outMany([['a'], ['b'], ['c'], ['d']]);            // at 0, 1, 0, 1
+        const [first, lost, other, third] = [await one.hold(['a']), await one.hold(['b']), await one.hold(['d']), await one.hold(['c'])];
+        await scene.restart(right);
+        await untilLost(lost);
+        assert.deepEqual(await first.accept(), ['a']);
+        assert.deepEqual((await fails(other.accept(), Gone, { server: 1, pending: null })).offers, [other]);
+        assert.deepEqual((await fails(one.look(['x']), Gone)).offers, [lost]);
+        assert.deepEqual([await one.look(['x']), await third.accept()], [null, ['c']]);
+    });
+
+    play('a program that did nothing else for a while is not sent for', async (scene) => {
+        const server = await scene.serve(), one = await scene.space(server);
+        await one.out(['job', 1]);
+        const held = await one.hold(['job', INT]);
+        server.child.kill('SIGKILL');
+        const end = performance.now() + 200;
+        while (performance.now() < end);
+        assert.equal(held.isHeld, true);                // (nothing was heard)
+        assert.deepEqual((await fails(one.out(['x']), Gone)).offers, [held]);
+        await scene.serve('one', server.port);
+        assert.deepEqual([await one.look(['x']), await one.take(['job', INT])], [null, ['job', 1]]);
+    });
+
+    play('renew and release say a loss', async (scene) => {
+        const server = await scene.serve(), one = await scene.space(server);
+        const [held, again] = await lostHold(scene, one, server);
+        assert.throws(() => held.renew(), (fault) => fault instanceof Gone && fault.offer === held);
+        assert.equal(await one.look(['x']), null);
+        const [other] = await lostHold(scene, one, again, 'more');
+        other.release();
+        other.release();
+        assert.equal(await one.look(['x']), null);
+    });
+
+    play('what is held is renewed while a call waits', async (scene) => {
+        const server = await scene.serve('one', 0, '--lease', '2');
+        const one = await scene.space(server);
+        await one.outMany([['job', 1], ['job', 2]]);
+        const held = await one.hold(['job', 1]);
+        assert.equal(await one.take(['x'], { timeout: 5_500 }), null);
+        assert.deepEqual([held.isHeld, await held.accept()], [true, ['job', 1]]);
+        // Not beside calls: the lease is over after 4 seconds at most.
+        const other = await one.hold(['job', 2]);
+        await sleep(5_500);
+        assert.equal(other.isHeld, false);
+        await fails(one.out(['x']), Gone);
+    });
+
+    play('keep renews beside calls', async (scene) => {
+        const server = await scene.serve('one', 0, '--lease', '2');
+        const one = await scene.space(server);
+        await one.out(['job', 1]);
+        const held = await one.hold(['job', 1], { keep: 300 });
+        await sleep(5_500);
+        assert.deepEqual([held.isHeld, await held.accept()], [true, ['job', 1]]);
+        for (const keep of [0, -1, '5', NaN]) await fails(one.hold(['job', 1], { keep }), OutOfRange);
+    });
+
+    play('keep ends with the hold', async (scene) => {
+        const fake = await scene.fake(async (peer) => {
+            await greets(peer, 0);
+            await peer.expect(frames.ask(1, true, ['a']));
+            peer.send(offer(1, 3, ['a']));
+            await peer.expect(RENEWAL, RENEWAL, RENEWAL);
+            await peer.until(() => peer.came.includes(frames.cancel(1)));
+            const rest = peer.came.subarray(peer.came.indexOf(frames.cancel(1)) + frames.cancel(1).length);
+            peer.came = Buffer.from(rest);
+            await peer.end();
+        });
+        const one = await scene.space(fake), held = await one.hold(['a'], { keep: 20 });
+        await sleep(300);
+        held.release();
+        await sleep(200);
+        one.close();
+        await fake.end();
+    });
+
+    play('holding', async (scene) => {
+        let server = await scene.serve();
+        const one = await scene.space(server), other = await scene.space(server, 8);
+        await one.out(['job', 1]);
+        const inside = async (held) => [held.tuple, await other.take(['job', INT], { timeout: 0 }), (await one.out(['x'])).id];
+        assert.deepEqual(await one.holding(['job', INT], {}, inside), [['job', 1], null, 2]);
+        assert.deepEqual(await other.take(['job', INT], { timeout: LONG }), ['job', 1]);
+        assert.equal(await one.holding(['job', INT], { timeout: 20 }, (held) => held), null);
+        await one.out(['job', 2]);
+        await one.holding(['job', INT], {}, (held) => held.accept());
+        assert.equal(await one.look(['job', INT]), null);
+        await one.out(['job', 3]);
+        const own = new Error('own');
+        await assert.rejects(one.holding(['job', INT], {}, async () => { throw own; }), own);
+        const kill = async () => { server = await scene.restart(server); };
+        await fails(one.holding(['job', 3], {}, async (held) => { await kill(); await untilLost(held); }), Gone);
+        assert.equal(await one.look(['y']), null);
+        // A program that works without a pause hears of the loss at the end of the block.
+        await fails(one.holding(['job', 3], {}, () => {
+            server.child.kill('SIGKILL');
+            const end = performance.now() + 200;
+            while (performance.now() < end);
+        }), Gone);
+        server = await scene.serve('one', server.port);
+        const lost = async (held) => { await kill(); await untilLost(held); throw own; };
+        await assert.rejects(one.holding(['job', 3], {}, lost), own);
+        assert.equal(await one.look(['y']), null);
+        const said = async (held) => { await kill(); await untilLost(held); await fails(one.look(['y']), Gone); return 5; };
+        assert.equal(await one.holding(['job', 3], {}, said), 5);
+        await fails(one.holding(['job', 3], {}), OutOfRange);
+    });
+
+    play('ends with a block', async (scene) => {
+        const [dispose, asyncDispose] = [Symbol.dispose, Symbol.asyncDispose];
+        if (dispose === undefined || asyncDispose === undefined) return;
+        const server = await scene.serve();
+        const one = await scene.space(server), other = await scene.space(server, 8);
+        await one.outMany([['job', 1], ['job', 2], ['job', 3]]);
+        (await one.hold(['job', 1]))[dispose]();
+        await (await one.hold(['job', 2]))[asyncDispose]();
+        assert.deepEqual(await other.takeMany(['job', INT], { count: 2 }), [['job', 1], ['job', 2]]);
+        const held = await one.hold(['job', 3]);
+        const again = await scene.restart(server);
+        await untilLost(held);
+        assert.throws(() => held[dispose](), Gone);
+        held[dispose]();
+        const later = await one.hold(['job', 3]);
+        await scene.restart(again);
+        await untilLost(later);
+        await fails(() => later[asyncDispose](), Gone);
+        assert.equal(await one.look(['x']), null);
+        await one[asyncDispose]();
+        await fails(one.out(['x']), Closed);
+    });
+});
+
+// ---- another program under the same number
+
+describe('a number in use', { concurrency: 4 }, () => {
+    const talk = (asked, ...replies) => async (peer) => {
+        await greets(peer, 4);
+        await peer.expect(...asked);
+        peer.send(...replies);
+        await peer.end();
+    };
+    const ask = frames.ask(1, true, ['a', INT]), given = offer(1, 3, ['a', 8]);
+    const cases = [
+        ['an out, taken', [frames.out(5, ['b'])], [taken(5, 3, ['b'])], (one) => one.out(['b'])],
+        ['an out, gone', [frames.out(5, ['b'])], [gone(5)], (one) => one.out(['b'])],
+        ['an out, left', [frames.out(5, ['b'])], [framed(0x18, number(5))], (one) => one.out(['b'])],
+        ['outs, taken', [frames.out(5, ['b']), frames.out(6, ['c'])], [stored(5, 1), taken(6, 3, ['c'])], (one) => one.outMany([['b'], ['c']])],
+        ['a leave, stored', [frames.leave(5)], [stored(5, 1)], (one) => one.leave()],
+        ['a leave, taken', [frames.leave(5)], [taken(5, 1, ['a'])], (one) => one.leave()],
+        ['a leave, gone', [frames.leave(5)], [gone(5)], (one) => one.leave()],
+    ];
+    for (const [name, asked, replies, call] of cases) {
+        play(name, async (scene) => {
+            const fake = await scene.fake(talk(asked, ...replies));
+            const one = await scene.space(fake);
+            const number = name.startsWith('outs') ? 6 : 5;
+            const told = { server: 0, last: number, answered: number - 1, client: 7, code: 'NumberInUse', pending: null };
+            await fails(call(one), NumberInUse, told);
+            for (const later of [() => one.out(['b']), () => one.look(['b']), () => one.purge(['b'])]) await fails(later, NumberInUse, told);
+            await fails(one.again(), Idle);
+            one.close();
+            await fails(one.out(['b']), Closed);
+            await fake.end();
+        });
+    }
+    const replies = {
+        stored: stored(5, 3), left: framed(0x18, number(5)), 'another id': taken(5, 4, ['a', 8]), 'another tuple': taken(5, 3, ['a', 'x']),
+    };
+    const takes = {
+        take: (one) => one.take(['a', INT]), accept: async (one) => (await one.hold(['a', INT])).accept(),
+        takeMany: (one) => one.takeMany(['a', INT], { count: 1 }),
+    };
+    for (const [name, call] of Object.entries(takes)) {
+        for (const [how, reply] of Object.entries(replies)) {
+            play(`${name}, ${how}`, async (scene) => {
+                const fake = await scene.fake(async (peer) => {
+                    await greets(peer, 4);
+                    await peer.expect(ask, ...name === 'takeMany' ? [PROBE] : []);
+                    peer.send(given);
+                    await peer.expect(frames.accept(5, 1, 3));
+                    peer.send(reply);
+                    await peer.end();
+                });
+                const one = await scene.space(fake);
+                await fails(call(one), NumberInUse, { last: 5, answered: 4, pending: null });
+                one.close();
+                await fake.end();
+            });
+        }
+    }
+
+    for (const [last, unanswered] of [[5, false], [6, true], [9, true]]) {
+        play(`a Welcome with ${last}`, async (scene) => {
+            const fake = await scene.fake(async (peer) => {
+                await greets(peer, 4);
+                if (unanswered) await peer.expect(frames.out(5, ['b']));
+                else await peer.expect(frames.ask(1, true, ['a']));
+            }, async (peer) => {
+                await greets(peer, last);
+                await peer.end();
+            });
+            const one = await scene.space(fake);
+            await fails(unanswered ? one.out(['b']) : one.take(['a']), NumberInUse, { last, answered: 4, pending: null });
+            one.close();
+            await fake.end();
+        });
+    }
+
+    play('a Welcome within what is under way is none', async (scene) => {
+        const fake = await scene.fake(async (peer) => {
+            await greets(peer, 4);
+            await peer.expect(frames.out(5, ['b']), frames.out(6, ['c']));
+        }, async (peer) => {
+            await greets(peer, 7);
+            await peer.end();
+        });
+        const one = await scene.space(fake);
+        await fails(one.outMany([['b'], ['c']]), NumberInUse, { last: 7, answered: 4, pending: null });
+        one.close();
+        await fake.end();
+    });
+});
+
+// ---- several at once
+
+describe('several at once', { concurrency: 4 }, () => {
+    play('outs and takes over two servers', async (scene) => {
+        const servers = [await scene.serve('left'), await scene.serve('right')];
+        const one = await scene.space(servers, 7), other = await scene.space(servers, 8);
+        assert.deepEqual([await one.outMany([]), await one.takeMany(['n', INT], { count: 5 }), await one.purge(['n', INT])], [[], [], 0]);
+        const stored = await one.outMany(range(0, 301).map((item) => ['n', item]));
+        assert.deepEqual(stored, range(0, 301).map((item) => ({ server: (7 + item) % 2, id: Math.floor(item / 2) + 1 })));
+        assert.deepEqual(await one.out(['m']), new Stored(0, 151, ['m']));      // the 302nd goes to the server of its place
+        assert.deepEqual(await other.takeMany(['n', INT], { count: 0 }), []);
+        const first = await other.takeMany(['n', INT], { count: 200 });
+        // Server 0 first, by rising id.
+        assert.deepEqual(first, [...range(0, 150).map((place) => ['n', 2 * place + 1]), ...range(0, 50).map((place) => ['n', 2 * place])]);
+        assert.deepEqual((await one.takeMany(['n', INT], { count: 1_000 })).length, 101);
+        assert.equal(await one.look(['n', INT]), null);
+        await one.outMany(range(0, 130).map((item) => ['n', item]));
+        assert.deepEqual([await one.purge(['n', 5]), await one.purge(['n', INT]), await one.purge(['n', INT])], [1, 129, 0]);
+        assert.deepEqual(await one.take(['m']), ['m']);
+        for (const count of [-1, 1.5, '1', undefined, Infinity]) await fails(one.takeMany(['n'], { count }), OutOfRange);
+        await fails(one.takeMany(['n']), OutOfRange);
+        for (const wrong of [5, [5], [[]], [['a', 1.5]], ['a']]) await fails(one.outMany(wrong), OutOfRange);
+    });
+
+    play('what others hold is not taken', async (scene) => {
+        const server = await scene.serve(), one = await scene.space(server), other = await scene.space(server, 8);
+        await one.outMany(range(0, 100).map((item) => ['n', item]));
+        const held = [];
+        for (const item of range(0, 60)) held.push(await one.hold(['n', item]));
+        assert.equal(await other.purge(['n', INT]), 40);
+        // What this client holds counts to the 64 that are open.
+        await other.outMany(range(100, 120).map((item) => ['n', item]));
+        assert.equal((await one.takeMany(['n', INT], { count: 1_000 })).length, 20);
+        for (const offer of held) offer.release();
+        assert.equal(await one.purge(['n', INT]), 60);
+    });
+
+    play('64 outs are under way', async (scene) => {
+        const outs = range(1, 71).map((place) => frames.out(place, ['n', place]));
+        const fake = await scene.fake(async (peer) => {
+            await greets(peer, 0);
+            await peer.expect(...outs.slice(0, 64));
+            await sleep(50);
+            assert.equal(peer.came.length, 0);
+            peer.send(stored(1, 1), stored(2, 2));
+            await peer.expect(...outs.slice(64, 66));
+            await sleep(50);
+            assert.equal(peer.came.length, 0);
+            peer.send(...range(3, 71).map((place) => stored(place, place)));
+            await peer.expect(...outs.slice(66));
+            await peer.end();
+        });
+        const one = await scene.space(fake);
+        const ends = await one.outMany(range(1, 71).map((place) => ['n', place]));
+        assert.deepEqual(ends.map(({ id }) => id), range(1, 71));
+        one.close();
+        await fake.end();
+    });
+
+    // A loss behind so many that were answered, and so many that were done.
+    for (const answered of range(0, 4)) {
+        for (const done of range(answered, 5)) {
+            play(`outs of which ${done} were done and ${answered} answered`, async (scene) => {
+                const count = 4, place = (first) => range(first, count + 1);
+                const again = done === answered ? answered + 1 : done;
+                const fake = await scene.fake(async (peer) => {
+                    await greets(peer, 10);
+                    await peer.expect(...place(1).map((own) => frames.out(10 + own, ['n', own])));
+                    peer.send(...range(1, answered + 1).map((own) => stored(10 + own, 100 + own)));
+                    await sleep(20);
+                }, async (peer) => {
+                    await greets(peer, 10 + done);
+                    await peer.expect(...place(again).map((own) => frames.out(10 + own, ['n', own])));
+                    peer.send(...place(again).map((own) => stored(10 + own, 100 + own)));
+                    await peer.expect(frames.out(15, ['m']));
+                    peer.send(stored(15, 999));
+                    await peer.end();
+                });
+                const one = await scene.space(fake);
+                const ends = await one.outMany(place(1).map((own) => ['n', own]));
+                const wanted = place(1).map((own) => ({ server: 0, id: own > answered && own < again ? null : 100 + own }));
+                assert.deepEqual(ends, wanted);
+                assert.equal((await one.out(['m'])).id, 999);
+                one.close();
+                await fake.end();
+            });
+
+            play(`takes of which ${done} were done and ${answered} answered`, async (scene) => {
+                const place = (first, last = 4) => range(first, last + 1);
+                const fake = await scene.fake(async (peer) => {
+                    await greets(peer, 10);
+                    await peer.expect(...place(1, 6).map((ticket) => frames.ask(ticket, true, ['n', INT])), PROBE);
+                    peer.send(...place(1).map((own) => offer(own, 100 + own, ['n', own])), refusal(OLD, 10));
+                    await peer.expect(...place(1).map((own) => frames.accept(10 + own, own, 100 + own)), frames.cancel(5), frames.cancel(6));
+                    peer.send(...place(1, answered).map((own) => taken(10 + own, 100 + own, ['n', own])));
+                    await sleep(20);
+                }, async (peer) => {
+                    await greets(peer, 10 + done);
+                    // What was not taken is free again, and so it is asked for once more.
+                    const again = done < 4 ? place(7, 12 - done) : [];
+                    if (again.length > 0) {
+                        await peer.expect(...again.map((ticket) => frames.ask(ticket, true, ['n', INT])), PROBE);
+                        peer.send(refusal(OLD, 10 + done));
+                        await peer.expect(...again.map((ticket) => frames.cancel(ticket)));
+                    }
+                    await peer.expect(frames.out(11 + done, ['m']));
+                    peer.send(stored(11 + done, 999));
+                    await peer.end();
+                });
+                const one = await scene.space(fake);
+                assert.deepEqual(await one.takeMany(['n', INT], { count: 6 }), place(1, done).map((own) => ['n', own]));
+                assert.equal((await one.out(['m'])).id, 999);
+                one.close();
+                await fake.end();
+            });
+        }
+    }
+
+    play('takes that are lost while they are asked for', async (scene) => {
+        const fake = await scene.fake(async (peer) => {
+            await greets(peer, 0);
+            await peer.expect(...range(1, 4).map((ticket) => frames.ask(ticket, true, ['n', INT])), PROBE);
+            peer.send(offer(1, 101, ['n', 1]));
+            await peer.expect(frames.accept(1, 1, 101));
+        }, async (peer) => {
+            await greets(peer, 1);
+            await peer.expect(frames.ask(4, true, ['n', INT]), frames.ask(5, true, ['n', INT]), PROBE);
+            peer.send(offer(4, 102, ['n', 2]), offer(5, 103, ['n', 3]), refusal(OLD, 1));
+            await peer.expect(frames.accept(2, 4, 102), frames.accept(3, 5, 103));
+            peer.send(taken(2, 102, ['n', 2]), gone(3));
+            // One was gone: it asks once more.
+            await peer.expect(frames.ask(6, true, ['n', INT]), PROBE);
+            peer.send(refusal(OLD, 3));
+            await peer.expect(frames.cancel(6));
+            await peer.end();
+        });
+        const one = await scene.space(fake);
+        assert.deepEqual(await one.takeMany(['n', INT], { count: 3 }), [['n', 1], ['n', 2]]);
+        one.close();
+        await fake.end();
+    });
+
+    play('a refused out ends the rest', async (scene) => {
+        const outs = range(1, 6).map((own) => frames.out(own, ['n', own]));
+        const fake = await scene.fake(async (peer) => {
+            await greets(peer, 0);
+            await peer.expect(...outs);
+            peer.send(stored(1, 101), refusal(FULL, 0), refusal(GAP, 1), refusal(GAP, 1), refusal(GAP, 1));
+            await peer.expect(frames.out(2, ['m']));
+            peer.send(stored(2, 102));
+            await peer.end();
+        });
+        const one = await scene.space(fake);
+        const fault = await fails(one.outMany(range(1, 6).map((own) => ['n', own])), Refused, { reason: 'Full', code: FULL, pending: null });
+        assert.deepEqual(fault.stored, [{ server: 0, id: 101 }, null, null, null, null]);
+        assert.equal((await one.out(['m'])).id, 102);
+        one.close();
+        await fake.end();
+        // The connection is lost before the rest is refused; and at another server what is under way goes on.
+        const left = await scene.fake(async (peer) => {
+            await greets(peer, 0);
+            await peer.expect(frames.out(1, ['n', 2]), frames.out(2, ['n', 4]));
+        }, async (peer) => {
+            await greets(peer, 1);
+            await peer.expect(frames.out(1, ['n', 2]), frames.out(2, ['n', 4]));
+            peer.send(stored(1, 201), stored(2, 202));
+            await peer.end();
+        });
+        const right = await scene.fake(async (peer) => {
+            await greets(peer, 0);
+            await peer.expect(frames.out(1, ['n', 1]), frames.out(2, ['n', 3]), frames.out(3, ['n', 5]));
+            peer.send(stored(1, 101), refusal(FULL, 0));
+            await sleep(20);
+        }, async (peer) => {
+            await greets(peer, 1);
+            await peer.end();
+        });
+        const two = await scene.space([left, right]);
+        const other = await fails(two.outMany(range(1, 6).map((own) => ['n', own])), Refused, { server: 1, reason: 'Full', pending: null });
+        const at = (server, id) => ({ server, id });
+        assert.deepEqual(other.stored, [at(1, 101), at(0, 201), null, at(0, 202), null]);
+        two.close();
+        await Promise.all([left.end(), right.end()]);
+    });
+
+    play('a refused take ends the rest', async (scene) => {
+        const fake = await scene.fake(async (peer) => {
+            await greets(peer, 0);
+            await peer.expect(...range(1, 4).map((ticket) => frames.ask(ticket, true, ['n', INT])), PROBE);
+            peer.send(...range(1, 4).map((own) => offer(own, 100 + own, ['n', own])), refusal(OLD, 0));
+            await peer.expect(...range(1, 4).map((own) => frames.accept(own, own, 100 + own)));
+            peer.send(taken(1, 101, ['n', 1]), refusal(FULL, 0), refusal(GAP, 1));
+            await peer.expect(frames.cancel(2), frames.cancel(3), frames.out(2, ['m']));
+            peer.send(stored(2, 102));
+            await peer.end();
+        });
+        const one = await scene.space(fake);
+        await fails(one.takeMany(['n', INT], { count: 3 }), Refused, { reason: 'Full', taken: [['n', 1]], pending: null });
+        assert.equal((await one.out(['m'])).id, 102);
+        one.close();
+        await fake.end();
+    });
+
+    play('outs and takes go on after an error', async (scene) => {
+        const server = await scene.serve();
+        const one = await scene.space(server, 7, SHORT);
+        await server.stop();
+        const tuples = range(0, 100).map((item) => ['n', item]);
+        await failsAfter(200, one.outMany(tuples, { timeout: 200 }), TimedOut, { servers: [0], pending: 'outMany' });
+        await fails(one.out(['b']), Busy, { pending: 'outMany' });
+        server.goOn();
+        assert.deepEqual((await patient(() => one.again())).map(({ id }) => id), range(1, 101));
+        await server.stop();
+        const fault = await failsAfter(200, one.takeMany(['n', INT], { count: 5, timeout: 200 }), TimedOut, { servers: [0] });
+        assert.deepEqual([fault.pending, fault.taken], [null, []]);
+        server.goOn();
+        assert.deepEqual(await patient(() => one.takeMany(['n', INT], { count: 2 })), [['n', 0], ['n', 1]]);
+        await server.kill();
+        const [outs, takes] = [['out', 1], ['out', 2]];
+        await fails(one.outMany([outs, takes]), NoConnection, { pending: 'outMany' });
+        await scene.serve('one', server.port);
+        assert.deepEqual((await patient(() => one.again())).map(({ id }) => id), [101, 102]);
+        assert.equal(await patient(() => one.purge(['n', INT])), 98);
+    });
+
+    play('takes whose answers are late', async (scene) => {
+        const fake = await scene.fake(async (peer) => {
+            await greets(peer, 0);
+            await peer.expect(...range(1, 4).map((ticket) => frames.ask(ticket, true, ['n', INT])), PROBE);
+            peer.send(offer(1, 101, ['n', 1]), offer(2, 102, ['n', 2]));
+            await peer.expect(frames.accept(1, 1, 101), frames.accept(2, 2, 102));
+            peer.send(taken(1, 101, ['n', 1]));
+            await peer.expect(frames.cancel(3));
+        }, async (peer) => {
+            await greets(peer, 2);
+            await peer.expect(frames.ask(4, true, ['n', INT]), PROBE);
+            peer.send(refusal(OLD, 2));
+            await peer.expect(frames.cancel(4));
+            await peer.end();
+        });
+        const one = await scene.space(fake);
+        const signal = AbortSignal.timeout(150);
+        await fails(one.takeMany(['n', INT], { count: 3, signal }), Aborted, { pending: 'takeMany', taken: [['n', 1]] });
+        await fails(one.out(['b']), Busy, { pending: 'takeMany' });
+        assert.deepEqual(await one.again(), [['n', 1], ['n', 2]]);
+        assert.deepEqual([one.pending, await one.takeMany(['n', INT], { count: 1 })], [null, []]);
+        one.close();
+        await fake.end();
+    });
+
+    play('kills under outs and takes', async (scene) => {
+        let server = await scene.serve();
+        const putter = await scene.space(server), taker = await scene.space(server, 8, { patience: LONG });
+        let isOver = false;
+        const found = [], stored = [];
+        const put = async () => {
+            for (const part of range(0, 10)) stored.push(...await putter.outMany(range(0, 300).map((item) => ['n', 300 * part + item])));
+            isOver = true;
+        };
+        const take = async () => {
+            for (let isLast = false; !isLast;) {
+                isLast = isOver;
+                for (const [, item] of await taker.takeMany(['n', INT], { count: 100 })) { found.push(item); isLast = false; }
+            }
+        };
+        const both = [put(), take()];
+        for (let times = 0; times < 4; times += 1) {
+            await sleep(60);
+            server = await scene.restart(server);
+        }
+        await Promise.all(both);
+        assert.deepEqual(found.sort((a, b) => a - b), range(0, 3_000));
+        const ids = stored.map(({ id }) => id).filter((id) => id !== null);
+        assert.deepEqual([stored.length, new Set(ids).size], [3_000, ids.length]);
+        assert.ok(ids.every((id) => id >= 1 && id <= 3_000) && ids.length > 2_000);
+    });
+
+    play('connections that are cut at any byte', async (scene) => {
+        const server = await scene.serve();
+        let seed = 20261128, cuts = 0, isCut = true;
+        const draw = (most) => {
+            seed = (seed * 1_103_515_245 + 12_345) % 2_147_483_648;
+            return Math.floor(seed / 2_147_483_648 * most);
+        };
+        /** A way to the server on which each connection is cut after some bytes of one side. */
+        const way = net.createServer((stream) => {
+            const onward = net.connect({ port: server.port, host: '127.0.0.1', noDelay: true });
+            const end = () => { stream.destroy(); onward.destroy(); };
+            for (const [from, to] of [[stream, onward], [onward, stream]]) {
+                let left = 200 + draw(6_000);
+                from.on('data', (data) => {
+                    const part = isCut ? data.subarray(0, left) : data;
+                    to.write(part);
+                    left -= part.length;
+                    if (!isCut || left > 0) return;
+                    cuts += 1;
+                    from.destroy();
+                    setTimeout(end, draw(5));
+                });
+                from.on('error', end).on('close', end);
+            }
+        });
+        await new Promise((resolve) => { way.listen(0, '127.0.0.1', resolve); });
+        scene.closed.push(() => way.close());
+        const { port } = way.address(), more = { patience: LONG };
+        const one = await scene.space({ port }, 7, more), other = await scene.space({ port }, 8, more);
+        const puts = [], found = [];
+        for (const part of range(0, 4)) puts.push(...await one.outMany(range(0, 500).map((item) => ['n', 500 * part + item])));
+        const ids = puts.map(({ id }) => id).filter((id) => id !== null);
+        assert.deepEqual([puts.length, new Set(ids).size], [2_000, ids.length]);
+        while (found.length < 1_500) found.push(...await other.takeMany(['n', INT], { count: Math.min(150, 1_500 - found.length) }));
+        assert.equal(await other.purge(['n', INT]), 500);
+        assert.deepEqual(found.map(([, item]) => item).sort((a, b) => a - b), range(0, 1_500));
+        const pool = new Pool([port], { client: range(100, 104), size: 4, ...more });
+        scene.spaces.push(pool);
+        await Promise.all(range(0, 100).map((item) => pool.out(['p', item])));
+        const taken = await Promise.all(range(0, 100).map(() => pool.take(['p', INT])));
+        assert.deepEqual(taken.map(([, item]) => item).sort((a, b) => a - b), range(0, 100));
+        isCut = false;
+        assert.ok(cuts > 50, `${cuts} cuts`);
+    });
+
+    play('one after another, as a loop', async (scene) => {
+        const one = await scene.space(await scene.serve());
+        await one.outMany([['n', 1], ['n', 2], ['n', 3], ['n', 4]]);
+        const found = [];
+        for await (const [, item] of one.takes(['n', INT], { timeout: 20 })) {
+            found.push(item);
+            if (item === 2) break;
+        }
+        assert.deepEqual(found, [1, 2]);
+        for await (const [, item] of one.takes(['n', INT], { timeout: 20 })) found.push(item);
+        assert.deepEqual(found, [1, 2, 3, 4]);
+        const loop = async () => { for await (const tuple of one.takes(['n', INT], { signal: AbortSignal.timeout(50) })) assert.fail(tuple); };
+        await fails(loop, Aborted);
+    });
+});
+
+// ---- the loop of a worker
+
+/** A program of this library, which prints what it says; ends with the test. */
+class Program {
+    constructor(scene, text, words = [], more = {}) {
+        const file = path.join(scene.folder, `program${scene.servers.length}-${Math.random()}.mjs`);
+        const library = pathToFileURL(path.join(HERE, 'linda_space.mjs')).href;
+        writeFileSync(file, text.replace("'linda-space'", JSON.stringify(library)));
+        this.file = file;
+        this.said = '';
+        this.child = spawn(process.execPath, [file, ...words.map(String)], { ...PIPED, ...more });
+        this.ended = once(this.child, 'exit');
+        this.child.stdout.on('data', (piece) => { this.said += piece; });
+        scene.closed.push(() => this.child.kill('SIGKILL'));
+    }
+
+    async until(text) {
+        const end = performance.now() + LONG;
+        while (!this.said.includes(text)) {
+            assert.ok(performance.now() < end && this.child.exitCode === null, `${this.said} and not ${text}`);
+            await sleep(5);
+        }
+    }
+}
+
+describe('work', { concurrency: 4 }, () => {
+    play('puts results', async (scene) => {
+        const server = await scene.serve(), one = await scene.space(server), boss = await scene.space(server, 8);
+        await boss.outMany([['job', 0], ['job', 1], ['job', 2], ['job', 3], ['job', 4]]);
+        const results = [undefined, null, ['done', 2, true], [['done', 3], ['more', 'x']], []];
+        const jobs = [];
+        const count = await one.work(['job', INT], async (job) => { jobs.push(job); return results[job[1]]; }, { timeout: 100 });
+        assert.deepEqual([count, jobs], [5, range(0, 5).map((item) => ['job', item])]);
+        assert.deepEqual(await boss.take(['done', 2, BOOL]), ['done', 2, true]);
+        assert.deepEqual(await boss.takeMany(['done', INT], { count: 9 }), [['done', 3]]);
+        assert.deepEqual(await boss.take(['more', TEXT]), ['more', 'x']);
+        assert.equal(await boss.look(['job', INT]), null);
+        // The server does not keep the last job as taken.
+        assert.equal((await one.lastReply()).kind, 'gone');
+        assert.equal(await one.work(In('job', INT), () => assert.fail(), { timeout: 0 }), 0);
+    });
+
+    play('gives the first of several first', async (scene) => {
+        const one = await scene.space(await scene.serve());
+        await one.outMany(range(0, 6).map((item) => [item % 2 === 0 ? 'low' : 'high', item]));
+        const jobs = [];
+        assert.equal(await one.work([In('high', INT), In('low', INT)], (job) => { jobs.push(job[1]); }, { timeout: 0 }), 6);
+        assert.deepEqual(jobs, [1, 3, 5, 0, 2, 4]);
+    });
+
+    play('has arguments', async (scene) => {
+        const one = await scene.space(await scene.serve());
+        const work = () => {}, wide = [...range(0, 32), INT];
+        const wrong = [
+            [['job', INT], null], [INT, work], [[], work], [['job', INT], work, { tris: 1 }], [['job', INT], work, { tries: 0 }],
+            [['job', TEXT], work, { tries: 1 }], [['job'], work, { tries: 1 }], [['job', ANY], work, { tries: 1 }], [wide, work, { tries: 1 }],
+            [['job', INT], work, { delay: -1 }], [['job', INT], work, { stop: In('a') }], [['job', INT], work, { stop: ['a'] }],
+            [['job', INT], work, { signal: 5 }], [['job', INT], work, { keep: 0 }], [['job', INT], work, { timeout: '5' }],
+            [['job', INT], work, { onerror: 5 }], [['job', INT], work, { dead: 1.5 }], [Rd('job', INT), work], [['job', INT], work, 5],
+            [[In('job', INT), Rd('job', INT)], work], [[In('job', INT), 'x'], work],
+        ];
+        for (const [template, call, options] of wrong) await fails(one.work(template, call, options), OutOfRange);
+        assert.equal(await one.work([...range(0, 31), INT], work, { tries: 1, timeout: 0 }), 0);
+    });
+
+    play('a result that is none ends it', async (scene) => {
+        const server = await scene.serve(), one = await scene.space(server), boss = await scene.space(server, 8);
+        for (const tries of [undefined, 3]) {
+            for (const result of [5, 'done', { a: 1 }, true, [['done'], 5], new Map()]) {
+                await boss.out(['job', 0]);
+                const options = tries === undefined ? {} : { tries };
+                await assert.rejects(one.work(['job', INT], () => result, options), TypeError);
+                assert.deepEqual(await boss.take(['job', INT], { timeout: LONG }), ['job', 0]);
+            }
+        }
+        assert.equal(await boss.look(['done']), null);
+    });
+
+    play('an error ends it without tries', async (scene) => {
+        const server = await scene.serve(), one = await scene.space(server), boss = await scene.space(server, 8);
+        const own = new Error('own');
+        await boss.out(['job', 5]);
+        await assert.rejects(one.work(['job', INT], async () => { throw own; }), own);
+        await fails(one.work(['job', INT], () => ['done', 1.5]), OutOfRange);
+        assert.deepEqual(await boss.take(['job', INT], { timeout: LONG }), ['job', 5]);
+    });
+
+    play('tries with pauses, and dead letters', async (scene) => {
+        const server = await scene.serve(), one = await scene.space(server), boss = await scene.space(server, 8);
+        await boss.outMany([['job', 'bad', 0], ['job', 'late', 0], ['job', 'good', 0], ['job', 'fourth', 3], ['job', 'wrong', 0]]);
+        const times = [], text = `${'é'.repeat(600)}\ud800`;
+        const call = async ([, name, failed]) => {
+            times.push([name, failed, performance.now()]);
+            if (name === 'late' && failed < 2 || name === 'fourth') throw new RangeError('not now');
+            if (name === 'bad') throw new Error(text);
+            return name === 'wrong' ? ['done', 'x'.repeat(5_000)] : ['done', name, failed];
+        };
+        assert.equal(await one.work(['job', TEXT, INT], call, { tries: 3, delay: 100, timeout: 50 }), 2);
+        assert.deepEqual((await boss.takeMany(['done', TEXT, INT], { count: 9 })).map(([, ...rest]) => rest).sort(), [['good', 0], ['late', 2]]);
+        const dead = new Map((await boss.takeMany(['dead', TEXT, INT, TEXT], { count: 9 })).map(([, name, ...rest]) => [name, rest]));
+        assert.deepEqual([...dead.keys()].sort(), ['bad', 'fourth', 'wrong']);
+        assert.deepEqual(dead.get('fourth'), [4, 'RangeError: not now']);
+        assert.deepEqual(dead.get('bad'), [3, `Error: ${'é'.repeat(496)}`]);
+        assert.match(dead.get('wrong')[1], /^OutOfRange: a text has 5000 bytes/);
+        assert.equal(await boss.look(['job', TEXT, INT]), null);
+        for (const name of ['bad', 'late']) {
+            const [first, second, third] = times.filter((time) => time[0] === name);
+            assert.deepEqual([first[1], second[1], third[1]], [0, 1, 2]);
+            assert.ok(second[2] - first[2] >= 99 && third[2] - second[2] >= 199, `${name}: ${times}`);
+        }
+        // Others were done meanwhile.
+        assert.deepEqual(times.slice(0, 5).map(([name]) => name), ['bad', 'late', 'good', 'fourth', 'wrong']);
+        await boss.out(['job', 'bad', 0]);
+        await one.work(['job', TEXT, INT], call, { tries: 1, dead: 'grave', timeout: 0 });
+        assert.deepEqual((await boss.take(['grave', TEXT, INT, TEXT])).slice(1, 3), ['bad', 1]);
+    });
+
+    play('a job that waits for its next try is held, and at most 32 are', async (scene) => {
+        const server = await scene.serve(), one = await scene.space(server), boss = await scene.space(server, 8);
+        await boss.outMany(range(0, 34).map((item) => ['job', item, 0]));
+        const seen = [];
+        const call = async ([, item, failed]) => { seen.push([item, failed]); if (failed === 0) throw new Error('once'); };
+        const working = one.work(['job', INT, INT], call, { tries: 2, delay: 3_000, timeout: 0 });
+        const end = performance.now() + LONG;
+        while (seen.length < 32 && performance.now() < end) await sleep(5);
+        await sleep(100);
+        assert.deepEqual(seen, range(0, 32).map((item) => [item, 0]));
+        assert.deepEqual(await boss.takeMany(['job', INT, INT], { count: 99 }), [['job', 32, 0], ['job', 33, 0]]);
+        assert.equal(await working, 32);
+        assert.deepEqual(seen.slice(32).sort(([a], [b]) => a - b), range(0, 32).map((item) => [item, 1]));
+    });
+
+    play('keeps a job for as long as its function runs', async (scene) => {
+        const server = await scene.serve('one', 0, '--lease', '3');
+        const one = await scene.space(server), other = await scene.space(server, 8);
+        await other.out(['job', 1]);
+        const working = one.work(['job', INT], async ([, item]) => { await sleep(7_000); return ['done', item]; }, { timeout: 0 });
+        await sleep(200);
+        assert.equal(await other.take(['job', INT], { timeout: 6_500 }), null);
+        assert.deepEqual([await working, await other.take(['done', INT])], [1, ['done', 1]]);
+    });
+
+    play('stops', async (scene) => {
+        const server = await scene.serve(), one = await scene.space(server), boss = await scene.space(server, 8);
+        await boss.outMany([['job', 1], ['stop']]);
+        assert.equal(await one.work(['job', INT], () => assert.fail(), { stop: Rd('stop') }), 0);
+        await boss.take(['stop']);
+        const working = one.work(['job', INT], ([, item]) => ['done', item], { stop: Rd('stop') });
+        assert.deepEqual(await boss.take(['done', INT]), ['done', 1]);
+        await boss.out(['stop']);
+        assert.equal(await working, 1);
+        const abort = new AbortController(), { signal } = abort;
+        const soon = one.work(['job', INT], () => {}, { signal });
+        await sleep(30);
+        abort.abort();
+        assert.deepEqual([await soon, await one.work(['job', INT], () => {}, { signal })], [0, 0]);
+        // The job in hand is finished, one that waits for its next try is put back with its count, and others stay.
+        await boss.outMany([['job', 'bad', 0], ['job', 'good', 0], ['job', 'other', 0]]);
+        const later = new AbortController();
+        const call = async ([, name]) => {
+            if (name === 'bad') throw new Error('bad');
+            later.abort();
+            await sleep(50);
+            return ['done', name];
+        };
+        assert.equal(await one.work(['job', TEXT, INT], call, { tries: 5, delay: 60_000, signal: later.signal }), 1);
+        assert.deepEqual(await boss.takeMany(['job', TEXT, INT], { count: 9 }), [['job', 'other', 0], ['job', 'bad', 1]]);
+        assert.deepEqual(await boss.take(['done', TEXT]), ['done', 'good']);
+    });
+
+    play('is closed', async (scene) => {
+        const one = await scene.space(await scene.serve());
+        const ending = fails(one.work(['job', INT], () => {}), Closed);
+        await sleep(30);
+        one.close();
+        await ending;
+    });
+
+    play('SIGTERM ends it in order', async (scene) => {
+        const server = await scene.serve(), boss = await scene.space(server, 8);
+        const text = `import { INT, Space, TEXT } from 'linda-space';
+            import { setTimeout as sleep } from 'node:timers/promises';
+            const space = await Space.connect([${server.port}], { client: 7 });
+            const call = async ([, name]) => {
+                if (name === 'bad') throw new Error(name);
+                console.log('at', name); await sleep(2_000); return ['done', name];
+            };
+            await space.work(['none', INT], () => {}, { timeout: 0 });
+            console.log('ready', process.listenerCount('SIGTERM'));
+            const working = space.work(['job', TEXT, INT], call, { tries: 5, delay: 60_000 });
+            while (process.listenerCount('SIGTERM') === 0) await sleep(5);
+            console.log('listens');
+            console.log('count', await working);
+            console.log(process.listenerCount('SIGTERM'));
+            space.close();`;
+        await boss.outMany([['job', 'bad', 0], ['job', 'good', 0], ['job', 'other', 0]]);
+        const program = new Program(scene, text);
+        await program.until('at good');
+        program.child.kill('SIGTERM');
+        assert.deepEqual(await program.ended, [0, null]);
+        assert.equal(program.said.replace('listens\n', ''), 'ready 0\nat good\ncount 1\n0\n');
+        assert.deepEqual(await boss.takeMany(['job', TEXT, INT], { count: 9 }), [['job', 'other', 0], ['job', 'bad', 1]]);
+        assert.deepEqual(await boss.take(['done', TEXT]), ['done', 'good']);
+        // While it waits, too.
+        const idle = new Program(scene, text);
+        await idle.until('listens');
+        await sleep(100);
+        idle.child.kill('SIGTERM');
+        assert.deepEqual([await idle.ended, idle.said], [[0, null], 'ready 0\nlistens\ncount 0\n0\n']);
+    });
+
+    play('kills of workers and of servers lose nothing', async (scene) => {
+        let server = await scene.serve();
+        const { port } = server, boss = await scene.space(server, 8, { patience: LONG });
+        const text = `import { INT, range, Space } from 'linda-space';
+            const space = await Space.connect([${port}], { client: range(100, 140), patience: 60_000 });
+            await space.work(['job', INT, INT], async ([, item, failed]) => {
+                if (item % 10 === 0 && failed === 0) throw new Error('once');
+                return ['done', item];
+            }, { tries: 3, delay: 5 });`;
+        const workers = range(0, 3).map(() => new Program(scene, text));
+        const jobs = range(0, 600);
+        let isOver = false;
+        const killing = (async () => {
+            for (let times = 0; times < 25 && !isOver; times += 1) {
+                await sleep(60);
+                const place = times % 3;
+                workers[place].child.kill('SIGKILL');
+                workers[place] = new Program(scene, text);
+                if (times % 8 === 7) server = await scene.restart(server);
+            }
+        })();
+        const done = new Set();
+        for (const part of range(0, 12)) {
+            await boss.outMany(jobs.slice(50 * part, 50 * part + 50).map((item) => ['job', item, 0]));
+            await sleep(80);
+        }
+        while (done.size < jobs.length) {
+            const next = await boss.take(['done', INT], { timeout: 20_000 });
+            assert.notEqual(next, null, `${done.size} are done`);
+            done.add(next[1]);
+        }
+        isOver = true;
+        await killing;
+        for (const { child } of workers) child.kill('SIGTERM');
+        for (const { ended } of workers) await ended;
+        assert.deepEqual([...done].sort((a, b) => a - b), jobs);
+        assert.equal(await boss.look(['dead', ANY, ANY, ANY]), null);
+        assert.equal(await boss.look(['job', ANY, ANY]), null);
+    });
+
+    play('goes on while a server is away', async (scene) => {
+        let server = await scene.serve();
+        const one = await scene.space(server, 7, SHORT), boss = await scene.space(server, 8, { patience: LONG });
+        const faults = [];
+        const working = one.work(['job', INT], ([, item]) => ['done', item], { stop: Rd('stop'), onerror: (fault) => faults.push(fault) });
+        await boss.out(['job', 1]);
+        assert.deepEqual(await boss.take(['done', INT]), ['done', 1]);
+        await server.kill();
+        await sleep(2_500);
+        server = await scene.serve('one', server.port);
+        await boss.outMany([['job', 2], ['job', 3]]);
+        assert.deepEqual([await boss.take(['done', 2]), await boss.take(['done', 3])], [['done', 2], ['done', 3]]);
+        await boss.out(['stop']);
+        assert.equal(await working, 3);
+        assert.ok(faults.length >= 1 && faults.every((fault) => fault instanceof NoConnection), faults);
+    });
+
+    play('goes on after a server had no room, and finishes what is unanswered', async (scene) => {
+        const isRenewal = (peer) => { while (peer.came.subarray(0, 13).equals(RENEWAL)) peer.came = peer.came.subarray(13); };
+        const hears = async (peer, data) => {
+            for (;;) {
+                await peer.until(() => peer.came.length >= data.length || peer.came.length >= 13);
+                isRenewal(peer);
+                if (peer.came.length >= data.length) break;
+                await sleep(1);
+            }
+            await peer.expect(data);
+        };
+        const fake = await scene.fake(async (peer) => {
+            await greets(peer, 0);
+            await peer.expect(frames.ask(1, true, ['job', INT]));
+            peer.send(offer(1, 3, ['job', 8]));
+            await hears(peer, frames.out(1, ['done', 8]));
+            peer.send(refusal(FULL, 0));
+            await hears(peer, frames.out(1, ['done', 8]));
+            peer.send(stored(1, 4));
+            await hears(peer, frames.accept(2, 1, 3));
+            peer.send(refusal(FULL, 0));
+            await hears(peer, frames.accept(2, 1, 3));
+            peer.send(taken(2, 3, ['job', 8]));
+            await hears(peer, frames.ask(2, true, ['job', INT]));
+            await hears(peer, PROBE);
+            peer.send(refusal(OLD, 2));
+            await hears(peer, frames.cancel(2));
+            // The kept reply is a Taken: an Accept of nothing.
+            await hears(peer, frames.accept(3, 0, 0));
+            peer.send(gone(3));
+            await peer.end();
+        });
+        const one = await scene.space(fake), faults = [];
+        const options = { timeout: 100, keep: 60_000, onerror: (fault) => faults.push(fault.reason) };
+        assert.equal(await one.work(['job', INT], ([, item]) => ['done', item], options), 1);
+        assert.deepEqual(faults, ['Full', 'Full']);
+        one.close();
+        await fake.end();
+    });
+});
+
+// ---- a pool
+
+/** By itself: it holds the event loop, and tests beside it would miss their times. */
+describe('work that holds the event loop', () => {
+    play('a hold that was lost puts nothing', async (scene) => {
+        const server = await scene.serve('one', 0, '--lease', '1');
+        const one = await scene.space(server), other = await scene.space(server, 8);
+        await other.out(['job', 1]);
+        let calls = 0;
+        const call = async ([, item]) => {
+            calls += 1;
+            if (calls > 1) return ['done', item];
+            // This program does nothing for so long that another one gets the job, and gives it back.
+            const end = performance.now() + 3_500;
+            while (performance.now() < end);
+            return ['never', item];
+        };
+        assert.equal(await one.work(['job', INT], call, { timeout: 300 }), 1);
+        assert.deepEqual([calls, await other.look(['never', INT]), await other.take(['done', INT])], [2, null, ['done', 1]]);
+    });
+});
+
+describe('a pool', { concurrency: 4 }, () => {
+    play('a web server, 200 requests at once', async (scene) => {
+        const servers = [await scene.serve('left'), await scene.serve('right')];
+        const pool = new Pool(servers.map(({ port }) => port), { client: range(100, 116) });
+        scene.spaces.push(pool);
+        const web = http.createServer(async (request, response) => {
+            try {
+                const stored = await pool.out(['request', Number(request.url.slice(1))]);
+                response.end(`${stored.server} ${stored.id}`);
+            } catch (fault) {
+                response.statusCode = 500;
+                response.end(fault.stack);
+            }
+        });
+        await new Promise((resolve) => { web.listen(0, '127.0.0.1', resolve); });
+        scene.closed.push(() => web.close());
+        const ask = async (place) => {
+            const response = await fetch(`http://127.0.0.1:${web.address().port}/${place}`);
+            return [response.status, await response.text()];
+        };
+        const answers = await Promise.all(range(0, 200).map(ask));
+        assert.deepEqual(new Set(answers.map(([status]) => status)), new Set([200]));
+        assert.equal(new Set(answers.map(([, text]) => text)).size, 200);
+        assert.ok(pool.size > 1 && pool.size <= 16);
+        const found = await pool.takeMany(['request', INT], { count: 1_000 });
+        assert.deepEqual(found.map(([, place]) => place).sort((a, b) => a - b), range(0, 200));
+    });
+
+    play('calls', async (scene) => {
+        const server = await scene.serve();
+        const pool = new Pool([server.port], { client: range(100, 110), size: 4 });
+        scene.spaces.push(pool);
+        assert.equal(pool.size, 0);
+        assert.equal((await pool.out(['a', 1])).id, 1);
+        assert.equal(pool.size, 1);
+        assert.deepEqual([await pool.look(['a', INT]), await pool.read(['a', INT])], [['a', 1], ['a', 1]]);
+        assert.equal((await pool.choose([In('a', INT).wrap(5)])).labels[0], 5);
+        await pool.outMany([['a', 2], ['a', 3], ['a', 4]]);
+        assert.equal((await pool.sync(In('a', 2))).kind, 'took');
+        assert.deepEqual([await pool.take(['a', 3]), await pool.purge(['a', INT])], [['a', 3], 1]);
+        assert.equal(pool.size, 1);
+        // What waits for long makes no other call wait, up to the size.
+        const waiting = range(0, 3).map(() => pool.take(['b', INT]));
+        await pool.outMany([['b', 1], ['b', 2], ['b', 3]]);
+        assert.deepEqual((await Promise.all(waiting)).map(([, item]) => item).sort(), [1, 2, 3]);
+        assert.equal(pool.size, 4);
+        const all = range(0, 6).map(() => pool.take(['c']));
+        await (await scene.space(server, 8)).outMany(range(0, 6).map(() => ['c']));
+        await Promise.all(all);
+        assert.equal(pool.size, 4);
+        await pool.outMany([['d', 1], ['d', 2]]);
+        const found = [];
+        for await (const [, item] of pool.takes(['d', INT], { timeout: 10 })) found.push(item);
+        assert.deepEqual(found, [1, 2]);
+        pool.close();
+        await fails(pool.out(['a']), Closed);
+    });
+
+    play('a hold keeps its member', async (scene) => {
+        const server = await scene.serve();
+        const pool = new Pool([server.port], { client: range(100, 110), size: 2 });
+        scene.spaces.push(pool);
+        await pool.outMany(range(0, 6).map((item) => ['job', item]));
+        const [first, second] = [await pool.hold(['job', 0]), await pool.hold(['job', 1])];
+        const waiting = pool.look(['job', 0]);
+        const isDone = async () => Promise.race([waiting.then(() => true), sleep(50).then(() => false)]);
+        assert.equal(await isDone(), false);
+        await first.accept();
+        assert.equal(await waiting, null);
+        second.release();
+        second.release();
+        assert.equal(await pool.hold(['none'], { timeout: 5 }), null);
+        await fails(pool.hold(['none'], { signal: AbortSignal.timeout(20) }), Aborted);
+        const held = await pool.holding(['job', 1], { keep: 100 }, async (offer) => {
+            assert.deepEqual(await pool.holding(['job', 2], {}, (inner) => inner.accept()), ['job', 2]);
+            return offer.accept();
+        });
+        assert.deepEqual([held, await Promise.all(range(3, 6).map((item) => pool.take(['job', item])))],
+            [['job', 1], range(3, 6).map((item) => ['job', item])]);
+        assert.equal(pool.size, 2);
+        const last = await pool.out(['job', 9]).then(() => pool.hold(['job', 9]));
+        await scene.restart(server);
+        await untilLost(last);
+        await fails(last.accept(), Gone);
+        const both = range(0, 2).map(() => pool.take(['job', 9], { timeout: 2_000 }));
+        assert.deepEqual((await Promise.all(both)).filter((tuple) => tuple !== null), [['job', 9]]);
+    });
+
+    play('numbers and arguments', async (scene) => {
+        const server = await scene.serve(), { port } = server;
+        const few = new Pool([port], { client: range(100, 103) });
+        scene.spaces.push(few);
+        const stored = await Promise.all(range(0, 50).map((item) => few.out(['a', item])));
+        assert.deepEqual(stored.map(({ id }) => id).sort((a, b) => a - b), range(1, 51));
+        assert.equal(few.size, 3);
+        await fails(new Pool([port], { client: range(100, 103) }).out(['a']), NoNumber);
+        const one = new Pool([port], { client: 7 });
+        scene.spaces.push(one);
+        await Promise.all(range(0, 5).map(() => one.out(['b'])));
+        assert.equal(one.size, 1);
+        for (const options of [{ client: 7, size: 2 }, { size: 0 }, { sise: 1 }, 5, null]) {
+            assert.throws(() => new Pool([port], options), OutOfRange);
+        }
+        assert.throws(() => new Pool([], {}), OutOfRange);
+        await server.kill();
+        const lost = new Pool([port], { client: range(200, 205) });
+        const faults = await Promise.all(range(0, 5).map(() => lost.out(['a']).catch((fault) => fault.code)));
+        assert.deepEqual(faults, range(0, 5).map(() => 'NoConnection'));
+    });
+
+    play('a call leaves the pool, or all do', async (scene) => {
+        const server = await scene.serve();
+        const pool = new Pool([server.port], { client: range(100, 110), size: 1 });
+        const taking = fails(pool.take(['a']), Closed);
+        await sleep(30);
+        await fails(pool.out(['b'], { signal: AbortSignal.timeout(30) }), Aborted);
+        await fails(pool.out(['b'], { signal: AbortSignal.abort() }), Aborted);
+        const behind = fails(pool.out(['b']), Closed);
+        pool.close();
+        await Promise.all([taking, behind]);
+        assert.equal(await (await scene.space(server, 8)).look(['b']), null);
+    });
+
+    play('a member is finished after an error', async (scene) => {
+        const server = await scene.serve();
+        const pool = new Pool([server.port], { client: range(100, 110), size: 1, ...SHORT });
+        scene.spaces.push(pool);
+        await pool.out(['a', 0]);
+        await server.stop();
+        await fails(pool.out(['a', 1], { timeout: 100 }), TimedOut, { pending: 'out' });
+        await fails(pool.outMany([['a', 2], ['a', 3]], { timeout: 100 }), TimedOut);     // (the member is not there)
+        server.goOn();
+        assert.equal((await patient(() => pool.out(['a', 4]))).id, 3);
+        assert.deepEqual(await pool.takeMany(['a', INT], { count: 9 }), [['a', 0], ['a', 1], ['a', 4]]);
+    });
+
+    play('a tuple that was just being taken goes to the next take', async (scene) => {
+        const abort = new AbortController();
+        const fake = await scene.fake(async (peer) => {
+            await peer.expect(hello(100));
+            peer.send(welcome(0));
+            await peer.expect(frames.ask(1, true, ['a', INT]));
+            peer.send(offer(1, 3, ['a', 8]));
+            await peer.expect(frames.accept(1, 1, 3));
+            abort.abort();
+            await sleep(30);
+            peer.send(taken(1, 3, ['a', 8]));
+            await peer.expect(frames.out(2, ['b']));
+            peer.send(stored(2, 4));
+            await peer.end();
+        });
+        const pool = new Pool([fake.port], { client: range(100, 101), size: 1 });
+        await fails(pool.take(['a', INT], { signal: abort.signal }), Aborted);
+        assert.equal((await pool.out(['b'])).id, 4);
+        assert.deepEqual(await pool.take(['a', INT]), ['a', 8]);
+        pool.close();
+        await fake.end();
+    });
+
+    play('a tuple that was just being taken is not left with a member', async (scene) => {
+        const abort = new AbortController();
+        const fake = await scene.fake(async (peer) => {
+            await peer.expect(hello(100));
+            peer.send(welcome(0));
+            await peer.expect(frames.ask(1, true, ['a', INT]));
+            peer.send(offer(1, 3, ['a', 8]));
+            await peer.expect(frames.accept(1, 1, 3));
+            abort.abort();
+            await sleep(200);
+            peer.send(taken(1, 3, ['a', 8]));
+            await peer.expect(frames.ask(2, true, ['c']));
+            peer.send(offer(2, 7, ['c']));
+            await peer.expect(frames.accept(2, 2, 7));
+            peer.send(taken(2, 7, ['c']));
+            await peer.end();
+        }, async (peer) => {
+            await peer.expect(hello(101));
+            peer.send(welcome(0));
+            await peer.expect(frames.out(1, ['b', 1]));
+            peer.send(stored(1, 4));
+            await peer.end();
+        });
+        const pool = new Pool([fake.port], { client: range(100, 102), size: 2 });
+        await fails(pool.take(['a', INT], { signal: abort.signal }), Aborted);
+        // One that has nothing pending puts; the one that may have taken it takes.
+        assert.equal((await pool.out(['b', 1])).id, 4);
+        assert.deepEqual([await pool.take(['a', INT]), pool.size], [['a', 8], 2]);
+        assert.deepEqual(await pool.take(['c']), ['c']);
+        pool.close();
+        await fake.end();
+    });
+
+    play('takes of which answers were late go to the next take', async (scene) => {
+        const fake = await scene.fake(async (peer) => {
+            await peer.expect(hello(100));
+            peer.send(welcome(0));
+            await peer.expect(frames.ask(1, true, ['a', INT]), frames.ask(2, true, ['a', INT]), PROBE);
+            peer.send(offer(1, 3, ['a', 8]), offer(2, 4, ['a', 9]));
+            await peer.expect(frames.accept(1, 1, 3), frames.accept(2, 2, 4));
+            peer.send(taken(1, 3, ['a', 8]));
+            await sleep(200);
+            peer.send(taken(2, 4, ['a', 9]));
+            await peer.end();
+        });
+        const pool = new Pool([fake.port], { client: range(100, 101), size: 1 });
+        const signal = AbortSignal.timeout(100);
+        await fails(pool.takeMany(['a', INT], { count: 2, signal }), Aborted, { taken: [['a', 8]], pending: 'takeMany' });
+        assert.deepEqual(await pool.take(['a', INT]), ['a', 9]);
+        pool.close();
+        await fake.end();
+    });
+
+    play('kills under a pool', async (scene) => {
+        let server = await scene.serve();
+        const pool = new Pool([server.port], { client: range(100, 108), size: 8, patience: LONG });
+        scene.spaces.push(pool);
+        const jobs = range(0, 400);
+        await pool.look(['n', INT]);
+        const putting = Promise.all(jobs.map((item) => pool.out(['n', item])));
+        for (let times = 0; times < 3; times += 1) {
+            await sleep(30);
+            server = await scene.restart(server);
+        }
+        await putting;
+        const found = await Promise.all(jobs.map(() => pool.take(['n', INT])));
+        assert.deepEqual(found.map(([, item]) => item).sort((a, b) => a - b), jobs);
+    });
+});
+
+// ---- client numbers
+
+describe('client numbers', { concurrency: 4 }, () => {
+    play('ports as texts', async (scene) => {
+        const { port } = await scene.serve();
+        for (const [place, text] of [`localhost:${port}`, `127.0.0.1:${port}`].entries()) {
+            const one = await Space.connect([text], { client: place });
+            assert.equal((await one.out(['a'])).id, place + 1);
+            one.close();
+        }
+        for (const wrong of ['localhost', 'localhost:', 'localhost:0', 'localhost:65536', `localhost:${port}x`, `0.0.0.0:${port}`, `:${port}`]) {
+            await fails(Space.connect([wrong], { client: 7 }), OutOfRange);
+        }
+    });
+
+    play('one that may have a job unfinished is first', async (scene) => {
+        const left = await scene.serve('left'), right = await scene.serve('right'), both = [left, right];
+        const use = async (client, call) => {
+            const one = await scene.space(both, client);
+            await call(one);
+            one.close();
+            await scene.space(both, client).then((again) => again.close());      // (the servers have seen its end)
+        };
+        await use(9, (one) => one.outMany([['job', 1], ['job', 2]]));
+        await use(100, (one) => one.leave());
+        await use(101, (one) => one.out(['a']));
+        await use(102, (one) => one.out(['a']));
+        await use(103, (one) => one.take(['job', 1]));
+        const found = async (numbers, more) => {
+            const one = await scene.space(both, numbers, more);
+            one.close();
+            await scene.space(both, one.client).then((again) => again.close());
+            return one.client;
+        };
+        assert.equal(await found(range(100, 120)), 103);
+        // Not if it is behind one that was never used: so far it is looked at.
+        assert.equal(await found([101, 110, 103]), 101);
+        assert.equal(await found([110, 103]), 110);
+        assert.equal(await found([100, 102, 103], { fresh: false }), 103);
+        assert.equal(await found(range(100, 120), { fresh: true }), 104);
+        const one = await scene.space(both, 103);
+        assert.deepEqual((await one.lastReply(0) ?? await one.lastReply(1)).tuple, ['job', 1]);
+        // Work that ends in order leaves no such number.
+        await use(105, async (worker) => assert.equal(await worker.work(['job', INT], () => {}, { timeout: 0 }), 1));
+        assert.equal(await found([101, 105]), 101);
+    });
+
+    play('a file of numbers', async (scene) => {
+        const server = await scene.serve(), { port } = server;
+        const file = path.join(scene.folder, 'state', 'some', 'numbers');
+        const lines = () => readFileSync(file, 'utf8').split('\n');
+        const connect = async (more) => {
+            const one = await Space.connect([port], { numbers: file, ...more });
+            scene.spaces.push(one);
+            return one;
+        };
+        const seen = async (one) => { one.close(); await scene.space(server, one.client).then((again) => again.close()); };
+        const one = await connect();
+        assert.ok(one.client >= 2 ** 31 && one.client < 2 ** 32);
+        assert.deepEqual(lines(), [`${one.client}`, '']);
+        const two = await connect();
+        assert.notEqual(two.client, one.client);
+        assert.deepEqual(lines(), [`${one.client}`, `${two.client}`, '']);
+        await one.out(['job', 1]);
+        await seen(one);
+        assert.equal((await connect()).client, one.client);
+        await two.take(['job', INT]);
+        await Promise.all(scene.spaces.map(seen));
+        // All are looked at, for one that may have a job unfinished.
+        const again = await connect();
+        assert.equal(again.client, two.client);
+        await seen(again);
+        writeFileSync(file, `777\n${one.client}\n${two.client}\n`);
+        assert.equal((await connect()).client, two.client);
+        writeFileSync(file, `${one.client}\n${two.client}\n`);
+        const third = await connect({ fresh: true });
+        assert.equal((await third.out(['x'])).id, 2);
+        assert.deepEqual(lines(), [`${one.client}`, `${two.client}`, `${third.client}`, '']);
+        writeFileSync(file, `x\n-1\n4294967296\n${third.client}\n 55 \n`);
+        assert.equal((await connect()).client, 55);
+        writeFileSync(path.join(scene.folder, 'plain'), '');
+        for (const wrong of [path.join(scene.folder, 'plain', 'numbers'), scene.folder, '/proc/none/numbers']) {
+            const fault = await fails(Space.connect([port], { numbers: wrong }), NoNumber, { code: 'NoNumber' });
+            assert.ok(fault.message.includes(wrong) && /ENOTDIR|EISDIR|ENOENT|EACCES/.test(fault.message), fault.message);
+        }
+        for (const wrong of ['', 5, null, 'a\0']) await fails(Space.connect([port], { numbers: wrong }), OutOfRange);
+        await fails(Space.connect([port], { numbers: file, client: 7 }), OutOfRange);
+    });
+
+    play('no number at all', async (scene) => {
+        const { port } = await scene.serve();
+        const text = `import { Pool, Space } from 'linda-space';
+            const space = await Space.connect([${port}]);
+            const pool = new Pool([${port}], { size: 3 });
+            await Promise.all([1, 2, 3, 4, 5].map((item) => pool.out(['a', item])));
+            console.log(space.client, pool.size); space.close(); pool.close();`;
+        const state = path.join(scene.folder, 'state');
+        const folders = [[{ LINDA_STATE: state }, state], [{ XDG_STATE_HOME: state, LINDA_STATE: '' }, path.join(state, 'linda')],
+            [{ HOME: state, XDG_STATE_HOME: '', LINDA_STATE: '' }, path.join(state, '.local/state/linda')]];
+        for (const [env, folder] of folders) {
+            const program = new Program(scene, text, [], { env: { ...process.env, ...env } });
+            assert.deepEqual(await program.ended, [0, null]);
+            const sum = createHash('sha256').update(program.file).digest('hex').slice(0, 12);
+            const file = path.join(folder, `${path.parse(program.file).name}-${sum}.numbers`);
+            const numbers = readFileSync(file, 'utf8').trim().split('\n');
+            const [client, size] = program.said.trim().split(' ');
+            assert.equal(numbers[0], client);
+            assert.equal(numbers.length, 1 + Number(size));
+        }
+    });
+});
+
+// ---- types
+
+describe('types', () => {
+    const tsc = process.env.TSC ?? 'tsc';
+    const isThere = spawnSync(tsc, ['--version']).status === 0;
+    const skip = isThere ? false : 'there is no tsc';
+
+    test('are what tsc makes', { skip, timeout: LIMIT }, () => {
+        const folder = mkdtempSync(path.join(tmpdir(), 'linda-'));
+        try {
+            const { status, stdout } = spawnSync(tsc, ['-p', HERE, '--outDir', folder], { encoding: 'utf8' });
+            assert.deepEqual([status, stdout], [0, '']);
+            const files = (top) => readdirSync(top, { recursive: true }).filter((name) => name.endsWith('.d.mts')).sort();
+            assert.deepEqual(files(path.join(HERE, 'types')), files(folder));
+            assert.ok(files(folder).includes('linda_space.d.mts'));
+            for (const name of files(folder)) {
+                const [shipped, made] = [path.join(HERE, 'types', name), path.join(folder, name)].map((file) => readFileSync(file, 'utf8'));
+                assert.equal(shipped, made, `${name}: npm run types`);
+            }
+        } finally {
+            rmSync(folder, { recursive: true });
+        }
+    });
+
+    test('let pass and refuse', { skip, timeout: LIMIT }, () => {
+        const folder = mkdtempSync(path.join(tmpdir(), 'linda-'));
+        try {
+            const node = path.join(folder, 'node.d.ts');
+            writeFileSync(node, 'declare type Buffer = Uint8Array;\n');
+            const words = ['--strict', '--noEmit', '--target', 'es2022', '--lib', 'es2022,dom', '--module', 'nodenext'];
+            const { status, stdout } = spawnSync(tsc, [...words, '--moduleResolution', 'nodenext', path.join(HERE, 'test_types.mts'), node], { encoding: 'utf8', cwd: HERE });
+            assert.deepEqual([stdout, status], ['', 0]);
+        } finally {
+            rmSync(folder, { recursive: true });
+        }
+    });
+
+    test('the package has all its files', () => {
+        const { files, exports, types } = JSON.parse(readFileSync(path.join(HERE, 'package.json'), 'utf8'));
+        assert.deepEqual(files, ['linda_space.mjs', 'lib', 'types']);
+        for (const file of [exports['.'].default, exports['.'].types, types]) assert.ok(readFileSync(path.join(HERE, file), 'utf8').length > 0);
     });
 });
 

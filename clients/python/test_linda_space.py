@@ -32,8 +32,9 @@ TOP = HERE.parent.parent
 sys.path[:0] = [str(HERE), str(TOP / "examples")]
 
 import linda_space  # noqa: E402
+from linda_space import machine  # noqa: E402
 from linda_space import (  # noqa: E402
-    ANY, BOOL, INT, PACKED, TEXT, Alarm, Always, BadReply, Busy, Choose, Closed, Gone, Idle, In, Kept, Left, Nack, Never, NoConnection, NoNumber, Outcome, OutOfRange,
+    ANY, BOOL, INT, PACKED, TEXT, Alarm, Always, BadReply, Busy, Choose, Closed, Gone, Idle, In, Kept, Left, Nack, Never, NoConnection, NoNumber, NumberInUse, Outcome, OutOfRange,
     Rd, Refused, Restored, Space, Stored, TimedOut, Wrap, pack, unpack)
 import client as frames  # noqa: E402
 
@@ -209,13 +210,13 @@ class OverServers(WithServers):
         left, right = self.serve("left"), self.serve("right")
         text = (HERE / "README.md").read_text()
         self.assertIn("[7000, 7001]", text)
-        first, put, last = [block.split("```")[0] for block in text.split("```python\n")[1:]]
+        first, _, put, last = [block.split("```")[0] for block in text.split("```python\n")[1:]]
         names: dict = {}
         exec(first.replace("[7000, 7001]", repr([left.port, right.port])).replace("2.5", "0.5"), names)
         self.assertEqual((names["work"], names["won"]), (2, Outcome(2, "alarm", (), (9,))))
         worked: List[tuple] = []
         exec("from linda_space import Space\n" + last.replace("[7000]", f"[{left.port}]").replace("client=12", "client=7"), {"work_on": worked.append})
-        self.assertEqual(worked, [("job", 2)])
+        self.assertEqual(worked, [("job", 3)])
         # Its server is away until the first call has given up.
         again = Space.again
 
@@ -360,7 +361,7 @@ class OverServers(WithServers):
             space.out("a")
             self.refused(lambda: Space([right.port], 7, fresh=True), 0, "Busy", 0)
         for version in (1, 3):
-            with mock.patch.object(linda_space, "VERSION", version):
+            with mock.patch.object(linda_space.frames, "VERSION", version):
                 self.refused(lambda: self.space(left, client=8), 0, "Version", 2)
         self.refused(self.not_busy(lambda: Space([left.port, right.port], 7, fresh=True)), 1, "Known", 1)
         self.assertEqual(self.space(left, right).out("b"), (1, 2))
@@ -477,8 +478,11 @@ class OverServers(WithServers):
         peer.send(frames.out(2, "x") + frames.out(3, "y"))
         self.assertEqual([peer.receive()[0] for _ in range(2)], ["Stored"] * 2)
         peer.close()
-        self.refused(lambda: space.out("b"), 0, "Old", 3)
-        self.assertIsNone(space.pending)
+        with self.assertRaisesRegex(NumberInUse, "server 0: number in use: .*client number 7, .* 3, and 1 ") as caught:
+            space.out("b")
+        self.assertEqual((caught.exception.server, caught.exception.last, caught.exception.answered, space.pending), (0, 3, 1, None))
+        with self.assertRaises(NumberInUse):
+            space.take("b", timeout=0)
         server.kill()
         self.serve("other", server.port)
         self.assertIsNone(self.space(server, client=8).read("b", timeout=0.05))
@@ -562,7 +566,7 @@ class OverServers(WithServers):
         calls += [lambda: space.take(INT), lambda: space.choose("a"), lambda: space.sync(("in", "a")), lambda: Wrap(1, "a"), lambda: Nack(1, None)]
         calls += [lambda: Alarm(-1), lambda: Alarm(1 << 64), lambda: Wrap(-1, Never()), lambda: Nack(1 << 64, Never()), lambda: Always(1 << 63)]
         calls += [lambda ports=ports: Space(ports, 1) for ports in ([], [7000] * 17, [0], [65_536], ["7000"], [""], ["a/\0"], "7000", "a/b", 7000)]
-        calls += [lambda client=client: Space([7000], client) for client in (-1, 1 << 32, True, "7", [], range(0), [1, -1], ["7"], None)]
+        calls += [lambda client=client: Space([7000], client) for client in (-1, 1 << 32, True, "7", [], range(0), [1, -1], ["7"], b"7")]
         calls += [lambda patience=patience: Space([7000], 7, patience=patience) for patience in (0, -1, "1", float("nan"), True)]
         calls += [lambda seconds=seconds, call=call: call(timeout=seconds) for seconds in (-1, "1", float("nan")) for call in (
             lambda timeout: space.out("a", timeout=timeout), lambda timeout: space.leave(timeout=timeout), lambda timeout: space.last_reply(timeout=timeout),
@@ -1152,14 +1156,14 @@ class Waits(WithServers):
         space = self.space(self.serve())
         run = Space._run
 
-        def interrupted(one: Space, until: float) -> None:
-            run(one, until)
+        def interrupted(one: Space, *words: Any) -> Iterator[float]:
+            yield from run(one, *words)
             raise KeyboardInterrupt
 
         with mock.patch.object(Space, "_run", interrupted), self.assertRaises(KeyboardInterrupt):
             space.out("a", 1)
         self.assertEqual((space.pending, space.settled), (None, Stored(0, 1)))
-        with mock.patch.object(linda_space._Machine, "out", side_effect=KeyboardInterrupt), self.assertRaises(KeyboardInterrupt):
+        with mock.patch.object(machine.Machine, "out", side_effect=KeyboardInterrupt), self.assertRaises(KeyboardInterrupt):
             space.out("a", 2)
         self.assertEqual((space.pending, space.settled), (None, None))
         self.assertEqual([space.take("a", INT), space.look("a", INT)], [("a", 1), None])
@@ -1407,12 +1411,12 @@ class Waits(WithServers):
         self.assertEqual(space.take("b"), ("b",))
 
     def test_a_hold_is_renewed(self) -> None:
-        server = self.serve("one", 0, "--lease", "1")
+        server = self.serve("one", 0, "--lease", "2")
         space, other = self.space(server), self.space(server, client=8)
         space.out("job", 1)
         with space.hold("job", INT) as offer:
             assert offer is not None
-            for _ in range(12):                                 # at most 3 seconds pass before a lease of 1 second has run out
+            for _ in range(12):                                 # at most 4 seconds pass before a lease of 2 seconds has run out
                 time.sleep(0.4)
                 offer.renew()
             self.assertIsNone(other.take("job", INT, timeout=0))
@@ -1546,9 +1550,9 @@ class Watched(Space):
 
     waits: threading.Event
 
-    def _wait(self, until: float) -> None:
+    def _pause(self, wake: float) -> None:
         self.waits.set()
-        super()._wait(until)
+        super()._pause(wake)
 
 
 def pattern(item: Any) -> Any:
@@ -1572,6 +1576,8 @@ def ends_of(value: Any) -> list:
         return ["refused", value.server, value.code, value.detail]
     if isinstance(value, Left):
         return ["refused left"]
+    if isinstance(value, NumberInUse):
+        return ["in use", value.server]
     if isinstance(value, Stored):
         return ["stored", value.server, value.id]
     if isinstance(value, Kept):

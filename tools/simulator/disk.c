@@ -5,13 +5,17 @@
    down what is overwritten, and when a sync has succeeded the log is emptied. So whatever kills the process, the file
    and its log say what the file held at its last sync and which calls came since (disk.py reads them). Nothing is
    synced in truth: a kill keeps what the system has, and it is disk.py that loses it. SIDE.new is there while a new
-   file's name is in no folder that was synced.
+   file's name is in no folder that was synced. SIDE.lost is there once a sync has failed: the system may have forgotten
+   what that sync was to bring, so the log is never emptied again, whatever a later sync reports.
 
    The file `plan` there names calls that are to go wrong, a line each: WHICH NUMBER ACTION PART. WHICH is `change`
    (writes, cuts and syncs of both banks, syncs of the folder, counted from 1) or `read`; ACTION is `die` (the process
    is killed when PART thousandths of the call are done), `eio` or `enospc` (the call fails when so many are done).
-   `change 0 lie N` makes each sync whose number N divides report success and sync nothing; `slow 0 MICROSECONDS 0`
-   makes each sync take so long. A call that went wrong is written to the file `fired`. */
+   `slow 0 MICROSECONDS 0` makes each sync take so long. A call that went wrong is written to the file `fired`.
+
+   Bugs of a server are planted by the lines `change 0 lie N`, each sync whose number N divides reports success and
+   syncs nothing; `change 0 retry 0`, a sync that fails is tried again, and reports success then; `change 0 early 0`, no
+   file is synced before the first write to it. */
 
 #define _GNU_SOURCE
 #include <errno.h>
@@ -36,6 +40,7 @@ struct plan { char which; long number; char action[16]; long part; };
 
 static pthread_mutex_t lock = PTHREAD_MUTEX_INITIALIZER;
 static char side_of[MOST_FILES];        /* 'l', 'r', or 0 */
+static char was_written[MOST_FILES];    /* since it was opened */
 static struct plan plans[MOST_PLANS];
 static int plan_count, is_read;
 static long changes, reads, slow;
@@ -83,11 +88,17 @@ static void fire(const struct plan *it) {
 
 static int is(const struct plan *it, const char *action) { return it && strcmp(it->action, action) == 0; }
 
-/* Whether the sync that is in hand reports success and syncs nothing. */
-static int lies(void) {
+/* The line of this bug, if it is planted. */
+static const struct plan *planted(const char *bug) {
     for (int at = 0; at < plan_count; at++)
-        if (is(&plans[at], "lie") && plans[at].part > 0 && changes % plans[at].part == 0) return 1;
-    return 0;
+        if (is(&plans[at], bug)) return &plans[at];
+    return NULL;
+}
+
+/* Whether the sync that is in hand reports success and syncs nothing. */
+static int lies(int file) {
+    const struct plan *lie = planted("lie");
+    return (lie && lie->part > 0 && changes % lie->part == 0) || (planted("early") && !was_written[file]);
 }
 
 /* What is planned for the call that begins now. */
@@ -112,6 +123,7 @@ static int go_wrong(const struct plan *it) {
 static int side_at(int file) { return file >= 0 && file < MOST_FILES ? side_of[file] : 0; }
 static const char *undo_of(char side) { return side == 'l' ? "left.undo" : "right.undo"; }
 static const char *new_of(char side) { return side == 'l' ? "left.new" : "right.new"; }
+static const char *lost_of(char side) { return side == 'l' ? "left.lost" : "right.lost"; }
 
 /* Writes down a call that is about to change the file: the bytes that it may overwrite or take off, and those that it
    writes. */
@@ -134,9 +146,21 @@ static void keep_undo(int file, uint64_t at, const void *bytes, uint64_t size, i
 }
 
 static void forget_undo(int file) {
+    int mark = open_in(lost_of(side_at(file)), O_RDONLY);
+    if (mark >= 0) {
+        syscall(SYS_close, mark);
+        return;
+    }
     int log = open_in(undo_of(side_at(file)), O_CREAT | O_WRONLY);
     if (log < 0 || syscall(SYS_ftruncate, log, 0) != 0) abort();
     syscall(SYS_close, log);
+}
+
+/* A sync fails: no later one makes up for it. */
+static void lose_undo(int file) {
+    int mark = open_in(lost_of(side_at(file)), O_CREAT | O_WRONLY);
+    if (mark < 0) abort();
+    syscall(SYS_close, mark);
 }
 
 static const char *side_name(const char *path) {
@@ -156,7 +180,7 @@ static int open_watched(const char *path, int flags, int mode) {
         if (mark >= 0) syscall(SYS_close, mark);
     }
     int file = (int)syscall(SYS_openat, AT_FDCWD, path, flags, mode);
-    if (file >= 0 && file < MOST_FILES) side_of[file] = *side;
+    if (file >= 0 && file < MOST_FILES) side_of[file] = *side, was_written[file] = 0;
     pthread_mutex_unlock(&lock);
     return file;
 }
@@ -169,6 +193,22 @@ int open(const char *path, int flags, ...) {
     return open_watched(path, flags, mode);
 }
 int open64(const char *path, int flags, ...) __attribute__((alias("open")));
+
+/* A copy of a bank's descriptor is that bank too. */
+int fcntl(int file, int command, ...) {
+    va_list rest;
+    va_start(rest, command);
+    void *what = va_arg(rest, void *);
+    va_end(rest);
+    int done = (int)syscall(SYS_fcntl, file, command, what);
+    if ((command == F_DUPFD || command == F_DUPFD_CLOEXEC) && done >= 0 && done < MOST_FILES && side_at(file)) {
+        pthread_mutex_lock(&lock);
+        side_of[done] = side_of[file], was_written[done] = was_written[file];
+        pthread_mutex_unlock(&lock);
+    }
+    return done;
+}
+int fcntl64(int, int, ...) __attribute__((alias("fcntl")));
 
 int close(int file) {
     if (side_at(file)) {
@@ -186,6 +226,7 @@ ssize_t pwrite(int file, const void *bytes, size_t size, off_t at) {
     size_t some = it ? size * it->part / 1000 : size;
     ssize_t done = 0;
     keep_undo(file, at, bytes, size, 0);
+    was_written[file] = 1;
     if (some) done = syscall(SYS_pwrite64, file, bytes, some, at);
     if (it) done = go_wrong(it);
     pthread_mutex_unlock(&lock);
@@ -212,8 +253,10 @@ int fdatasync(int file) {
     pthread_mutex_lock(&lock);
     const struct plan *it = planned('c');
     int done = 0;
-    if (it ? is(it, "die") && it->part >= 500 : !lies()) forget_undo(file);
+    if (it ? is(it, "die") && it->part >= 500 : !lies(file)) forget_undo(file);
+    if (it && !is(it, "die")) lose_undo(file);
     if (it) done = go_wrong(it);
+    if (planted("retry")) done = 0;
     pthread_mutex_unlock(&lock);
     return done;
 }

@@ -102,10 +102,15 @@ class Disk:
         file = self.side / "fired"
         return file.read_text().splitlines() if file.exists() else []
 
+    def has_unsynced(self) -> bool:
+        """Whether the banks have what a power cut may take."""
+        return any(it.stat().st_size > 0 for it in self.side.glob("*.undo"))
+
     def cut_power(self) -> None:
         """Leaves what a power cut may leave."""
         for side in banks.SIDES:
-            bank, log, new = self.folder / f"{side}.bank", self.side / f"{side}.undo", self.side / f"{side}.new"
+            bank = self.folder / f"{side}.bank"
+            log, new, lost = (self.side / f"{side}.{kind}" for kind in ("undo", "new", "lost"))
             if bank.exists():
                 calls = calls_of(log.read_bytes() if log.exists() else b"")
                 image = undone(bank.read_bytes(), calls)
@@ -115,8 +120,8 @@ class Disk:
                 self.lost += len(calls)
                 if new.exists() and self.dice.random() < 0.5:
                     bank.unlink()
-            log.unlink(missing_ok=True)
-            new.unlink(missing_ok=True)
+            for it in (log, new, lost):
+                it.unlink(missing_ok=True)
 
     def empty(self) -> None:
         for folder in (self.folder, self.side):

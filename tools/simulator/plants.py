@@ -14,6 +14,8 @@ if TYPE_CHECKING:
 
 NAMES = {
     "unsynced": "a sync of the disk reports success and syncs nothing",
+    "retried": "a sync that failed is tried again, and that it succeeds then is believed",
+    "early": "a bank is opened and answered from without its sync",
     "lost": "the last record is lost at a stop",
     "back": "a tuple that was taken is there again after a stop",
     "missing": "a tuple that is to be there is lost after a stop",
@@ -89,7 +91,8 @@ class Plant:
 
     def plan(self) -> list[str]:
         """For disk.c."""
-        return ["change 0 lie 3"] if self.name == "unsynced" else []
+        line = {"unsynced": "change 0 lie 3", "retried": "change 0 retry 0", "early": "change 0 early 0"}.get(self.name)
+        return [line] if line else []
 
     def before_look(self, folder: Path) -> None:
         """On the banks of a server that has stopped, before they are read: closes the gate of the last record."""

@@ -107,7 +107,7 @@ class Round:
         while not self.is_over.is_set() and time.monotonic() < until:
             time.sleep(TICK)
             for server in self.servers:
-                if not server.lives():
+                if server.is_over():
                     server.stop()
                     server.start()
         if self.is_over.is_set():

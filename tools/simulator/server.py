@@ -31,6 +31,9 @@ SECONDS_FREE, SILENCE = 5.0, 20.0
 HARD, CHANGES_A_RECORD = 1_024, 4
 # Microseconds that a sync takes.
 SLOW = [0, 0, 300, 2_000, 5_000, 20_000]
+# How often the power is cut soon after a start, how often if the last life left what is not synced, and the seconds
+# after the start in which that comes.
+SHORT, SHORT_UNSYNCED, SOON = 0.2, 0.6, 0.05
 # So many changes the first start in a new folder makes.
 FIRST_CHANGES = 9
 # Seconds for which a client that holds a tuple may say nothing, if that is limited.
@@ -62,7 +65,9 @@ class Simulated:
         self.gate: Gate = network.add(self.model)
         self.process: subprocess.Popen[str] | None = None
         self.copies: list[tuple[str, list[str], Mark, Mark]] = []
-        self.has_plan = self.works_hard = False
+        self.has_plan = self.works_hard = self.was_unsynced = False
+        # Whether this life is to be short, and when the power is cut then.
+        self.is_short, self.cut_at = False, 0.0
         self.worker: threading.Thread | None = None
         self.is_to_rest = threading.Event()
 
@@ -90,6 +95,7 @@ class Simulated:
         tries = 0
         while True:
             tries += 1
+            self.was_unsynced = self.disk.has_unsynced()
             self.draw_plan(may_end=tries < 5)
             began = time.monotonic()
             words = [PROGRAM, "serve", "--port", "0", "--dir", str(self.disk.folder), *self.limits()]
@@ -151,6 +157,10 @@ class Simulated:
     def lives(self) -> bool:
         return self.process is not None and self.process.poll() is None
 
+    def is_over(self) -> bool:
+        """Whether it has ended, or is to end now by a power cut."""
+        return not self.lives() or (self.is_short and time.monotonic() >= self.cut_at)
+
     def has_ended(self, *words: str) -> None:
         """It has ended by itself: as planned, or with one of these lines after a call that failed."""
         assert self.process
@@ -182,10 +192,11 @@ class Simulated:
 
     def leave_disk(self) -> None:
         """What is left of its disk has to be what was answered."""
-        fired = self.disk.fired()
+        fired, is_short, self.is_short = self.disk.fired(), self.is_short, False
         # (after a call that failed the system's view of a file is not promised)
-        if self.dice.random() < 0.6 or (fired and not is_death(fired)):
+        if self.dice.random() < 0.5 or is_short or (fired and not is_death(fired)):
             self.counts["power cuts"] += 1
+            self.counts["of these soon after a start"] += is_short
             self.disk.cut_power()
         self.plant.before_look(self.disk.folder)
         found = self.disk.verdict()
@@ -222,6 +233,8 @@ class Simulated:
         """Before clients are let in: all that is to be there is offered, so nothing is held."""
         self.check_free(port, 0.0)
         self.note("clients are let in")
+        self.is_short = self.dice.random() < (SHORT_UNSYNCED if self.was_unsynced else SHORT)
+        self.cut_at = time.monotonic() + self.dice.random() * SOON
         self.network.open(self.gate, port)
         if self.works_hard:
             self.worker = threading.Thread(target=self.work_hard, args=(port,), daemon=True)

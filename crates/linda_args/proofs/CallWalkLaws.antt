@@ -11,7 +11,7 @@ use Rattle.clap.specs.Lexer.{long_of, short_of}
 use Rattle.clap.specs.Values.{bool_text}
 use Rattle.clap.specs.declared.parser.matches.ValueSource.{ValueSource}
 use Rattle.clap.specs.declared.parser.matches.ValueSource.TheVariants.{CommandLine, DefaultValue}
-use Rattle.linda_args.specs.Commands.{again_rule, client_rule, has_flag, linda, ports_rule}
+use Rattle.linda_args.specs.Commands.{again_rule, client_rule, explain_rule, has_flag, linda, ports_rule, together_rule}
 use Rattle.linda_args.specs.Marks.{help_letter}
 use Rattle.linda_args.proofs.LongSpellingLaws.{long_spelled}
 use Rattle.linda_args.proofs.ParsingLaws.{AsksToCall, call_stops, top}
@@ -33,8 +33,14 @@ ports = unwrap_or (slice_get checks 1) ports_rule
 abbrev again : Rule
 again = unwrap_or (slice_get checks 2) again_rule
 
+abbrev together : Rule
+together = unwrap_or (slice_get checks 3) together_rule
+
+abbrev explain : Rule
+explain = unwrap_or (slice_get checks 4) explain_rule
+
 abbrev help : Rule
-help = unwrap_or (slice_get checks 3) help_rule
+help = unwrap_or (slice_get checks 5) help_rule
 
 abbrev client_name : Text
 client_name = codes "client"
@@ -44,6 +50,12 @@ ports_name = codes "ports"
 
 abbrev again_name : Text
 again_name = codes "again"
+
+abbrev together_name : Text
+together_name = codes "together"
+
+abbrev explain_name : Text
+explain_name = codes "explain"
 
 abbrev again_word : Text
 again_word = codes "--again"
@@ -88,20 +100,26 @@ other_dropped id unlike (r ∷ rs) = go (bytes_eq r.id id) refl (other_dropped i
     go true t later = rw (t, not_mine r id t unlike) refl
     go false t later = rw t (mine_behind r (without id rs) rs later)
 
-other_put : (a : Rule) (vs : List Text) → bytes_eq a.id again_name ≡ false → (rows : List Row) → mine (with_values a.id (reading_by a) CommandLine vs rows) ≡ mine rows
-other_put a vs unlike [] = rw unlike refl
-other_put a vs unlike (r ∷ rs) = go (bytes_eq r.id a.id) refl (other_put a vs unlike rs)
+other_put : (a : Rule) (s : ValueSource) (vs : List Text) → bytes_eq a.id again_name ≡ false → (rows : List Row) → mine (with_values a.id (reading_by a) s vs rows) ≡ mine rows
+other_put a s vs unlike [] = rw unlike refl
+other_put a s vs unlike (r ∷ rs) = go (bytes_eq r.id a.id) refl (other_put a s vs unlike rs)
   where
-    go : (b : Bool) → bytes_eq r.id a.id ≡ b → mine (with_values a.id (reading_by a) CommandLine vs rs) ≡ mine rs
-        → mine (with_values a.id (reading_by a) CommandLine vs (r ∷ rs)) ≡ mine (r ∷ rs)
+    go : (b : Bool) → bytes_eq r.id a.id ≡ b → mine (with_values a.id (reading_by a) s vs rs) ≡ mine rs
+        → mine (with_values a.id (reading_by a) s vs (r ∷ rs)) ≡ mine (r ∷ rs)
     go true t later = rw (t, not_mine r a.id t unlike) refl
-    go false t later = rw t (mine_behind r (with_values a.id (reading_by a) CommandLine vs rs) rs later)
+    go false t later = rw t (mine_behind r (with_values a.id (reading_by a) s vs rs) rs later)
 
 client_used : (vs : List Text) (rows : List Row) → mine (used client vs rows) ≡ mine rows
-client_used vs rows = other_put client (values_or_missing client vs) refl (without client_name rows) ∙ other_dropped client_name refl rows
+client_used vs rows = other_put client CommandLine (values_or_missing client vs) refl (without client_name rows) ∙ other_dropped client_name refl rows
 
 ports_used : (vs : List Text) (rows : List Row) → mine (used ports vs rows) ≡ mine rows
-ports_used vs rows = other_put ports (values_or_missing ports vs) refl (without ports_name rows) ∙ other_dropped ports_name refl rows
+ports_used vs rows = other_put ports CommandLine (values_or_missing ports vs) refl (without ports_name rows) ∙ other_dropped ports_name refl rows
+
+together_used : (rows : List Row) → mine (used together [] rows) ≡ mine rows
+together_used rows = other_put together CommandLine (values_or_missing together []) refl (without together_name rows) ∙ other_dropped together_name refl rows
+
+explain_used : (rows : List Row) → mine (used explain [] rows) ≡ mine rows
+explain_used rows = other_put explain CommandLine (values_or_missing explain []) refl (without explain_name rows) ∙ other_dropped explain_name refl rows
 
 -- the flag is used
 abbrev behind : List Row → List Row
@@ -292,22 +310,32 @@ by_short b k rows pending x (Some flags) m p w =
     let met = bundles b (length flags) flags plain rows pending tt m p in
     after_place b (held rows pending) k x (bundle_met checks (length flags) flags 0 plain (held rows pending)).0 (bundle_met checks (length flags) flags 0 plain (held rows pending)).1 met.0 met.1 w
 
--- which argument a long name names: the client, the flag, the help, or none
+-- which argument a long name names: the client, the flag, another flag, the help, or none
 abbrev Named : Text → Type 0
 Named name = (arg_by_long checks name ≡ Some client) ⊎ (((again_name ≡ name) × (arg_by_long checks name ≡ Some again))
-    ⊎ ((arg_by_long checks name ≡ Some help) ⊎ (arg_by_long checks name ≡ None)))
+    ⊎ ((arg_by_long checks name ≡ Some together) ⊎ ((arg_by_long checks name ≡ Some explain)
+    ⊎ ((arg_by_long checks name ≡ Some help) ⊎ (arg_by_long checks name ≡ None)))))
 
 long_is : (name : Text) → Named name
 long_is name = go (bytes_eq client_name name) refl
   where
     other : (b : Bool) → bytes_eq (codes "help") name ≡ b → bytes_eq client_name name ≡ false → bytes_eq again_name name ≡ false
-        → (arg_by_long checks name ≡ Some help) ⊎ (arg_by_long checks name ≡ None)
-    other true t unlike no_again = inl (rw (unlike, no_again, t) refl)
-    other false t unlike no_again = inr (rw (unlike, no_again, t) refl)
+        → bytes_eq together_name name ≡ false → bytes_eq explain_name name ≡ false → (arg_by_long checks name ≡ Some help) ⊎ (arg_by_long checks name ≡ None)
+    other true t unlike no_again no_together no_explain = inl (rw (unlike, no_again, no_together, no_explain, t) refl)
+    other false t unlike no_again no_together no_explain = inr (rw (unlike, no_again, no_together, no_explain, t) refl)
+
+    explained : (b : Bool) → bytes_eq explain_name name ≡ b → bytes_eq client_name name ≡ false → bytes_eq again_name name ≡ false
+        → bytes_eq together_name name ≡ false → Named name
+    explained true t unlike no_again no_together = inr (inr (inr (inl (rw (unlike, no_again, no_together, t) refl))))
+    explained false t unlike no_again no_together = inr (inr (inr (inr (other (bytes_eq (codes "help") name) refl unlike no_again no_together t))))
+
+    joined : (b : Bool) → bytes_eq together_name name ≡ b → bytes_eq client_name name ≡ false → bytes_eq again_name name ≡ false → Named name
+    joined true t unlike no_again = inr (inr (inl (rw (unlike, no_again, t) refl)))
+    joined false t unlike no_again = explained (bytes_eq explain_name name) refl unlike no_again t
 
     flagged : (b : Bool) → bytes_eq again_name name ≡ b → bytes_eq client_name name ≡ false → Named name
     flagged true t unlike = inr (inl ((bytes_eq-Decides again_name name).0 t, rw (unlike, t) refl))
-    flagged false t unlike = inr (inr (other (bytes_eq (codes "help") name) refl unlike t))
+    flagged false t unlike = joined (bytes_eq together_name name) refl unlike t
 
     go : (b : Bool) → bytes_eq client_name name ≡ b → Named name
     go true t = inl (rw t refl)
@@ -352,7 +380,41 @@ help_met b k rows pending x (Some v) m p w = plain_place b (held rows pending) k
 help_met b k rows pending x None m p w =
     record { waiting = idle; kept = held (settled_rows checks pending rows) None; is = refl; keeps = settled_keeps b rows pending m p; fits = tt }
 
--- with a value the flag is refused
+-- with a value a flag is refused
+together_met : (b : Bool) (k : Waiting) (rows : List Row) (pending : Option (Text × List Text)) (x : Text) (v : Option Text) → mine rows ≡ marks b → Pends pending → Waits k
+    → Place b (long_walk k (held rows pending) x v (Some together))
+together_met b k rows pending x (Some v) m p w = plain_place b (held rows pending) k rows pending x m p w
+together_met b k rows pending x None m p w = record {
+  waiting = idle;
+  kept = held (used together [] (settled_rows checks pending rows)) None;
+  is = refl;
+  keeps = record {
+    rows = used together [] (settled_rows checks pending rows);
+    pending = None;
+    is = refl;
+    marked = together_used (settled_rows checks pending rows) ∙ settles_other pending rows p ∙ m;
+    pends = tt;
+  };
+  fits = tt;
+}
+
+explain_met : (b : Bool) (k : Waiting) (rows : List Row) (pending : Option (Text × List Text)) (x : Text) (v : Option Text) → mine rows ≡ marks b → Pends pending → Waits k
+    → Place b (long_walk k (held rows pending) x v (Some explain))
+explain_met b k rows pending x (Some v) m p w = plain_place b (held rows pending) k rows pending x m p w
+explain_met b k rows pending x None m p w = record {
+  waiting = idle;
+  kept = held (used explain [] (settled_rows checks pending rows)) None;
+  is = refl;
+  keeps = record {
+    rows = used explain [] (settled_rows checks pending rows);
+    pending = None;
+    is = refl;
+    marked = explain_used (settled_rows checks pending rows) ∙ settles_other pending rows p ∙ m;
+    pends = tt;
+  };
+  fits = tt;
+}
+
 again_met : (b : Bool) (k : Waiting) (rows : List Row) (pending : Option (Text × List Text)) (x : Text) (v : Option Text) → mine rows ≡ marks b → Pends pending → Waits k
     → (v ≡ None → ⊥) → Place b (long_walk k (held rows pending) x v (Some again))
 again_met b k rows pending x (Some v) m p w valued = plain_place b (held rows pending) k rows pending x m p w
@@ -365,8 +427,12 @@ by_long b k rows pending x name v m p w unlike (inl is) =
 by_long b k rows pending x name v m p w unlike (inr (inl h)) =
     subst (λ (f : Option Rule). Place b (long_walk k (held rows pending) x v f)) (sym h.1) (again_met b k rows pending x v m p w (unlike h.0))
 by_long b k rows pending x name v m p w unlike (inr (inr (inl is))) =
+    subst (λ (f : Option Rule). Place b (long_walk k (held rows pending) x v f)) (sym is) (together_met b k rows pending x v m p w)
+by_long b k rows pending x name v m p w unlike (inr (inr (inr (inl is)))) =
+    subst (λ (f : Option Rule). Place b (long_walk k (held rows pending) x v f)) (sym is) (explain_met b k rows pending x v m p w)
+by_long b k rows pending x name v m p w unlike (inr (inr (inr (inr (inl is))))) =
     subst (λ (f : Option Rule). Place b (long_walk k (held rows pending) x v f)) (sym is) (help_met b k rows pending x v m p w)
-by_long b k rows pending x name v m p w unlike (inr (inr (inr is))) =
+by_long b k rows pending x name v m p w unlike (inr (inr (inr (inr (inr is))))) =
     subst (λ (f : Option Rule). Place b (long_walk k (held rows pending) x v f)) (sym is) (plain_place b (held rows pending) k rows pending x m p w)
 
 -- ---- one word
@@ -517,15 +583,29 @@ with_text false rows e =
     ap (one_of again_name) (without_row again rows (has_mine rows ∙ ap (λ (rs : List Row). is_some (slice_get rs 0)) e))
     ∙ one_mine (with_values again_name (reading_by again) DefaultValue (codes "false" ∷ []) rows) ∙ ap text_in (own_put DefaultValue (codes "false" ∷ []) rows e)
 
-own_default : (rows : List Row) → fold with_default rows checks ≡ with_default rows again
+-- the defaults of the other flags
+beside : (a : Rule) (v : Text) (rows : List Row) → a.defaults ≡ v ∷ [] → bytes_eq a.id again_name ≡ false → mine (with_default rows a) ≡ mine rows
+beside a v rows d unlike = go (has_row a.id rows) refl
+  where
+    go : (t : Bool) → has_row a.id rows ≡ t → mine (with_default rows a) ≡ mine rows
+    go true t = rw t refl
+    go false t = rw (t, d) (other_put a DefaultValue (v ∷ []) unlike rows)
+
+own_default : (rows : List Row) → fold with_default rows checks ≡ with_default (with_default (with_default rows again) together) explain
 own_default rows =
-    no_default help (with_default (with_default (with_default rows client) ports) again) refl
-    ∙ ap (λ (rs : List Row). with_default rs again) (no_default ports (with_default rows client) refl ∙ no_default client rows refl)
+    no_default help (with_default (with_default (with_default (with_default (with_default rows client) ports) again) together) explain) refl
+    ∙ ap (λ (rs : List Row). with_default (with_default (with_default rs again) together) explain) (no_default ports (with_default rows client) refl ∙ no_default client rows refl)
+
+-- they change nothing of what is read of this one
+read_beside : (rows : List Row) → one_of again_name (with_default (with_default rows together) explain) ≡ one_of again_name rows
+read_beside rows =
+    one_mine (with_default (with_default rows together) explain)
+    ∙ ap text_in (beside explain (codes "false") (with_default rows together) refl refl ∙ beside together (codes "false") rows refl refl) ∙ sym (one_mine rows)
 
 pub flag_read : (xs : List Text) → one_of again_name (rows_after checks [] xs) ≡ Some (bool_text (has_flag again_word xs))
 flag_read xs =
     let rows = (settled checks (walk checks [] nothing_held xs).held).rows in
-    ap (one_of again_name) (own_default rows) ∙ with_text (has_flag again_word xs) rows (walks xs false idle [] None refl tt tt)
+    ap (one_of again_name) (own_default rows) ∙ read_beside (with_default rows again) ∙ with_text (has_flag again_word xs) rows (walks xs false idle [] None refl tt tt)
 
 -- the rows that the parser finds after `call`
 call_rows : (name : Text) (rest : List Text) → subcommand_of linda (name ∷ codes "call" ∷ rest) ≡ Some (codes "call", rows_after checks [] rest)

@@ -1,18 +1,19 @@
 -- What the walk over the words after `run` makes of each, and what passes from each place of it.
 use Rattle.std.proofs.Common.{◌≡◌, ◌⊎◌, ◌∙◌, ◌==◌, ◌++◌, ℕ, zero, suc, Bool, true, false, List, [], ◌∷◌, length, Option, Some, None, ap, refl, sym, subst, inl, inr, codes}
-use Rattle.std.specs.Prelude.{fold, is_some, pos, slice_get, unwrap_or}
+use Rattle.std.specs.Prelude.{find, fold, is_some, option_and_then, pos, slice_get, unwrap_or}
 use Rattle.std.specs.Str.{bytes_eq, chars}
 use Rattle.std.proofs.lemmas.Slice.Eq.{bytes_eq-Decides}
-use Rattle.clap.specs.Walk.{first_of, has_row, with_default, with_values, without, Held, Row, Rule, Step, Text, Waiting, Walk, idle, option, positional, after_step, arg_by_long, arg_by_short, long_or_other, plain_word, reacted, reading_by, settled, subcommand_met, used, walked, finished, bundle_met}
+use Rattle.clap.specs.Walk.{first_of, has_row, stronger, values_or_missing, with_default, with_values, without, Held, Row, Rule, Step, Text, Waiting, Walk, idle, option, positional, after_step, arg_by_long, arg_by_short, long_or_other, plain_word, reacted, reading_by, settled, subcommand_met, used, walked, finished, bundle_met}
 use Rattle.clap.specs.Simple.{help_rule}
 use Rattle.clap.specs.Lexer.{long_of, short_of}
 use Rattle.clap.specs.Kinds.{Kinds, or_else, value_kinds}
 use Rattle.clap.specs.Faults.{check_fault, defaults_fault, flag_word_fault, flags_fault, long_fault, react_fault, settle_fault, short_fault, step_fault, turn_fault, use_fault, walk_fault}
 use Rattle.clap.specs.declared.builder.value_parser.ValueParser.TheVariants as parsers
 use Rattle.clap.specs.declared.error.kind.ErrorKind.TheVariants as kind
-use Rattle.clap.specs.declared.parser.matches.ValueSource.TheVariants.{CommandLine}
+use Rattle.clap.specs.declared.parser.matches.ValueSource.{ValueSource}
+use Rattle.clap.specs.declared.parser.matches.ValueSource.TheVariants.{CommandLine, DefaultValue}
 use Rattle.clap.proofs.OnLiterals.{clap_on_literals}
-use Rattle.linda_args.specs.Commands.{IsEnd, servers_rule, trace_rule}
+use Rattle.linda_args.specs.Commands.{IsEnd, explain_rule, servers_rule, trace_rule}
 use Rattle.linda_args.specs.Marks.{help_letter}
 use Rattle.linda_client.specs.declared.limits.TheConstants.{MAX_SERVERS}
 use Rattle.linda_args.proofs.ParsingLaws.{first_empty, second_empty, runner}
@@ -28,14 +29,20 @@ servers = unwrap_or (slice_get checks 0) servers_rule
 abbrev pub trace : Rule
 trace = unwrap_or (slice_get checks 1) trace_rule
 
+abbrev pub explain : Rule
+explain = unwrap_or (slice_get checks 2) explain_rule
+
 abbrev pub help : Rule
-help = unwrap_or (slice_get checks 2) help_rule
+help = unwrap_or (slice_get checks 3) help_rule
 
 abbrev pub the_name : Text
 the_name = codes "servers"
 
 abbrev pub trace_name : Text
 trace_name = codes "trace"
+
+abbrev pub explain_name : Text
+explain_name = codes "explain"
 
 -- ---- where the walk stands
 
@@ -94,7 +101,7 @@ trailing k h (x ∷ xs) e = let bad : kind.UnknownArgument ∷ [] ≡ [] = e in 
 
 -- ---- what a word comes to, where no fault comes of it
 
--- `--`; the option alone; the option with a number; the option of the trace, alone or with its file; a word that is no option
+-- `--`; the option alone; the option with a number; the option of the trace, alone or with its file; the flag; a word that is no option
 pub data Goes (k : Waiting) (rows : List Row) (pending : Option (Text × List Text)) (x : Text) : Walk → Type 0 where
   ends : x ≡ codes "--" → Goes k rows pending x (trail k (held rows pending))
   asks : long_of x ≡ Some (the_name, None) → settle_fault checks false (held rows pending) ≡ []
@@ -105,6 +112,8 @@ pub data Goes (k : Waiting) (rows : List Row) (pending : Option (Text × List Te
       → Goes k rows pending x (at (option trace_name) (asking_trace (settled checks (held rows pending)).rows))
   says_trace : (v : Text) → long_of x ≡ Some (trace_name, Some v) → react_fault checks false trace (v ∷ []) (held rows pending) ≡ []
       → Goes k rows pending x (at idle (held (reacted checks trace (v ∷ []) (held rows pending)).rows None))
+  marks : long_of x ≡ Some (explain_name, None) → react_fault checks false explain [] (held rows pending) ≡ []
+      → Goes k rows pending x (at idle (held (reacted checks explain [] (held rows pending)).rows None))
   stays : step_fault runner 1 (plain_word checks k x (held rows pending)).0 (plain_word checks k x (held rows pending)).1 ≡ []
       → Goes k rows pending x (after_step checks x (at k (held rows pending)) (plain_word checks k x (held rows pending)).0 (plain_word checks k x (held rows pending)).1)
 
@@ -117,23 +126,28 @@ turn_of k h x o = or_else (flag_word_fault checks false o x h) (step_fault runne
 abbrev pub next_of : Waiting → Held → Text → Option (Text × Option Text) → Walk
 next_of k h x o = after_step checks x (at k h) (met_of k h x o).0 (met_of k h x o).1
 
--- which argument a long name names: the number of servers, the trace, the help, or none
+-- which argument a long name names: the number of servers, the trace, the flag, the help, or none
 abbrev Named : Text → Type 0
 Named name =
     ((the_name ≡ name) × (arg_by_long checks name ≡ Some servers)) ⊎ (((trace_name ≡ name) × (arg_by_long checks name ≡ Some trace))
-    ⊎ ((arg_by_long checks name ≡ Some help) ⊎ (arg_by_long checks name ≡ None)))
+    ⊎ (((explain_name ≡ name) × (arg_by_long checks name ≡ Some explain))
+    ⊎ ((arg_by_long checks name ≡ Some help) ⊎ (arg_by_long checks name ≡ None))))
 
 long_is : (name : Text) → Named name
 long_is name = go (bytes_eq the_name name) refl
   where
-    other : (b : Bool) → bytes_eq (codes "help") name ≡ b → bytes_eq the_name name ≡ false → bytes_eq trace_name name ≡ false
+    other : (b : Bool) → bytes_eq (codes "help") name ≡ b → bytes_eq the_name name ≡ false → bytes_eq trace_name name ≡ false → bytes_eq explain_name name ≡ false
         → (arg_by_long checks name ≡ Some help) ⊎ (arg_by_long checks name ≡ None)
-    other true t unlike no_trace = inl (rw (unlike, no_trace, t) refl)
-    other false t unlike no_trace = inr (rw (unlike, no_trace, t) refl)
+    other true t unlike no_trace no_explain = inl (rw (unlike, no_trace, no_explain, t) refl)
+    other false t unlike no_trace no_explain = inr (rw (unlike, no_trace, no_explain, t) refl)
+
+    explained : (b : Bool) → bytes_eq explain_name name ≡ b → bytes_eq the_name name ≡ false → bytes_eq trace_name name ≡ false → Named name
+    explained true t unlike no_trace = inr (inr (inl ((bytes_eq-Decides explain_name name).0 t, rw (unlike, no_trace, t) refl)))
+    explained false t unlike no_trace = inr (inr (inr (other (bytes_eq (codes "help") name) refl unlike no_trace t)))
 
     traced : (b : Bool) → bytes_eq trace_name name ≡ b → bytes_eq the_name name ≡ false → Named name
     traced true t unlike = inr (inl ((bytes_eq-Decides trace_name name).0 t, rw (unlike, t) refl))
-    traced false t unlike = inr (inr (other (bytes_eq (codes "help") name) refl unlike t))
+    traced false t unlike = explained (bytes_eq explain_name name) refl unlike t
 
     go : (b : Bool) → bytes_eq the_name name ≡ b → Named name
     go true t = inl ((bytes_eq-Decides the_name name).0 t, rw t refl)
@@ -176,6 +190,14 @@ by_trace k rows pending x name (Some v) is found e =
     let turn = rw found at e in
     rw found (says_trace v is (first_empty _ _ turn))
 
+by_mark : (k : Waiting) (rows : List Row) (pending : Option (Text × List Text)) (x name : Text) (o : Option Text)
+    → long_of x ≡ Some (explain_name, o) → arg_by_long checks name ≡ Some explain → turn_of k (held rows pending) x (Some (name, o)) ≡ []
+    → Goes k rows pending x (next_of k (held rows pending) x (Some (name, o)))
+by_mark k rows pending x name None is found e =
+    let turn = rw found at e in
+    rw found (marks is (first_empty _ _ turn))
+by_mark k rows pending x name (Some v) is found e = let bad : kind.TooManyValues ∷ [] ≡ [] = rw found at e in cc
+
 by_long : (k : Waiting) (rows : List Row) (pending : Option (Text × List Text)) (x name : Text) (o : Option Text)
     → long_of x ≡ Some (name, o) → turn_of k (held rows pending) x (Some (name, o)) ≡ []
     → Goes k rows pending x (next_of k (held rows pending) x (Some (name, o)))
@@ -188,10 +210,11 @@ by_long k rows pending x name o is e = go (long_is name)
     go : Named name → Goes k rows pending x (next_of k (held rows pending) x (Some (name, o)))
     go (inl h) = by_found k rows pending x name o (subst (λ (n : Text). long_of x ≡ Some (n, o)) (sym h.0) is) h.1 e
     go (inr (inl h)) = by_trace k rows pending x name o (subst (λ (n : Text). long_of x ≡ Some (n, o)) (sym h.0) is) h.1 e
-    go (inr (inr (inl h))) =
+    go (inr (inr (inl h))) = by_mark k rows pending x name o (subst (λ (n : Text). long_of x ≡ Some (n, o)) (sym h.0) is) h.1 e
+    go (inr (inr (inr (inl h)))) =
         let at_help = ap (λ f. or_else (long_fault checks false f o (held rows pending)) (step_fault runner 1 (met_of k (held rows pending) x (Some (name, o))).0 (met_of k (held rows pending) x (Some (name, o))).1)) (sym h) in
         absurd (helps o (at_help ∙ e))
-    go (inr (inr (inr h))) = let bad : kind.UnknownArgument ∷ [] ≡ [] = rw h at e in cc
+    go (inr (inr (inr (inr h)))) = let bad : kind.UnknownArgument ∷ [] ≡ [] = rw h at e in cc
 
 -- flags are refused, but where they have no character
 char_turn : (k : Waiting) (rows : List Row) (pending : Option (Text × List Text)) (x flags : Text) (n : ℕ) (o : Option ℕ) → slice_get (chars flags) 0 ≡ o
@@ -254,6 +277,9 @@ settles h e = first_empty (settle_fault checks false h) (or_else (defaults_fault
 pub settles_first : (a : Rule) (h : Held) (v : Text) → react_fault checks false a (v ∷ []) h ≡ [] → settle_fault checks false h ≡ []
 settles_first a h v e = first_empty (settle_fault checks false h) (use_fault false a (v ∷ []) (settled checks h).rows) e
 
+pub settles_mark : (h : Held) → react_fault checks false explain [] h ≡ [] → settle_fault checks false h ≡ []
+settles_mark h e = first_empty (settle_fault checks false h) (use_fault false explain [] (settled checks h).rows) e
+
 pub then_used : (h : Held) (v : Text) → react_fault checks false servers (v ∷ []) h ≡ [] → use_fault false servers (v ∷ []) (settled checks h).rows ≡ []
 then_used h v e = second_empty (settle_fault checks false h) (use_fault false servers (v ∷ []) (settled checks h).rows) e
 
@@ -280,6 +306,7 @@ from_asking rows (x ∷ xs) e =
     go w (says v is react) f = absurd (asking_refused rows (settles_first servers (asking rows) v react))
     go w (asks_trace is settle) f = absurd (asking_refused rows settle)
     go w (says_trace v is react) f = absurd (asking_refused rows (settles_first trace (asking rows) v react))
+    go w (marks is react) f = absurd (asking_refused rows (settles_mark (asking rows) react))
     go w (stays step) f = record { v = x; later = xs; spelled = refl; passes = f }
 
 -- the row of the option with its number
@@ -302,6 +329,7 @@ told_twice_refused u v (x ∷ xs) e =
     go w (says n is react) f = twice_refused u v (settles_first servers (told (row u ∷ []) v) n react)
     go w (asks_trace is settle) f = twice_refused u v settle
     go w (says_trace n is react) f = twice_refused u v (settles_first trace (told (row u ∷ []) v) n react)
+    go w (marks is react) f = twice_refused u v (settles_mark (told (row u ∷ []) v) react)
     go w (stays step) f = let bad : kind.UnknownArgument ∷ [] ≡ [] = step in cc
 
 asked_twice_refused : (u : Text) (xs : List Text) → from (at (option the_name) (asking (row u ∷ []))) xs ≡ [] → ⊥
@@ -309,48 +337,68 @@ asked_twice_refused u xs e =
     let t = from_asking (row u ∷ []) xs e in
     told_twice_refused u t.v t.later t.passes
 
--- ---- a trace that is found stays found
+-- ---- a trace or a flag that is found stays found
 
 -- the rows at the end of these words
 abbrev pub ending : Walk → List Text → List Row
 ending w xs = finished checks (fold (walked checks []) w xs).held
 
+-- the row of this name
+abbrev row_named : Text → List Row → Option Row
+row_named name rows = find (λ r. bytes_eq r.id name) rows
+
+-- where its values came from
+abbrev pub source_of : Text → List Row → Option ValueSource
+source_of name rows = option_and_then (λ r. r.source) (row_named name rows)
+
 -- a file is found for the trace
 abbrev pub has_trace : List Row → Type 0
 has_trace rows = is_some (first_of trace_name rows) ≡ true
 
--- a row of the other option
-no_trace_row : (r : Row) → bytes_eq r.id the_name ≡ true → bytes_eq r.id trace_name ≡ false
-no_trace_row r t = ap (λ (n : Text). bytes_eq n trace_name) ((bytes_eq-Decides r.id the_name).0 t)
+-- the flag is found
+abbrev pub has_mark : List Row → Type 0
+has_mark rows = source_of explain_name rows ≡ Some CommandLine
 
-same_behind : (r : Row) (xs ys : List Row) → first_of trace_name xs ≡ first_of trace_name ys → first_of trace_name (r ∷ xs) ≡ first_of trace_name (r ∷ ys)
-same_behind r xs ys e = go (bytes_eq r.id trace_name) refl
+-- one of the two
+abbrev pub has_more : List Row → Type 0
+has_more rows = has_trace rows ⊎ has_mark rows
+
+-- a row of another name
+not_named : (r : Row) (id name : Text) → bytes_eq r.id id ≡ true → bytes_eq id name ≡ false → bytes_eq r.id name ≡ false
+not_named r id name t unlike = ap (λ (n : Text). bytes_eq n name) ((bytes_eq-Decides r.id id).0 t) ∙ unlike
+
+same_behind : (name : Text) (r : Row) (xs ys : List Row) → row_named name xs ≡ row_named name ys → row_named name (r ∷ xs) ≡ row_named name (r ∷ ys)
+same_behind name r xs ys e = go (bytes_eq r.id name) refl
   where
-    go : (b : Bool) → bytes_eq r.id trace_name ≡ b → first_of trace_name (r ∷ xs) ≡ first_of trace_name (r ∷ ys)
+    go : (b : Bool) → bytes_eq r.id name ≡ b → row_named name (r ∷ xs) ≡ row_named name (r ∷ ys)
     go true t = rw t refl
     go false t = rw t e
 
-number_dropped : (rows : List Row) → first_of trace_name (without the_name rows) ≡ first_of trace_name rows
-number_dropped [] = refl
-number_dropped (r ∷ rs) = go (bytes_eq r.id the_name) refl (number_dropped rs)
+other_dropped : (id name : Text) → bytes_eq id name ≡ false → (rows : List Row) → row_named name (without id rows) ≡ row_named name rows
+other_dropped id name unlike [] = refl
+other_dropped id name unlike (r ∷ rs) = go (bytes_eq r.id id) refl (other_dropped id name unlike rs)
   where
-    go : (b : Bool) → bytes_eq r.id the_name ≡ b → first_of trace_name (without the_name rs) ≡ first_of trace_name rs
-        → first_of trace_name (without the_name (r ∷ rs)) ≡ first_of trace_name (r ∷ rs)
-    go true t later = rw (t, no_trace_row r t) refl
-    go false t later = rw t (same_behind r (without the_name rs) rs later)
+    go : (b : Bool) → bytes_eq r.id id ≡ b → row_named name (without id rs) ≡ row_named name rs → row_named name (without id (r ∷ rs)) ≡ row_named name (r ∷ rs)
+    go true t later = rw (t, not_named r id name t unlike) refl
+    go false t later = rw t (same_behind name r (without id rs) rs later)
 
-number_put : (v : Text) (rows : List Row) → first_of trace_name (with_values the_name (reading_by servers) CommandLine (v ∷ []) rows) ≡ first_of trace_name rows
-number_put v [] = refl
-number_put v (r ∷ rs) = go (bytes_eq r.id the_name) refl (number_put v rs)
+other_put : (a : Rule) (s : ValueSource) (vs : List Text) (name : Text) → bytes_eq a.id name ≡ false → (rows : List Row)
+    → row_named name (with_values a.id (reading_by a) s vs rows) ≡ row_named name rows
+other_put a s vs name unlike [] = rw unlike refl
+other_put a s vs name unlike (r ∷ rs) = go (bytes_eq r.id a.id) refl (other_put a s vs name unlike rs)
   where
-    go : (b : Bool) → bytes_eq r.id the_name ≡ b → first_of trace_name (with_values the_name (reading_by servers) CommandLine (v ∷ []) rs) ≡ first_of trace_name rs
-        → first_of trace_name (with_values the_name (reading_by servers) CommandLine (v ∷ []) (r ∷ rs)) ≡ first_of trace_name (r ∷ rs)
-    go true t later = rw (t, no_trace_row r t) refl
-    go false t later = rw t (same_behind r (with_values the_name (reading_by servers) CommandLine (v ∷ []) rs) rs later)
+    go : (b : Bool) → bytes_eq r.id a.id ≡ b → row_named name (with_values a.id (reading_by a) s vs rs) ≡ row_named name rs
+        → row_named name (with_values a.id (reading_by a) s vs (r ∷ rs)) ≡ row_named name (r ∷ rs)
+    go true t later = rw (t, not_named r a.id name t unlike) refl
+    go false t later = rw t (same_behind name r (with_values a.id (reading_by a) s vs rs) rs later)
 
--- the number of servers is used, and the trace is there as before
-number_keeps : (v : Text) (rows : List Row) → has_trace rows → has_trace (used servers (v ∷ []) rows)
-number_keeps v rows h = ap is_some (number_put v (without the_name rows) ∙ number_dropped rows) ∙ h
+-- the number of servers is used: the rows of other names are as before
+number_used : (v : Text) (name : Text) → bytes_eq the_name name ≡ false → (rows : List Row) → row_named name (used servers (v ∷ []) rows) ≡ row_named name rows
+number_used v name unlike rows = other_put servers CommandLine (v ∷ []) name unlike (without the_name rows) ∙ other_dropped the_name name unlike rows
+
+number_keeps : (v : Text) (rows : List Row) → has_more rows → has_more (used servers (v ∷ []) rows)
+number_keeps v rows (inl h) = inl (ap (λ (o : Option Row). is_some (option_and_then (λ (r : Row). slice_get r.values 0) o)) (number_used v trace_name refl rows) ∙ h)
+number_keeps v rows (inr h) = inr (ap (λ (o : Option Row). option_and_then (λ (r : Row). r.source) o) (number_used v explain_name refl rows) ∙ h)
 
 some_value : (vs : List Text) (v : Text) → is_some (slice_get (vs ++ v ∷ []) 0) ≡ true
 some_value [] v = refl
@@ -369,6 +417,24 @@ trace_put v (r ∷ rs) = go (bytes_eq r.id trace_name) refl (trace_put v rs)
 pub trace_used : (v : Text) (rows : List Row) → has_trace (used trace (v ∷ []) rows)
 trace_used v rows = trace_put v (without trace_name rows)
 
+-- the flag is used
+by_words : (s : Option ValueSource) → stronger s CommandLine ≡ CommandLine
+by_words None = refl
+by_words (Some CommandLine) = refl
+by_words (Some DefaultValue) = refl
+
+mark_put : (vs : List Text) (rows : List Row) → has_mark (with_values explain_name (reading_by explain) CommandLine vs rows)
+mark_put vs [] = refl
+mark_put vs (r ∷ rs) = go (bytes_eq r.id explain_name) refl (mark_put vs rs)
+  where
+    go : (b : Bool) → bytes_eq r.id explain_name ≡ b → has_mark (with_values explain_name (reading_by explain) CommandLine vs rs)
+        → has_mark (with_values explain_name (reading_by explain) CommandLine vs (r ∷ rs))
+    go true t later = rw (t, t) (ap (λ (s : ValueSource). Some s) (by_words r.source))
+    go false t later = rw (t, t) later
+
+pub mark_used : (rows : List Row) → has_mark (used explain [] rows)
+mark_used rows = mark_put (values_or_missing explain []) (without explain_name rows)
+
 pub no_default : (a : Rule) (rows : List Row) → a.defaults ≡ [] → with_default rows a ≡ rows
 no_default a rows e = go (has_row a.id rows) refl
   where
@@ -376,22 +442,44 @@ no_default a rows e = go (has_row a.id rows) refl
     go true t = rw t refl
     go false t = rw (t, e) refl
 
-no_defaults : (rows : List Row) → fold with_default rows checks ≡ rows
-no_defaults rows =
-    no_default help (with_default (with_default rows servers) trace) refl ∙ no_default trace (with_default rows servers) refl ∙ no_default servers rows refl
+own_default : (rows : List Row) → fold with_default rows checks ≡ with_default rows explain
+own_default rows =
+    no_default help (with_default (with_default (with_default rows servers) trace) explain) refl
+    ∙ ap (λ (rs : List Row). with_default rs explain) (no_default trace (with_default rows servers) refl ∙ no_default servers rows refl)
 
-finishes : (rows : List Row) → has_trace rows → has_trace (fold with_default rows checks)
-finishes rows h = subst has_trace (sym (no_defaults rows)) h
+-- the default of the flag changes no other row, and not its own if that is there
+trace_beside : (rows : List Row) → row_named trace_name (with_default rows explain) ≡ row_named trace_name rows
+trace_beside rows = go (has_row explain_name rows) refl
+  where
+    go : (b : Bool) → has_row explain_name rows ≡ b → row_named trace_name (with_default rows explain) ≡ row_named trace_name rows
+    go true t = rw t refl
+    go false t = rw t (other_put explain DefaultValue (codes "false" ∷ []) trace_name refl rows)
+
+has_marked_row : (rows : List Row) → has_mark rows → has_row explain_name rows ≡ true
+has_marked_row [] h = let bad : None ≡ Some CommandLine = h in cc
+has_marked_row (r ∷ rs) h = go (bytes_eq r.id explain_name) refl (has_marked_row rs)
+  where
+    go : (b : Bool) → bytes_eq r.id explain_name ≡ b → (has_mark rs → has_row explain_name rs ≡ true) → has_row explain_name (r ∷ rs) ≡ true
+    go true t later = rw t refl
+    go false t later = rw t (later (rw t at h))
+
+mark_stays : (rows : List Row) → has_mark rows → has_mark (with_default rows explain)
+mark_stays rows h = rw (has_marked_row rows h) h
+
+finishes : (rows : List Row) → has_more rows → has_more (fold with_default rows checks)
+finishes rows (inl h) =
+    subst has_more (sym (own_default rows)) (inl (ap (λ (o : Option Row). is_some (option_and_then (λ (r : Row). slice_get r.values 0) o)) (trace_beside rows) ∙ h))
+finishes rows (inr h) = subst has_more (sym (own_default rows)) (inr (mark_stays rows h))
 
 asking_trace_refused : (rows : List Row) → settle_fault checks false (asking_trace rows) ≡ [] → ⊥
 asking_trace_refused rows e = let bad : kind.InvalidValue ∷ [] ≡ [] = e in cc
 
--- whatever words come: where a trace was found, one is found at the end
+-- whatever words come: if a trace or the flag was found, one is found at the end
 pub record Kept (xs : List Text) : Type 0 where
-  pub idly : (rows : List Row) (pending : Option (Text × List Text)) → has_trace (settled checks (held rows pending)).rows
-      → from (at idle (held rows pending)) xs ≡ [] → has_trace (ending (at idle (held rows pending)) xs)
-  pub number : (rows : List Row) → has_trace rows → from (at (option the_name) (asking rows)) xs ≡ [] → has_trace (ending (at (option the_name) (asking rows)) xs)
-  pub file : (rows : List Row) → from (at (option trace_name) (asking_trace rows)) xs ≡ [] → has_trace (ending (at (option trace_name) (asking_trace rows)) xs)
+  pub idly : (rows : List Row) (pending : Option (Text × List Text)) → has_more (settled checks (held rows pending)).rows
+      → from (at idle (held rows pending)) xs ≡ [] → has_more (ending (at idle (held rows pending)) xs)
+  pub number : (rows : List Row) → has_more rows → from (at (option the_name) (asking rows)) xs ≡ [] → has_more (ending (at (option the_name) (asking rows)) xs)
+  pub file : (rows : List Row) → from (at (option trace_name) (asking_trace rows)) xs ≡ [] → has_more (ending (at (option trace_name) (asking_trace rows)) xs)
 
 kept_none : Kept []
 kept_none = record {
@@ -400,51 +488,55 @@ kept_none = record {
   file = λ rows e. absurd (asking_trace_refused rows (settles (asking_trace rows) (sym (from_end (at (option trace_name) (asking_trace rows))) ∙ e)));
 }
 
-idly_more : (x : Text) (xs : List Text) → Kept xs → (rows : List Row) (pending : Option (Text × List Text)) → has_trace (settled checks (held rows pending)).rows
-    → from (at idle (held rows pending)) (x ∷ xs) ≡ [] → has_trace (ending (at idle (held rows pending)) (x ∷ xs))
+idly_more : (x : Text) (xs : List Text) → Kept xs → (rows : List Row) (pending : Option (Text × List Text)) → has_more (settled checks (held rows pending)).rows
+    → from (at idle (held rows pending)) (x ∷ xs) ≡ [] → has_more (ending (at idle (held rows pending)) (x ∷ xs))
 idly_more x xs k rows pending h e =
     let s = stepped (at idle (held rows pending)) x xs e in
     go _ (goes idle rows pending x s.0) s.1
   where
-    go : (w : Walk) → Goes idle rows pending x w → from w xs ≡ [] → has_trace (ending w xs)
+    go : (w : Walk) → Goes idle rows pending x w → from w xs ≡ [] → has_more (ending w xs)
     go w (ends is) f =
-        subst (λ (ys : List Text). has_trace (ending (trail idle (held rows pending)) ys)) (sym (trailing idle (held rows pending) xs f).0)
+        subst (λ (ys : List Text). has_more (ending (trail idle (held rows pending)) ys)) (sym (trailing idle (held rows pending) xs f).0)
         (finishes (settled checks (held rows pending)).rows h)
     go w (asks is settle) f = k.number (settled checks (held rows pending)).rows h f
     go w (says v is react) f =
         k.idly (reacted checks servers (v ∷ []) (held rows pending)).rows None (number_keeps v (settled checks (held rows pending)).rows h) f
     go w (asks_trace is settle) f = k.file (settled checks (held rows pending)).rows f
     go w (says_trace v is react) f =
-        k.idly (reacted checks trace (v ∷ []) (held rows pending)).rows None (trace_used v (settled checks (held rows pending)).rows) f
+        k.idly (reacted checks trace (v ∷ []) (held rows pending)).rows None (inl (trace_used v (settled checks (held rows pending)).rows)) f
+    go w (marks is react) f =
+        k.idly (reacted checks explain [] (held rows pending)).rows None (inr (mark_used (settled checks (held rows pending)).rows)) f
     go w (stays step) f = let bad : kind.UnknownArgument ∷ [] ≡ [] = step in cc
 
-number_more : (x : Text) (xs : List Text) → Kept xs → (rows : List Row) → has_trace rows → from (at (option the_name) (asking rows)) (x ∷ xs) ≡ []
-    → has_trace (ending (at (option the_name) (asking rows)) (x ∷ xs))
+number_more : (x : Text) (xs : List Text) → Kept xs → (rows : List Row) → has_more rows → from (at (option the_name) (asking rows)) (x ∷ xs) ≡ []
+    → has_more (ending (at (option the_name) (asking rows)) (x ∷ xs))
 number_more x xs k rows h e =
     let s = stepped (at (option the_name) (asking rows)) x xs e in
     go _ (goes (option the_name) rows (Some (the_name, [])) x s.0) s.1
   where
-    go : (w : Walk) → Goes (option the_name) rows (Some (the_name, [])) x w → from w xs ≡ [] → has_trace (ending w xs)
+    go : (w : Walk) → Goes (option the_name) rows (Some (the_name, [])) x w → from w xs ≡ [] → has_more (ending w xs)
     go w (ends is) f = absurd (asking_refused rows (settles (asking rows) (trailing (option the_name) (asking rows) xs f).1))
     go w (asks is settle) f = absurd (asking_refused rows settle)
     go w (says v is react) f = absurd (asking_refused rows (settles_first servers (asking rows) v react))
     go w (asks_trace is settle) f = absurd (asking_refused rows settle)
     go w (says_trace v is react) f = absurd (asking_refused rows (settles_first trace (asking rows) v react))
+    go w (marks is react) f = absurd (asking_refused rows (settles_mark (asking rows) react))
     go w (stays step) f = k.idly rows (Some (the_name, x ∷ [])) (number_keeps x rows h) f
 
 file_more : (x : Text) (xs : List Text) → Kept xs → (rows : List Row) → from (at (option trace_name) (asking_trace rows)) (x ∷ xs) ≡ []
-    → has_trace (ending (at (option trace_name) (asking_trace rows)) (x ∷ xs))
+    → has_more (ending (at (option trace_name) (asking_trace rows)) (x ∷ xs))
 file_more x xs k rows e =
     let s = stepped (at (option trace_name) (asking_trace rows)) x xs e in
     go _ (goes (option trace_name) rows (Some (trace_name, [])) x s.0) s.1
   where
-    go : (w : Walk) → Goes (option trace_name) rows (Some (trace_name, [])) x w → from w xs ≡ [] → has_trace (ending w xs)
+    go : (w : Walk) → Goes (option trace_name) rows (Some (trace_name, [])) x w → from w xs ≡ [] → has_more (ending w xs)
     go w (ends is) f = absurd (asking_trace_refused rows (settles (asking_trace rows) (trailing (option trace_name) (asking_trace rows) xs f).1))
     go w (asks is settle) f = absurd (asking_trace_refused rows settle)
     go w (says v is react) f = absurd (asking_trace_refused rows (settles_first servers (asking_trace rows) v react))
     go w (asks_trace is settle) f = absurd (asking_trace_refused rows settle)
     go w (says_trace v is react) f = absurd (asking_trace_refused rows (settles_first trace (asking_trace rows) v react))
-    go w (stays step) f = k.idly rows (Some (trace_name, x ∷ [])) (trace_used x rows) f
+    go w (marks is react) f = absurd (asking_trace_refused rows (settles_mark (asking_trace rows) react))
+    go w (stays step) f = k.idly rows (Some (trace_name, x ∷ [])) (inl (trace_used x rows)) f
 
 pub kept : (xs : List Text) → Kept xs
 kept [] = kept_none
@@ -455,35 +547,37 @@ abbrev pub passes_as_number : Text → Type 0
 passes_as_number v = value_kinds false (parsers.Signed (pos 1) (pos MAX_SERVERS)) v ≡ []
 
 pub from_given : (u : Text) (xs : List Text) → from (at idle (held (row u ∷ []) None)) xs ≡ []
-    → IsEnd xs ⊎ has_trace (ending (at idle (held (row u ∷ []) None)) xs)
+    → IsEnd xs ⊎ has_more (ending (at idle (held (row u ∷ []) None)) xs)
 from_given u [] e = inl (inl refl)
 from_given u (x ∷ xs) e =
     let s = stepped (at idle (held (row u ∷ []) None)) x xs e in
     go _ (goes idle (row u ∷ []) None x s.0) s.1
   where
-    go : (w : Walk) → Goes idle (row u ∷ []) None x w → from w xs ≡ [] → IsEnd (x ∷ xs) ⊎ has_trace (ending w xs)
+    go : (w : Walk) → Goes idle (row u ∷ []) None x w → from w xs ≡ [] → IsEnd (x ∷ xs) ⊎ has_more (ending w xs)
     go w (ends is) f = inl (inr (rw (is, (trailing idle (held (row u ∷ []) None) xs f).0) refl))
     go w (asks is settle) f = absurd (asked_twice_refused u xs f)
     go w (says n is react) f = let bad : kind.ArgumentConflict ∷ [] ≡ [] = react in cc
     go w (asks_trace is settle) f = inr ((kept xs).file (row u ∷ []) f)
-    go w (says_trace n is react) f = inr ((kept xs).idly (used trace (n ∷ []) (row u ∷ [])) None (trace_used n (row u ∷ [])) f)
+    go w (says_trace n is react) f = inr ((kept xs).idly (used trace (n ∷ []) (row u ∷ [])) None (inl (trace_used n (row u ∷ []))) f)
+    go w (marks is react) f = inr ((kept xs).idly (used explain [] (row u ∷ [])) None (inr (mark_used (row u ∷ []))) f)
     go w (stays step) f = let bad : kind.UnknownArgument ∷ [] ≡ [] = step in cc
 
 pub number_passes : (v : Text) → use_fault false servers (v ∷ []) [] ≡ [] → passes_as_number v
 number_passes v e = first_empty (value_kinds false (parsers.Signed (pos 1) (pos MAX_SERVERS)) v) [] e
 
-pub from_told : (v : Text) (xs : List Text) → from (at idle (told [] v)) xs ≡ [] → (passes_as_number v × IsEnd xs) ⊎ has_trace (ending (at idle (told [] v)) xs)
+pub from_told : (v : Text) (xs : List Text) → from (at idle (told [] v)) xs ≡ [] → (passes_as_number v × IsEnd xs) ⊎ has_more (ending (at idle (told [] v)) xs)
 from_told v [] e = inl (number_passes v (settles (told [] v) (sym (from_end (at idle (told [] v))) ∙ e)), inl refl)
 from_told v (x ∷ xs) e =
     let s = stepped (at idle (told [] v)) x xs e in
     go _ (goes idle [] (Some (the_name, v ∷ [])) x s.0) s.1
   where
-    go : (w : Walk) → Goes idle [] (Some (the_name, v ∷ [])) x w → from w xs ≡ [] → (passes_as_number v × IsEnd (x ∷ xs)) ⊎ has_trace (ending w xs)
+    go : (w : Walk) → Goes idle [] (Some (the_name, v ∷ [])) x w → from w xs ≡ [] → (passes_as_number v × IsEnd (x ∷ xs)) ⊎ has_more (ending w xs)
     go w (ends is) f =
         let t = trailing idle (told [] v) xs f in
         inl (number_passes v (settles (told [] v) t.1), inr (rw (is, t.0) refl))
     go w (asks is settle) f = absurd (asked_twice_refused v xs f)
     go w (says n is react) f = let bad : kind.ArgumentConflict ∷ [] ≡ [] = then_used (told [] v) n react in cc
     go w (asks_trace is settle) f = inr ((kept xs).file (row v ∷ []) f)
-    go w (says_trace n is react) f = inr ((kept xs).idly (used trace (n ∷ []) (row v ∷ [])) None (trace_used n (row v ∷ [])) f)
+    go w (says_trace n is react) f = inr ((kept xs).idly (used trace (n ∷ []) (row v ∷ [])) None (inl (trace_used n (row v ∷ []))) f)
+    go w (marks is react) f = inr ((kept xs).idly (used explain [] (row v ∷ [])) None (inr (mark_used (row v ∷ []))) f)
     go w (stays step) f = let bad : kind.UnknownArgument ∷ [] ≡ [] = step in cc

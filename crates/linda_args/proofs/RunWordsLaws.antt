@@ -2,7 +2,7 @@
 use Rattle.std.proofs.Common.{◌≡◌, ◌⊎◌, ◌∙◌, ◌==◌, ◌++◌, arith, ℕ, Bool, true, false, List, [], ◌∷◌, Option, Some, None, ap, ap₂, refl, sym, subst, inl, inr, codes}
 use Rattle.std.specs.Prelude.{fold, pos}
 use Rattle.std.proofs.lemmas.Bool.{eqb-true, ne_eqb}
-use Rattle.clap.specs.Walk.{first_of, Held, Row, Text, Waiting, Walk, idle, option, after_step, plain_word, used, walked, finished, one_of}
+use Rattle.clap.specs.Walk.{first_of, Held, Row, Text, Waiting, Walk, idle, option, after_step, plain_word, used, walked, finished, one_of, reading_by}
 use Rattle.clap.specs.Simple.{built, entered, subcommand_of}
 use Rattle.clap.specs.Lexer.{long_of, short_of}
 use Rattle.clap.specs.ValueTests.{accepts}
@@ -21,10 +21,11 @@ use Rattle.clap.specs.Matches.{ReadsOne}
 use Rattle.clap.proofs.KindLemmas.{value_kinds-ok, value_kinds-refused}
 use Rattle.clap.proofs.ValueTestLemmas.{accepts-Accepts}
 use Rattle.linda_args.specs.Commands.{IsRefusedRun, AsksForRun, Spells, IsEnd, IsOption, has_hyphen, linda}
+use Rattle.clap.specs.declared.parser.matches.ValueSource.TheVariants.{DefaultValue}
 use Rattle.linda_args.specs.Marks.{hyphen, plus_sign}
 use Rattle.linda_client.specs.declared.limits.TheConstants.{MAX_SERVERS}
 use Rattle.linda_args.proofs.ParsingLaws.{first_is, AsksToRun, run_stops, no_end, no_strip, past, run_passes, run_walk, runner, top_fault}
-use Rattle.linda_args.proofs.RunWalkLaws.{Goes, asking, asking_refused, asks, asks_trace, at, checks, end_fault, ending, ends, from, from_end, from_given, from_step, from_told, goes, has_trace, held, kept, next_of, nothing_refused, number_passes, passes_as_number, row, says, says_trace, servers, settles, settles_first, stays, stepped, the_name, then_used, told, trace, trace_used, trailing, turn_of}
+use Rattle.linda_args.proofs.RunWalkLaws.{Goes, asking, asking_refused, asks, asks_trace, at, checks, end_fault, ending, ends, from, from_end, from_given, from_step, from_told, goes, has_more, held, kept, mark_used, marks, next_of, nothing_refused, number_passes, passes_as_number, row, says, says_trace, servers, settles, settles_first, settles_mark, explain, explain_name, source_of, stays, stepped, the_name, then_used, told, trace, trace_used, trailing, turn_of}
 use Rattle.linda_args.proofs.LongSpellingLaws.{long_spelled}
 
 -- ---- the words that pass
@@ -42,7 +43,7 @@ abbrev begun : Walk
 begun = at idle (held [] None)
 
 two_pass : (x v : Text) (xs : List Text) → long_of x ≡ Some (the_name, None)
-    → (passes_as_number v × IsEnd xs) ⊎ has_trace (ending (at idle (told [] v)) xs) → Passed (x ∷ v ∷ xs) ⊎ has_trace (ending (at idle (told [] v)) xs)
+    → (passes_as_number v × IsEnd xs) ⊎ has_more (ending (at idle (told [] v)) xs) → Passed (x ∷ v ∷ xs) ⊎ has_more (ending (at idle (told [] v)) xs)
 two_pass x v xs is (inl n) = inl (record {
   number = v;
   option = codes "--servers" ∷ v ∷ [];
@@ -55,22 +56,23 @@ two_pass x v xs is (inl n) = inl (record {
 two_pass x v xs is (inr h) = inr h
 
 asked_on : (x : Text) (xs : List Text) → long_of x ≡ Some (the_name, None) → from (at (option the_name) (asking [])) xs ≡ []
-    → Passed (x ∷ xs) ⊎ has_trace (ending (at (option the_name) (asking [])) xs)
+    → Passed (x ∷ xs) ⊎ has_more (ending (at (option the_name) (asking [])) xs)
 asked_on x [] is e = absurd (asking_refused [] (settles (asking []) (sym (from_end (at (option the_name) (asking []))) ∙ e)))
 asked_on x (v ∷ xs) is e =
     let s = stepped (at (option the_name) (asking [])) v xs e in
     go _ (goes (option the_name) [] (Some (the_name, [])) v s.0) s.1
   where
-    go : (w : Walk) → Goes (option the_name) [] (Some (the_name, [])) v w → from w xs ≡ [] → Passed (x ∷ v ∷ xs) ⊎ has_trace (ending w xs)
+    go : (w : Walk) → Goes (option the_name) [] (Some (the_name, [])) v w → from w xs ≡ [] → Passed (x ∷ v ∷ xs) ⊎ has_more (ending w xs)
     go w (ends at_end) f = absurd (asking_refused [] (settles (asking []) (trailing (option the_name) (asking []) xs f).1))
     go w (asks other settle) f = absurd (asking_refused [] settle)
     go w (says n other react) f = absurd (asking_refused [] (settles_first servers (asking []) n react))
     go w (asks_trace other settle) f = absurd (asking_refused [] settle)
     go w (says_trace n other react) f = absurd (asking_refused [] (settles_first trace (asking []) n react))
+    go w (marks other react) f = absurd (asking_refused [] (settles_mark (asking []) react))
     go w (stays step) f = two_pass x v xs is (from_told v xs f)
 
 given_passes : (x v : Text) (xs : List Text) → long_of x ≡ Some (the_name, Some v) → passes_as_number v
-    → IsEnd xs ⊎ has_trace (ending (at idle (held (row v ∷ []) None)) xs) → Passed (x ∷ xs) ⊎ has_trace (ending (at idle (held (row v ∷ []) None)) xs)
+    → IsEnd xs ⊎ has_more (ending (at idle (held (row v ∷ []) None)) xs) → Passed (x ∷ xs) ⊎ has_more (ending (at idle (held (row v ∷ []) None)) xs)
 given_passes x v xs is passes (inl end) = inl (record {
   number = v;
   option = (codes "--servers=" ++ v) ∷ [];
@@ -82,18 +84,19 @@ given_passes x v xs is passes (inl end) = inl (record {
 })
 given_passes x v xs is passes (inr h) = inr h
 
-pub passed : (words : List Text) → level_fault runner [] (held [] None) words false [] ≡ [] → Passed words ⊎ has_trace (ending begun words)
+pub passed : (words : List Text) → level_fault runner [] (held [] None) words false [] ≡ [] → Passed words ⊎ has_more (ending begun words)
 passed [] e = absurd (nothing_refused (sym (from_end begun) ∙ e))
 passed (x ∷ xs) e =
     let s = stepped begun x xs e in
     go _ (goes idle [] None x s.0) s.1
   where
-    go : (w : Walk) → Goes idle [] None x w → from w xs ≡ [] → Passed (x ∷ xs) ⊎ has_trace (ending w xs)
+    go : (w : Walk) → Goes idle [] None x w → from w xs ≡ [] → Passed (x ∷ xs) ⊎ has_more (ending w xs)
     go w (ends is) f = absurd (nothing_refused (trailing idle (held [] None) xs f).1)
     go w (asks is settle) f = asked_on x xs is f
     go w (says v is react) f = given_passes x v xs is (number_passes v (then_used (held [] None) v react)) (from_given v xs f)
     go w (asks_trace is settle) f = inr ((kept xs).file [] f)
-    go w (says_trace v is react) f = inr ((kept xs).idly (used trace (v ∷ []) []) None (trace_used v []) f)
+    go w (says_trace v is react) f = inr ((kept xs).idly (used trace (v ∷ []) []) None (inl (trace_used v [])) f)
+    go w (marks is react) f = inr ((kept xs).idly (used explain [] []) None (inr (mark_used [])) f)
     go w (stays step) f = let bad : kind.UnknownArgument ∷ [] ≡ [] = step in cc
 
 -- ---- what is returned for words that begin with the option
@@ -160,18 +163,22 @@ option_passes v opt end (inr is) at_end no_option e =
 
 -- ---- what is found
 
-found_told : (v : Text) (end : List Text) → IsEnd end → finished checks (fold (walked checks []) (at idle (told [] v)) end).held ≡ row v ∷ []
+-- the row of the flag that no word has
+abbrev pub unmarked : Row
+unmarked = record { id = explain_name; values = codes "false" ∷ []; count = None; source = Some DefaultValue; reading = reading_by explain }
+
+found_told : (v : Text) (end : List Text) → IsEnd end → finished checks (fold (walked checks []) (at idle (told [] v)) end).held ≡ row v ∷ unmarked ∷ []
 unfolding walked
 found_told v end (inl is) = ap (λ (xs : List Text). finished checks (fold (walked checks []) (at idle (told [] v)) xs).held) is
 found_told v end (inr is) = ap (λ (xs : List Text). finished checks (fold (walked checks []) (at idle (told [] v)) xs).held) is
 
-found_given : (v : Text) (end : List Text) → IsEnd end → finished checks (fold (walked checks []) (at idle (held (row v ∷ []) None)) end).held ≡ row v ∷ []
+found_given : (v : Text) (end : List Text) → IsEnd end → finished checks (fold (walked checks []) (at idle (held (row v ∷ []) None)) end).held ≡ row v ∷ unmarked ∷ []
 unfolding walked
 found_given v end (inl is) = ap (λ (xs : List Text). finished checks (fold (walked checks []) (at idle (held (row v ∷ []) None)) xs).held) is
 found_given v end (inr is) = ap (λ (xs : List Text). finished checks (fold (walked checks []) (at idle (held (row v ∷ []) None)) xs).held) is
 
 found : (v : Text) (opt end : List Text) → IsOption opt v → IsEnd end → has_hyphen v ≡ false
-    → finished checks (fold (walked checks []) begun (opt ++ end)).held ≡ row v ∷ []
+    → finished checks (fold (walked checks []) begun (opt ++ end)).held ≡ row v ∷ unmarked ∷ []
 unfolding walked
 found v opt end (inl is) at_end no_option =
     ap (λ (o : List Text). finished checks (fold (walked checks []) begun (o ++ end)).held) is
@@ -260,28 +267,28 @@ run_rows : (name : Text) (rest : List Text) → subcommand_of linda (name ∷ co
 run_rows name rest = sym (ap (entered (built linda)) (run_stops rest))
 
 -- and the parser finds their number
-pub run_is_found : (words : List Text) (n : ℕ) (a : AsksForRun words n) → subcommand_of linda words ≡ Some (codes "run", row a.number ∷ [])
+pub run_is_found : (words : List Text) (n : ℕ) (a : AsksForRun words n) → subcommand_of linda words ≡ Some (codes "run", row a.number ∷ unmarked ∷ [])
 run_is_found words n a =
     ap (subcommand_of linda) a.spelled ∙ run_rows a.name (a.option ++ a.end)
     ∙ ap (λ (rows : List Row). Some (codes "run", rows)) (found a.number a.option a.end a.is_option a.is_end (no_hyphen a.number n a.spells))
 
--- the words are a program's name and `run`, and the parser finds a file for the trace
-pub record TracesRun (words : List Text) : Type 0 where
+-- the words are a program's name and `run`, and the parser finds a file for the trace, or the flag
+pub record RunsWith (words : List Text) : Type 0 where
   pub name : Text
   pub later : List Text
   pub rows : List Row
   pub spelled : words ≡ name ∷ codes "run" ∷ later
   pub found : subcommand_of linda words ≡ Some (codes "run", rows)
-  pub has : has_trace rows
+  pub has : has_more rows
 
--- words that begin with `run` and pass ask for a run, or name a file for its trace
-pub runs : (words : List Text) → AsksToRun words → ((n : ℕ) × AsksForRun words n) ⊎ TracesRun words
+-- words that begin with `run` and pass ask for a run, or for one with a trace or with the flag
+pub runs : (words : List Text) → AsksToRun words → ((n : ℕ) × AsksForRun words n) ⊎ RunsWith words
 runs words a = go (passed a.runs.rest a.runs.passes)
   where
     spelled : words ≡ a.name ∷ codes "run" ∷ a.runs.rest
     spelled = a.spelled ∙ ap (λ (xs : List Text). a.name ∷ xs) a.runs.spelled
 
-    go : Passed a.runs.rest ⊎ has_trace (ending begun a.runs.rest) → ((n : ℕ) × AsksForRun words n) ⊎ TracesRun words
+    go : Passed a.runs.rest ⊎ has_more (ending begun a.runs.rest) → ((n : ℕ) × AsksForRun words n) ⊎ RunsWith words
     go (inl p) =
         let n = spells p.number p.passes in
         inl (
@@ -307,12 +314,16 @@ runs words a = go (passed a.runs.rest a.runs.passes)
     })
 
 -- what the getter is given
-pub number_of_row : (v : Text) → one_of (codes "servers") (row v ∷ []) ≡ Some (without_minus v)
+pub number_of_row : (v : Text) → one_of (codes "servers") (row v ∷ unmarked ∷ []) ≡ Some (without_minus v)
 number_of_row v = refl
 
 -- and no file
-pub no_file_of_row : (v : Text) → first_of (codes "trace") (row v ∷ []) ≡ None
+pub no_file_of_row : (v : Text) → first_of (codes "trace") (row v ∷ unmarked ∷ []) ≡ None
 no_file_of_row v = refl
+
+-- and no flag
+pub no_mark_of_row : (v : Text) → source_of (codes "explain") (row v ∷ unmarked ∷ []) ≡ Some DefaultValue
+no_mark_of_row v = refl
 
 -- ---- what is returned for the words after `run` that do not pass
 

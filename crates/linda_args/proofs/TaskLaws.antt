@@ -1,6 +1,7 @@
 -- What the parser finds, and the task that the words ask for.
 use Rattle.std.proofs.Common.{◌≡◌, ◌⊎◌, ◌∙◌, ℕ, Bool, List, [], ◌∷◌, Option, Some, ap, refl, sym, subst, inl, inr, codes, arith, slice_get, slice_index, unwrap_or, option_map, true, false}
-use Rattle.clap.specs.Walk.{Text, first_of, rows_of, one_of}
+use Rattle.clap.specs.Walk.{Row, Text, first_of, row_of, rows_of, one_of}
+use Rattle.std.specs.Str.{bytes_eq}
 use Rattle.clap.specs.Lexer.{without_minus}
 use Rattle.clap.specs.Matches.{first_value, one_text, subcommand_name_of}
 use Rattle.clap.specs.Simple.{subcommand_of, subcommand_rows_of}
@@ -9,17 +10,21 @@ use Rattle.clap.specs.Kinds.{Kinds, HasKind}
 use Rattle.clap.specs.Values.{bool_text, kind_of}
 use Rattle.clap.specs.declared.error.Error.{Error}
 use Rattle.clap.specs.declared.error.kind.ErrorKind.TheVariants as kind
-use Rattle.std.specs.Prelude.{is_some, MatchResult, Result, Ok, Err, IfOk, IfSome, IsErrAnd, None}
+use Rattle.std.specs.Prelude.{find, is_some, option_and_then, MatchResult, Result, Ok, Err, IfOk, IfSome, IsErrAnd, None}
 use Rattle.clap.specs.declared.parser.matches.ArgMatches.{ArgMatches}
 use Rattle.clap.specs.declared.parser.matches.Found.{Found}
 use Rattle.clap.proofs.OnLiterals.{clap_on_literals}
-use Rattle.clap.proofs.WalkLemmas.{first_value-rows, one_text-rows}
-use Rattle.linda_args.specs.Commands.{IsCall, IsFlag, IsInspect, IsServe, IsTracedRun, IsRefusedAs, AsksFor, AsksExactlyFor, AsksForPipe, AsksForRun, HasServers, Spells, has_flag, linda}
+use Rattle.clap.proofs.WalkLemmas.{find_row, first_value-rows, one_text-rows}
+use Rattle.clap.specs.Facts.{Entry}
+use Rattle.clap.specs.declared.parser.matches.MatchedArg.{MatchedArg}
+use Rattle.clap.specs.declared.parser.matches.ValueSource.TheVariants.{CommandLine, DefaultValue}
+use Rattle.linda_args.specs.Commands.{IsCall, IsFlag, IsInspect, IsServe, IsRunWith, IsRefusedAs, AsksFor, AsksExactlyFor, AsksForPipe, AsksForRun, HasServers, Spells, has_flag, linda, source_in}
 use Rattle.linda_args.specs.declared.command.Task.{Task}
 use Rattle.linda_args.specs.declared.command.Task.TheVariants as tasks
 use Rattle.linda_args.proofs.CallWalkLaws.{call_is_found, flag_read}
 use Rattle.linda_args.proofs.ParsingLaws.{many_kinds, missing_kinds, unknown_kinds, AsksToCall, AsksToInspect, AsksToServe, asked, name_of_rows, named, named_call, named_inspect, named_serve}
-use Rattle.linda_args.proofs.RunWordsLaws.{TracesRun, run_kinds, run_refused_some, no_file_of_row, number_of_row, run_is_found, run_is_free, runs}
+use Rattle.linda_args.proofs.RunWalkLaws.{has_mark, has_more, has_trace, source_of}
+use Rattle.linda_args.proofs.RunWordsLaws.{RunsWith, no_mark_of_row, run_kinds, run_refused_some, no_file_of_row, number_of_row, run_is_found, run_is_free, runs}
 
 -- the parser's command is that of the words
 pub pipe_found : (m : ArgMatches) (words : List Text) → AsksForPipe words → subcommand_rows_of m ≡ subcommand_of linda words → subcommand_name_of m ≡ Some (codes "pipe")
@@ -28,8 +33,8 @@ pipe_found m words asks rows = name_of_rows m ∙ ap (λ o. option_map (λ p. p.
 pub run_found : (m : ArgMatches) (words : List Text) (n : ℕ) → AsksForRun words n → subcommand_rows_of m ≡ subcommand_of linda words → subcommand_name_of m ≡ Some (codes "run")
 run_found m words n asks rows = name_of_rows m ∙ ap (λ o. option_map (λ p. p.0) o) (rows ∙ run_is_found words n asks)
 
-pub traced_found : (m : ArgMatches) (words : List Text) → TracesRun words → subcommand_rows_of m ≡ subcommand_of linda words → subcommand_name_of m ≡ Some (codes "run")
-traced_found m words asks rows = name_of_rows m ∙ ap (λ o. option_map (λ p. p.0) o) (rows ∙ asks.found)
+pub with_found : (m : ArgMatches) (words : List Text) → RunsWith words → subcommand_rows_of m ≡ subcommand_of linda words → subcommand_name_of m ≡ Some (codes "run")
+with_found m words asks rows = name_of_rows m ∙ ap (λ o. option_map (λ p. p.0) o) (rows ∙ asks.found)
 
 pub call_found : (m : ArgMatches) (words : List Text) → AsksToCall words → subcommand_rows_of m ≡ subcommand_of linda words → subcommand_name_of m ≡ Some (codes "call")
 call_found m words asks rows = name_of_rows m ∙ ap (λ o. option_map (λ p. p.0) o) rows ∙ named_call words asks
@@ -97,19 +102,19 @@ no_inspect_serve o is as_other =
 pub data Asked (words : List Text) : Type 0 where
   to_pipe : AsksForPipe words → Asked words
   to_run : (n : ℕ) → AsksForRun words n → Asked words
-  to_traced : TracesRun words → Asked words
+  to_with : RunsWith words → Asked words
   to_call : AsksToCall words → Asked words
   to_serve : AsksToServe words → Asked words
   to_inspect : AsksToInspect words → Asked words
 
-run_or_traced : (words : List Text) → ((n : ℕ) × AsksForRun words n) ⊎ TracesRun words → Asked words
-run_or_traced words (inl r) = to_run r.0 r.1
-run_or_traced words (inr t) = to_traced t
+run_or_with : (words : List Text) → ((n : ℕ) × AsksForRun words n) ⊎ RunsWith words → Asked words
+run_or_with words (inl r) = to_run r.0 r.1
+run_or_with words (inr t) = to_with t
 
 pub asked_for : (words : List Text) → fault_of linda words ≡ [] → Asked words
 asked_for words free = elim (asked words free) [
   | inl h ↦ to_pipe h
-  | inr (inl h) ↦ run_or_traced words (runs words h)
+  | inr (inl h) ↦ run_or_with words (runs words h)
   | inr (inr (inl h)) ↦ to_call h
   | inr (inr (inr (inl h))) ↦ to_serve h
   | inr (inr (inr (inr h))) ↦ to_inspect h
@@ -129,56 +134,86 @@ no_file_found m f words n a rows below =
     first_value-rows f (codes "trace") ∙ ap (λ o. first_of (codes "trace") (unwrap_or o [])) (sym below ∙ ap (λ o. option_map (λ p. p.1) o) (rows ∙ run_is_found words n a))
     ∙ no_file_of_row a.number
 
+-- where the values of an argument came from, by the rows
+source_rows : (f : Found) (id : Text) → source_in f id ≡ source_of id (rows_of f)
+source_rows f id = go (find (λ e. bytes_eq e.0.now id) f.entries.items) ∙ ap (option_and_then (λ (r : Row). r.source)) (sym (find_row f.entries.items id))
+  where
+    go : (o : Option Entry) → option_and_then (λ (a : MatchedArg). a.source) (option_map (λ e. e.1) o) ≡ option_and_then (λ (r : Row). r.source) (option_map row_of o)
+    go None = refl
+    go (Some e) = refl
+
+-- no flag is found
+pub no_mark_found : (m : ArgMatches) (f : Found) (words : List Text) (n : ℕ) (a : AsksForRun words n) → subcommand_rows_of m ≡ subcommand_of linda words
+    → option_map (λ p. p.1) (subcommand_rows_of m) ≡ Some (rows_of f) → source_in f (codes "explain") ≡ Some CommandLine → ⊥
+no_mark_found m f words n a rows below marked =
+    let found : source_in f (codes "explain") ≡ Some DefaultValue =
+    source_rows f (codes "explain") ∙ ap (λ o. source_of (codes "explain") (unwrap_or o [])) (sym below ∙ ap (λ o. option_map (λ p. p.1) o) (rows ∙ run_is_found words n a))
+    ∙ no_mark_of_row a.number in
+    let bad : Some CommandLine ≡ Some DefaultValue = sym marked ∙ found in
+    cc
+
 -- a file is found for the trace
-file_found : (m : ArgMatches) (f : Found) (words : List Text) (t : TracesRun words) → subcommand_rows_of m ≡ subcommand_of linda words
+pub file_found : (m : ArgMatches) (f : Found) (words : List Text) (t : RunsWith words) → has_trace t.rows → subcommand_rows_of m ≡ subcommand_of linda words
     → option_map (λ p. p.1) (subcommand_rows_of m) ≡ Some (rows_of f) → first_value f (codes "trace") ≡ None → ⊥
-file_found m f words t rows below none =
+file_found m f words t has rows below none =
     let found : first_value f (codes "trace") ≡ first_of (codes "trace") t.rows =
     first_value-rows f (codes "trace") ∙ ap (λ o. first_of (codes "trace") (unwrap_or o [])) (sym below ∙ ap (λ o. option_map (λ p. p.1) o) (rows ∙ t.found)) in
-    let bad : false ≡ true = ap is_some (sym none ∙ found) ∙ t.has in
+    let bad : false ≡ true = ap is_some (sym none ∙ found) ∙ has in
     cc
+
+-- the flag is found
+pub mark_found : (m : ArgMatches) (f : Found) (words : List Text) (t : RunsWith words) → has_mark t.rows → subcommand_rows_of m ≡ subcommand_of linda words
+    → option_map (λ p. p.1) (subcommand_rows_of m) ≡ Some (rows_of f) → source_in f (codes "explain") ≡ Some CommandLine
+mark_found m f words t has rows below =
+    source_rows f (codes "explain") ∙ ap (λ o. source_of (codes "explain") (unwrap_or o [])) (sym below ∙ ap (λ o. option_map (λ p. p.1) o) (rows ∙ t.found)) ∙ has
 
 -- ---- what the parser finds, by the command that it met
 
 pub exactly_pipe : (m : ArgMatches) (words : List Text) (task : Task) → AsksExactlyFor words task → subcommand_rows_of m ≡ subcommand_of linda words
     → subcommand_name_of m ≡ Some (codes "pipe") → tasks.Pipe ≡ task
 exactly_pipe m words tasks.Pipe asks rows is = refl
-exactly_pipe m words (tasks.Run n) asks rows is = absurd (no_run_pipe (subcommand_name_of m) (run_found m words n asks rows) is)
-exactly_pipe m words (tasks.TracedRun n file) asks rows is = absurd asks
-exactly_pipe m words (tasks.Call client ports again) asks rows is = absurd asks
-exactly_pipe m words (tasks.CallAt client paths again) asks rows is = absurd asks
-exactly_pipe m words (tasks.Serve port dir sessions log lease threads status socket) asks rows is = absurd asks
-exactly_pipe m words (tasks.Inspect dir lists json) asks rows is = absurd asks
+exactly_pipe m words (tasks.Run n true) asks rows is = absurd asks
+exactly_pipe m words (tasks.Run n false) asks rows is = absurd (no_run_pipe (subcommand_name_of m) (run_found m words n asks rows) is)
+exactly_pipe m words (tasks.TracedRun n file explain) asks rows is = absurd asks
+exactly_pipe m words (tasks.Call client ports again together explain) asks rows is = absurd asks
+exactly_pipe m words (tasks.CallAt client paths again together explain) asks rows is = absurd asks
+exactly_pipe m words (tasks.Serve port dir sessions log lease threads status metrics socket wait explain) asks rows is = absurd asks
+exactly_pipe m words (tasks.Inspect dir lists json explain) asks rows is = absurd asks
 
--- what is found below `run`: the number off this text where there is no file, and else a run with a trace
+-- what is found below `run`: the number off this text if there is no file and no flag, and else a run with one of them
 abbrev pub Reads : {E : Type 0} → Found → Result (Option Task) E → Type 0
-Reads f result = (text : Text) (n : ℕ) → first_value f (codes "trace") ≡ None → one_text f (codes "servers") ≡ Some (without_minus text) → Spells text n
-    → IfOk result (λ found. found ≡ Some (tasks.Run n))
+Reads f result = (text : Text) (n : ℕ) → first_value f (codes "trace") ≡ None → (source_in f (codes "explain") ≡ Some CommandLine → ⊥)
+    → one_text f (codes "servers") ≡ Some (without_minus text) → Spells text n → IfOk result (λ found. found ≡ Some (tasks.Run n false))
 
 abbrev pub Traces : {E : Type 0} → Found → Result (Option Task) E → Type 0
-Traces f result = (first_value f (codes "trace") ≡ None → ⊥) → IfOk result (λ found. IfSome found IsTracedRun)
+Traces f result = (first_value f (codes "trace") ≡ None → ⊥) → IfOk result (λ found. IfSome found IsRunWith)
+
+abbrev pub Explains : {E : Type 0} → Found → Result (Option Task) E → Type 0
+Explains f result = source_in f (codes "explain") ≡ Some CommandLine → IfOk result (λ found. IfSome found IsRunWith)
 
 pub exactly_run : {E : Type 0} (m : ArgMatches) (f : Found) (words : List Text) (task : Task) (result : Result (Option Task) E) → AsksExactlyFor words task
     → subcommand_rows_of m ≡ subcommand_of linda words → subcommand_name_of m ≡ Some (codes "run")
     → option_map (λ p. p.1) (subcommand_rows_of m) ≡ Some (rows_of f) → Reads f result → IfOk result (λ found. found ≡ Some task)
 exactly_run m f words tasks.Pipe result asks rows is below reads = absurd (no_run_pipe (subcommand_name_of m) is (pipe_found m words asks rows))
-exactly_run m f words (tasks.Run n) result asks rows is below reads =
-    reads asks.number n (no_file_found m f words n asks rows below) (text_found m f words n asks rows below) asks.spells
-exactly_run m f words (tasks.TracedRun n file) result asks rows is below reads = absurd asks
-exactly_run m f words (tasks.Call client ports again) result asks rows is below reads = absurd asks
-exactly_run m f words (tasks.CallAt client paths again) result asks rows is below reads = absurd asks
-exactly_run m f words (tasks.Serve port dir sessions log lease threads status socket) result asks rows is below reads = absurd asks
-exactly_run m f words (tasks.Inspect dir lists json) result asks rows is below reads = absurd asks
+exactly_run m f words (tasks.Run n true) result asks rows is below reads = absurd asks
+exactly_run m f words (tasks.Run n false) result asks rows is below reads =
+    reads asks.number n (no_file_found m f words n asks rows below) (no_mark_found m f words n asks rows below) (text_found m f words n asks rows below) asks.spells
+exactly_run m f words (tasks.TracedRun n file explain) result asks rows is below reads = absurd asks
+exactly_run m f words (tasks.Call client ports again together explain) result asks rows is below reads = absurd asks
+exactly_run m f words (tasks.CallAt client paths again together explain) result asks rows is below reads = absurd asks
+exactly_run m f words (tasks.Serve port dir sessions log lease threads status metrics socket wait explain) result asks rows is below reads = absurd asks
+exactly_run m f words (tasks.Inspect dir lists json explain) result asks rows is below reads = absurd asks
 
 pub never_other : (m : ArgMatches) (words : List Text) (task : Task) → AsksExactlyFor words task → subcommand_rows_of m ≡ subcommand_of linda words
     → (subcommand_name_of m ≡ Some (codes "pipe") → ⊥) → (subcommand_name_of m ≡ Some (codes "run") → ⊥) → ⊥
 never_other m words tasks.Pipe asks rows no_pipe no_run = no_pipe (pipe_found m words asks rows)
-never_other m words (tasks.Run n) asks rows no_pipe no_run = no_run (run_found m words n asks rows)
-never_other m words (tasks.TracedRun n file) asks rows no_pipe no_run = asks
-never_other m words (tasks.Call client ports again) asks rows no_pipe no_run = asks
-never_other m words (tasks.CallAt client paths again) asks rows no_pipe no_run = asks
-never_other m words (tasks.Serve port dir sessions log lease threads status socket) asks rows no_pipe no_run = asks
-never_other m words (tasks.Inspect dir lists json) asks rows no_pipe no_run = asks
+never_other m words (tasks.Run n true) asks rows no_pipe no_run = asks
+never_other m words (tasks.Run n false) asks rows no_pipe no_run = no_run (run_found m words n asks rows)
+never_other m words (tasks.TracedRun n file explain) asks rows no_pipe no_run = asks
+never_other m words (tasks.Call client ports again together explain) asks rows no_pipe no_run = asks
+never_other m words (tasks.CallAt client paths again together explain) asks rows no_pipe no_run = asks
+never_other m words (tasks.Serve port dir sessions log lease threads status metrics socket wait explain) asks rows no_pipe no_run = asks
+never_other m words (tasks.Inspect dir lists json explain) asks rows no_pipe no_run = asks
 
 pub pipe_asked : (m : ArgMatches) (words : List Text) → fault_of linda words ≡ [] → subcommand_rows_of m ≡ subcommand_of linda words
     → subcommand_name_of m ≡ Some (codes "pipe") → AsksForPipe words
@@ -187,41 +222,47 @@ pipe_asked m words free rows is = go (asked_for words free)
     go : Asked words → AsksForPipe words
     go (to_pipe h) = h
     go (to_run n a) = absurd (no_run_pipe (subcommand_name_of m) (run_found m words n a rows) is)
-    go (to_traced a) = absurd (no_run_pipe (subcommand_name_of m) (traced_found m words a rows) is)
+    go (to_with a) = absurd (no_run_pipe (subcommand_name_of m) (with_found m words a rows) is)
     go (to_call a) = absurd (no_call_pipe (subcommand_name_of m) (call_found m words a rows) is)
     go (to_serve a) = absurd (no_serve_pipe (subcommand_name_of m) (serve_found m words a rows) is)
     go (to_inspect a) = absurd (no_inspect_pipe (subcommand_name_of m) (inspect_found m words a rows) is)
 
-traced_asks : (words : List Text) (task : Task) → TracesRun words → IsTracedRun task → AsksFor words task
-traced_asks words tasks.Pipe a h = absurd h
-traced_asks words (tasks.Run n) a h = absurd h
-traced_asks words (tasks.TracedRun n file) a h = record { name = a.name; later = a.later; spelled = a.spelled; some = h.0; most = h.1 }
-traced_asks words (tasks.Call client ports again) a h = absurd h
-traced_asks words (tasks.CallAt client paths again) a h = absurd h
-traced_asks words (tasks.Serve port dir sessions log lease threads status socket) a h = absurd h
-traced_asks words (tasks.Inspect dir lists json) a h = absurd h
+with_asks : (words : List Text) (task : Task) → RunsWith words → IsRunWith task → AsksFor words task
+with_asks words tasks.Pipe a h = absurd h
+with_asks words (tasks.Run n false) a h = absurd h
+with_asks words (tasks.Run n true) a h = record { name = a.name; later = a.later; spelled = a.spelled; some = h.0; most = h.1 }
+with_asks words (tasks.TracedRun n file explain) a h = record { name = a.name; later = a.later; spelled = a.spelled; some = h.0; most = h.1 }
+with_asks words (tasks.Call client ports again together explain) a h = absurd h
+with_asks words (tasks.CallAt client paths again together explain) a h = absurd h
+with_asks words (tasks.Serve port dir sessions log lease threads status metrics socket wait explain) a h = absurd h
+with_asks words (tasks.Inspect dir lists json explain) a h = absurd h
 
-traced_is_asked : {E : Type 0} (words : List Text) (result : Result (Option Task) E) → TracesRun words → IfOk result (λ found. IfSome found IsTracedRun)
+with_is_asked : {E : Type 0} (words : List Text) (result : Result (Option Task) E) → RunsWith words → IfOk result (λ found. IfSome found IsRunWith)
     → IfOk result (λ found. IfSome found (AsksFor words))
-traced_is_asked words (Err e) a h = tt
-traced_is_asked words (Ok None) a h = tt
-traced_is_asked words (Ok (Some task)) a h = traced_asks words task a h
+with_is_asked words (Err e) a h = tt
+with_is_asked words (Ok None) a h = tt
+with_is_asked words (Ok (Some task)) a h = with_asks words task a h
 
-run_is_asked : {E : Type 0} (words : List Text) (n : ℕ) (result : Result (Option Task) E) → AsksForRun words n → IfOk result (λ found. found ≡ Some (tasks.Run n))
+run_is_asked : {E : Type 0} (words : List Text) (n : ℕ) (result : Result (Option Task) E) → AsksForRun words n → IfOk result (λ found. found ≡ Some (tasks.Run n false))
     → IfOk result (λ found. IfSome found (AsksFor words))
 run_is_asked words n (Err e) a h = tt
 run_is_asked words n (Ok found) a h = subst (λ (o : Option Task). IfSome o (AsksFor words)) (sym h) a
 
 pub run_asked : {E : Type 0} (m : ArgMatches) (f : Found) (words : List Text) (result : Result (Option Task) E) → fault_of linda words ≡ []
     → subcommand_rows_of m ≡ subcommand_of linda words → subcommand_name_of m ≡ Some (codes "run")
-    → option_map (λ p. p.1) (subcommand_rows_of m) ≡ Some (rows_of f) → Reads f result → Traces f result → IfOk result (λ found. IfSome found (AsksFor words))
-run_asked m f words result free rows is below reads traces = go (asked_for words free)
+    → option_map (λ p. p.1) (subcommand_rows_of m) ≡ Some (rows_of f) → Reads f result → Traces f result → Explains f result
+    → IfOk result (λ found. IfSome found (AsksFor words))
+run_asked m f words result free rows is below reads traces explains = go (asked_for words free)
   where
+    more : (t : RunsWith words) → has_more t.rows → IfOk result (λ found. IfSome found IsRunWith)
+    more t (inl h) = traces (file_found m f words t h rows below)
+    more t (inr h) = explains (mark_found m f words t h rows below)
+
     go : Asked words → IfOk result (λ found. IfSome found (AsksFor words))
     go (to_pipe h) = absurd (no_run_pipe (subcommand_name_of m) is (pipe_found m words h rows))
     go (to_run n a) =
-        run_is_asked words n result a (reads a.number n (no_file_found m f words n a rows below) (text_found m f words n a rows below) a.spells)
-    go (to_traced a) = traced_is_asked words result a (traces (file_found m f words a rows below))
+        run_is_asked words n result a (reads a.number n (no_file_found m f words n a rows below) (no_mark_found m f words n a rows below) (text_found m f words n a rows below) a.spells)
+    go (to_with a) = with_is_asked words result a (more a a.has)
     go (to_call a) = absurd (no_call_run (subcommand_name_of m) (call_found m words a rows) is)
     go (to_serve a) = absurd (no_serve_run (subcommand_name_of m) (serve_found m words a rows) is)
     go (to_inspect a) = absurd (no_inspect_run (subcommand_name_of m) (inspect_found m words a rows) is)
@@ -240,9 +281,9 @@ the_flag text flag false h is = h.clear is
 call_asks : (words : List Text) (text : Option Text) (task : Task) (a : AsksToCall words) → text ≡ Some (bool_text (has_flag (codes "--again") a.later))
     → IsCall text task → AsksFor words task
 call_asks words text tasks.Pipe a is h = absurd h
-call_asks words text (tasks.Run n) a is h = absurd h
-call_asks words text (tasks.TracedRun n file) a is h = absurd h
-call_asks words text (tasks.Call client ports again) a is h = record {
+call_asks words text (tasks.Run n explain) a is h = absurd h
+call_asks words text (tasks.TracedRun n file explain) a is h = absurd h
+call_asks words text (tasks.Call client ports again together explain) a is h = record {
   name = a.name;
   later = a.later;
   spelled = a.spelled;
@@ -250,17 +291,17 @@ call_asks words text (tasks.Call client ports again) a is h = record {
   are_ports = h.1.0;
   is_again = the_flag text again (has_flag (codes "--again") a.later) h.1.1 is;
 }
-call_asks words text (tasks.CallAt client paths again) a is h = absurd h
-call_asks words text (tasks.Serve port dir sessions log lease threads status socket) a is h = absurd h
-call_asks words text (tasks.Inspect dir lists json) a is h = absurd h
+call_asks words text (tasks.CallAt client paths again together explain) a is h = absurd h
+call_asks words text (tasks.Serve port dir sessions log lease threads status metrics socket wait explain) a is h = absurd h
+call_asks words text (tasks.Inspect dir lists json explain) a is h = absurd h
 
 serve_asks : (words : List Text) (task : Task) → AsksToServe words → IsServe task → AsksFor words task
 serve_asks words tasks.Pipe a h = absurd h
-serve_asks words (tasks.Run n) a h = absurd h
-serve_asks words (tasks.TracedRun n file) a h = absurd h
-serve_asks words (tasks.Call client ports again) a h = absurd h
-serve_asks words (tasks.CallAt client paths again) a h = absurd h
-serve_asks words (tasks.Serve port dir sessions log lease threads status socket) a h = record {
+serve_asks words (tasks.Run n explain) a h = absurd h
+serve_asks words (tasks.TracedRun n file explain) a h = absurd h
+serve_asks words (tasks.Call client ports again together explain) a h = absurd h
+serve_asks words (tasks.CallAt client paths again together explain) a h = absurd h
+serve_asks words (tasks.Serve port dir sessions log lease threads status metrics socket wait explain) a h = record {
   name = a.name;
   later = a.later;
   spelled = a.spelled;
@@ -269,16 +310,16 @@ serve_asks words (tasks.Serve port dir sessions log lease threads status socket)
   is_mode = h.4;
   is_somewhere = h.5;
 }
-serve_asks words (tasks.Inspect dir lists json) a h = absurd h
+serve_asks words (tasks.Inspect dir lists json explain) a h = absurd h
 
 inspect_asks : (words : List Text) (task : Task) → AsksToInspect words → IsInspect task → AsksFor words task
 inspect_asks words tasks.Pipe a h = absurd h
-inspect_asks words (tasks.Run n) a h = absurd h
-inspect_asks words (tasks.TracedRun n file) a h = absurd h
-inspect_asks words (tasks.Call client ports again) a h = absurd h
-inspect_asks words (tasks.CallAt client paths again) a h = absurd h
-inspect_asks words (tasks.Serve port dir sessions log lease threads status socket) a h = absurd h
-inspect_asks words (tasks.Inspect dir lists json) a h = record { name = a.name; later = a.later; spelled = a.spelled }
+inspect_asks words (tasks.Run n explain) a h = absurd h
+inspect_asks words (tasks.TracedRun n file explain) a h = absurd h
+inspect_asks words (tasks.Call client ports again together explain) a h = absurd h
+inspect_asks words (tasks.CallAt client paths again together explain) a h = absurd h
+inspect_asks words (tasks.Serve port dir sessions log lease threads status metrics socket wait explain) a h = absurd h
+inspect_asks words (tasks.Inspect dir lists json explain) a h = record { name = a.name; later = a.later; spelled = a.spelled }
 
 inspect_is_asked : (words : List Text) (found : Option Task) → AsksToInspect words → IfSome found IsInspect → IfSome found (AsksFor words)
 inspect_is_asked words None a h = tt
@@ -303,7 +344,7 @@ call_asked m f words (Ok found) free rows is below h = go (asked_for words free)
     go : Asked words → IfSome found (AsksFor words)
     go (to_pipe p) = absurd (no_call_pipe (subcommand_name_of m) is (pipe_found m words p rows))
     go (to_run n a) = absurd (no_call_run (subcommand_name_of m) is (run_found m words n a rows))
-    go (to_traced a) = absurd (no_call_run (subcommand_name_of m) is (traced_found m words a rows))
+    go (to_with a) = absurd (no_call_run (subcommand_name_of m) is (with_found m words a rows))
     go (to_call a) = call_is_asked words (one_text f (codes "again")) found a (flag_found m f words a rows below) h
     go (to_serve a) = absurd (no_serve_call (subcommand_name_of m) (serve_found m words a rows) is)
     go (to_inspect a) = absurd (no_inspect_call (subcommand_name_of m) (inspect_found m words a rows) is)
@@ -317,7 +358,7 @@ serve_asked m words (Ok found) free rows is h = go (asked_for words free)
     go : Asked words → IfSome found (AsksFor words)
     go (to_pipe p) = absurd (no_serve_pipe (subcommand_name_of m) is (pipe_found m words p rows))
     go (to_run n a) = absurd (no_serve_run (subcommand_name_of m) is (run_found m words n a rows))
-    go (to_traced a) = absurd (no_serve_run (subcommand_name_of m) is (traced_found m words a rows))
+    go (to_with a) = absurd (no_serve_run (subcommand_name_of m) is (with_found m words a rows))
     go (to_call a) = absurd (no_serve_call (subcommand_name_of m) is (call_found m words a rows))
     go (to_serve a) = serve_is_asked words found a h
     go (to_inspect a) = absurd (no_inspect_serve (subcommand_name_of m) (inspect_found m words a rows) is)
@@ -331,7 +372,7 @@ inspect_asked m words (Ok found) free rows is h = go (asked_for words free)
     go : Asked words → IfSome found (AsksFor words)
     go (to_pipe p) = absurd (no_inspect_pipe (subcommand_name_of m) is (pipe_found m words p rows))
     go (to_run n a) = absurd (no_inspect_run (subcommand_name_of m) is (run_found m words n a rows))
-    go (to_traced a) = absurd (no_inspect_run (subcommand_name_of m) is (traced_found m words a rows))
+    go (to_with a) = absurd (no_inspect_run (subcommand_name_of m) is (with_found m words a rows))
     go (to_call a) = absurd (no_inspect_call (subcommand_name_of m) is (call_found m words a rows))
     go (to_serve a) = absurd (no_inspect_serve (subcommand_name_of m) is (serve_found m words a rows))
     go (to_inspect a) = inspect_is_asked words found a h
@@ -350,21 +391,23 @@ pipe_ended name = refl
 pub task_is_free : (words : List Text) (task : Task) → AsksExactlyFor words task → fault_of linda words ≡ []
 task_is_free words tasks.Pipe (name, inl h) = ap (fault_of linda) h ∙ pipe_alone name
 task_is_free words tasks.Pipe (name, inr h) = ap (fault_of linda) h ∙ pipe_ended name
-task_is_free words (tasks.Run n) asks = run_is_free words n asks
-task_is_free words (tasks.TracedRun n file) asks = absurd asks
-task_is_free words (tasks.Call client ports again) asks = absurd asks
-task_is_free words (tasks.CallAt client paths again) asks = absurd asks
-task_is_free words (tasks.Serve port dir sessions log lease threads status socket) asks = absurd asks
-task_is_free words (tasks.Inspect dir lists json) asks = absurd asks
+task_is_free words (tasks.Run n true) asks = absurd asks
+task_is_free words (tasks.Run n false) asks = run_is_free words n asks
+task_is_free words (tasks.TracedRun n file explain) asks = absurd asks
+task_is_free words (tasks.Call client ports again together explain) asks = absurd asks
+task_is_free words (tasks.CallAt client paths again together explain) asks = absurd asks
+task_is_free words (tasks.Serve port dir sessions log lease threads status metrics socket wait explain) asks = absurd asks
+task_is_free words (tasks.Inspect dir lists json explain) asks = absurd asks
 
 pub has_servers : (words : List Text) (task : Task) → AsksFor words task → HasServers task
 has_servers words tasks.Pipe asks = tt
-has_servers words (tasks.Run n) asks = (asks.spells.some, asks.spells.most)
-has_servers words (tasks.TracedRun n file) asks = (asks.some, asks.most)
-has_servers words (tasks.Call client ports again) asks = (asks.are_ports.0, asks.are_ports.1.0)
-has_servers words (tasks.CallAt client paths again) asks = tt
-has_servers words (tasks.Serve port dir sessions log lease threads status socket) asks = tt
-has_servers words (tasks.Inspect dir lists json) asks = tt
+has_servers words (tasks.Run n true) asks = (asks.some, asks.most)
+has_servers words (tasks.Run n false) asks = (asks.spells.some, asks.spells.most)
+has_servers words (tasks.TracedRun n file explain) asks = (asks.some, asks.most)
+has_servers words (tasks.Call client ports again together explain) asks = (asks.are_ports.0, asks.are_ports.1.0)
+has_servers words (tasks.CallAt client paths again together explain) asks = tt
+has_servers words (tasks.Serve port dir sessions log lease threads status metrics socket wait explain) asks = tt
+has_servers words (tasks.Inspect dir lists json explain) asks = tt
 
 abbrev second : List Text → ℕ
 second words = slice_index (unwrap_or (slice_get words 1) []) 0

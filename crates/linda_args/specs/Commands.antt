@@ -2,22 +2,27 @@
 use Rattle.std.specs.Prelude.{◌≡◌, ◌≢◌, ◌<◌, ◌≤◌, ◌⊎◌, ◌==◌, ◌&&◌, ◌||◌, ◌^◌, ⊤, ℕ, Bool, true}
 use Rattle.std.specs.Prelude.{false, not}
 use Rattle.std.specs.Prelude.{List, [], ◌∷◌, ◌++◌, length, Option, Some, IfSome, IsSome, pos}
-use Rattle.std.specs.Prelude.{codes, Result, IsErrAnd}
+use Rattle.std.specs.Prelude.{codes, Result, IsErrAnd, option_and_then}
 use Rattle.std.specs.Str.{bytes_eq}
 use Rattle.std.specs.Str.Parse.{IsNumeral, digits_value, without_leading_plus}
 use Rattle.clap.specs.Words.{App, Kinds, Rule, HasKind, app_of, new_app, new_rule, with_rule}
 use Rattle.clap.specs.Words.{with_subcommand}
 use Rattle.clap.specs.Simple.{on_top}
-use Rattle.clap.specs.declared.builder.action.ArgAction.TheVariants.{Set, SetTrue}
+use Rattle.clap.specs.Matches.{matched_of}
+use Rattle.clap.specs.declared.builder.action.ArgAction.TheVariants.{Append, Set, SetTrue}
 use Rattle.clap.specs.declared.builder.command.Command.{Command}
 use Rattle.clap.specs.declared.builder.command.Command.TheViews.{out-Command as fields_of}
 use Rattle.clap.specs.declared.builder.value_parser.ValueParser.TheVariants as parsers
 use Rattle.clap.specs.declared.error.Error.{Error}
 use Rattle.clap.specs.declared.error.kind.ErrorKind.TheVariants as kinds
+use Rattle.clap.specs.declared.parser.matches.Found.{Found}
+use Rattle.clap.specs.declared.parser.matches.ValueSource.{ValueSource}
 use Rattle.linda_args.specs.Marks.{hyphen}
 use Rattle.linda_args.specs.Ports.{ArePorts}
 use Rattle.linda_args.specs.declared.command.Task.{Task}
 use Rattle.linda_args.specs.declared.command.socket.Socket.{Socket}
+use Rattle.linda_args.specs.declared.command.status.StatusPlace.{StatusPlace}
+use Rattle.linda_args.specs.declared.command.status.StatusPlace.TheVariants as places
 use Rattle.linda_args.specs.declared.command.Task.TheVariants as tasks
 use Rattle.linda_client.specs.declared.limits.TheConstants.{MAX_SERVERS}
 
@@ -74,6 +79,14 @@ ports_rule = record (word_rule (codes "ports")) {
 abbrev pub again_rule : Rule
 again_rule = flag_rule (codes "again")
 
+-- the option `--together`, which may be there, and stands alone
+abbrev pub together_rule : Rule
+together_rule = flag_rule (codes "together")
+
+-- the option `--explain`, which may be there, and stands alone
+abbrev pub explain_rule : Rule
+explain_rule = flag_rule (codes "explain")
+
 -- the option `--port`, which must be there, with a number of 16 bits
 abbrev pub port_rule : Rule
 port_rule = record (option_rule (codes "port")) {
@@ -111,6 +124,10 @@ status_rule = record (option_rule (codes "status")) {
   parser = Some (parsers.Signed (pos 1) (pos 65535));
 }
 
+-- the option `--metric`, which may be there more than once, with a text
+abbrev pub metric_rule : Rule
+metric_rule = record (option_rule (codes "metric")) { action = Some Append }
+
 -- the option `--socket`, which may be there, with a text
 abbrev pub socket_rule : Rule
 socket_rule = option_rule (codes "socket")
@@ -118,6 +135,10 @@ socket_rule = option_rule (codes "socket")
 -- the option `--mode`, which may be there, with a text
 abbrev pub mode_rule : Rule
 mode_rule = option_rule (codes "mode")
+
+-- the option `--wait`, which may be there, and stands alone
+abbrev pub wait_rule : Rule
+wait_rule = flag_rule (codes "wait")
 
 -- the word that names the folder of a store, which must be there
 abbrev pub folder_rule : Rule
@@ -140,24 +161,29 @@ abbrev pub pipe_command : App
 pipe_command = new_app (codes "pipe")
 
 abbrev pub run_command : App
-run_command = with_rule (with_rule (new_app (codes "run")) servers_rule) trace_rule
+run_command =
+    with_rule (with_rule (with_rule (new_app (codes "run")) servers_rule) trace_rule) explain_rule
 
 abbrev pub call_command : App
 call_command =
-    with_rule (with_rule (with_rule (new_app (codes "call")) client_rule) ports_rule) again_rule
+    with_rule (with_rule
+    (with_rule (with_rule (with_rule (new_app (codes "call")) client_rule) ports_rule) again_rule)
+    together_rule) explain_rule
 
 abbrev pub serve_command : App
 serve_command =
-    with_rule (with_rule (with_rule (with_rule (with_rule (with_rule
+    with_rule (with_rule (with_rule
+    (with_rule (with_rule (with_rule (with_rule (with_rule (with_rule
     (with_rule (with_rule (with_rule (new_app (codes "serve")) port_rule) dir_rule)
     sessions_rule)
-    log_rule) lease_rule) threads_rule) status_rule) socket_rule) mode_rule
+    log_rule) lease_rule) threads_rule) status_rule) metric_rule) socket_rule) mode_rule)
+    wait_rule) explain_rule
 
 abbrev pub inspect_command : App
 inspect_command =
-    with_rule (with_rule
+    with_rule (with_rule (with_rule
     (with_rule (with_rule (new_app (codes "inspect")) folder_rule) tuples_rule)
-    clients_rule) json_rule
+    clients_rule) json_rule) explain_rule
 
 -- the program's command with none below it: it wants one
 abbrev pub bare_linda : App
@@ -174,6 +200,10 @@ linda =
 pub record IsCommand (app : App) (command : Command) : Type 0 where
   pub is : app_of command ≡ app
   pub local : (fields_of command).has_globals ≡ false
+
+-- where the value of an argument came from
+abbrev pub source_in : Found → List ℕ → Option ValueSource
+source_in f id = option_and_then (λ a. a.source) (matched_of f id)
 
 -- no word, or the `--` that ends options
 abbrev pub IsEnd : List (List ℕ) → Type 0
@@ -210,7 +240,7 @@ pub record AsksForRun (words : List (List ℕ)) (n : ℕ) : Type 0 where
   pub spells : Spells number n
 
 -- The words are a program's name and `run`, and the number is such as may stand after it.
-pub record AsksForTracedRun (words : List (List ℕ)) (n : ℕ) : Type 0 where
+pub record AsksForRunWith (words : List (List ℕ)) (n : ℕ) : Type 0 where
   pub name : List ℕ
   pub later : List (List ℕ)
   pub spelled : words ≡ name ∷ codes "run" ∷ later
@@ -278,23 +308,25 @@ AsksForVersion words = (name : List ℕ) × (words ≡ name ∷ codes "--version
 -- what the words ask for
 abbrev pub AsksFor : List (List ℕ) → Task → Type 0
 AsksFor words tasks.Pipe = AsksForPipe words
-AsksFor words (tasks.Run n) = AsksForRun words n
-AsksFor words (tasks.TracedRun n file) = AsksForTracedRun words n
-AsksFor words (tasks.Call client ports again) = AsksForCall words client ports again
-AsksFor words (tasks.CallAt client paths again) = AsksForCallAt words client
-AsksFor words (tasks.Serve port dir sessions log lease threads status socket) =
+AsksFor words (tasks.Run n false) = AsksForRun words n
+AsksFor words (tasks.Run n true) = AsksForRunWith words n
+AsksFor words (tasks.TracedRun n file explain) = AsksForRunWith words n
+AsksFor words (tasks.Call client ports again together explain) = AsksForCall words client ports again
+AsksFor words (tasks.CallAt client paths again together explain) = AsksForCallAt words client
+AsksFor words (tasks.Serve port dir sessions log lease threads status metrics socket wait explain) =
     AsksForServe words port sessions socket
-AsksFor words (tasks.Inspect dir lists json) = AsksForInspect words
+AsksFor words (tasks.Inspect dir lists json explain) = AsksForInspect words
 
--- it is a run with a trace, by such a number
-abbrev pub IsTracedRun : Task → Type 0
-IsTracedRun tasks.Pipe = ⊥
-IsTracedRun (tasks.Run n) = ⊥
-IsTracedRun (tasks.TracedRun n file) = (1 ≤ n) × (n ≤ MAX_SERVERS)
-IsTracedRun (tasks.Call client ports again) = ⊥
-IsTracedRun (tasks.CallAt client paths again) = ⊥
-IsTracedRun (tasks.Serve port dir sessions log lease threads status socket) = ⊥
-IsTracedRun (tasks.Inspect dir lists json) = ⊥
+-- it is a run with a trace, or of which faults are explained, by such a number
+abbrev pub IsRunWith : Task → Type 0
+IsRunWith tasks.Pipe = ⊥
+IsRunWith (tasks.Run n false) = ⊥
+IsRunWith (tasks.Run n true) = (1 ≤ n) × (n ≤ MAX_SERVERS)
+IsRunWith (tasks.TracedRun n file explain) = (1 ≤ n) × (n ≤ MAX_SERVERS)
+IsRunWith (tasks.Call client ports again together explain) = ⊥
+IsRunWith (tasks.CallAt client paths again together explain) = ⊥
+IsRunWith (tasks.Serve port dir sessions log lease threads status metrics socket wait explain) = ⊥
+IsRunWith (tasks.Inspect dir lists json explain) = ⊥
 
 -- the flag is as the parser has its text
 pub record IsFlag (text : Option (List ℕ)) (flag : Bool) : Type 0 where
@@ -304,68 +336,74 @@ pub record IsFlag (text : Option (List ℕ)) (flag : Bool) : Type 0 where
 -- it is a call, by such numbers, with the flag of which the parser has this text
 abbrev pub IsCall : Option (List ℕ) → Task → Type 0
 IsCall text tasks.Pipe = ⊥
-IsCall text (tasks.Run n) = ⊥
-IsCall text (tasks.TracedRun n file) = ⊥
-IsCall text (tasks.Call client ports again) =
+IsCall text (tasks.Run n explain) = ⊥
+IsCall text (tasks.TracedRun n file explain) = ⊥
+IsCall text (tasks.Call client ports again together explain) =
     (client < 2 ^ 32) × (ArePorts ports × IsFlag text again)
-IsCall text (tasks.CallAt client paths again) = ⊥
-IsCall text (tasks.Serve port dir sessions log lease threads status socket) = ⊥
-IsCall text (tasks.Inspect dir lists json) = ⊥
+IsCall text (tasks.CallAt client paths again together explain) = ⊥
+IsCall text (tasks.Serve port dir sessions log lease threads status metrics socket wait explain) = ⊥
+IsCall text (tasks.Inspect dir lists json explain) = ⊥
 
 -- it is a call over sockets, by such a number
 abbrev pub IsCallAt : Task → Type 0
 IsCallAt tasks.Pipe = ⊥
-IsCallAt (tasks.Run n) = ⊥
-IsCallAt (tasks.TracedRun n file) = ⊥
-IsCallAt (tasks.Call client ports again) = ⊥
-IsCallAt (tasks.CallAt client paths again) = client < 2 ^ 32
-IsCallAt (tasks.Serve port dir sessions log lease threads status socket) = ⊥
-IsCallAt (tasks.Inspect dir lists json) = ⊥
+IsCallAt (tasks.Run n explain) = ⊥
+IsCallAt (tasks.TracedRun n file explain) = ⊥
+IsCallAt (tasks.Call client ports again together explain) = ⊥
+IsCallAt (tasks.CallAt client paths again together explain) = client < 2 ^ 32
+IsCallAt (tasks.Serve port dir sessions log lease threads status metrics socket wait explain) = ⊥
+IsCallAt (tasks.Inspect dir lists json explain) = ⊥
+
+-- a port from 1 on, or a path
+abbrev pub IsStatusPlace : StatusPlace → Type 0
+IsStatusPlace (places.Port port) = (1 ≤ port) × (port < 2 ^ 16)
+IsStatusPlace (places.Path path) = ⊤
 
 -- it serves, by such numbers
 abbrev pub IsServe : Task → Type 0
 IsServe tasks.Pipe = ⊥
-IsServe (tasks.Run n) = ⊥
-IsServe (tasks.TracedRun n file) = ⊥
-IsServe (tasks.Call client ports again) = ⊥
-IsServe (tasks.CallAt client paths again) = ⊥
-IsServe (tasks.Serve port dir sessions log lease threads status socket) =
+IsServe (tasks.Run n explain) = ⊥
+IsServe (tasks.TracedRun n file explain) = ⊥
+IsServe (tasks.Call client ports again together explain) = ⊥
+IsServe (tasks.CallAt client paths again together explain) = ⊥
+IsServe (tasks.Serve port dir sessions log lease threads status metrics socket wait explain) =
     IfSome port (λ p. p < 2 ^ 16) × IfSome sessions (λ k. k < 2 ^ 32)
     × IfSome lease (λ s. (1 ≤ s) × (s < 2 ^ 32))
-    × IfSome status (λ s. (1 ≤ s) × (s < 2 ^ 16))
+    × IfSome status IsStatusPlace
     × IfSome socket (λ s. s.mode < 2 ^ 9)
     × (IsSome port ⊎ IsSome socket)
-IsServe (tasks.Inspect dir lists json) = ⊥
+IsServe (tasks.Inspect dir lists json explain) = ⊥
 
 -- it inspects
 abbrev pub IsInspect : Task → Type 0
 IsInspect tasks.Pipe = ⊥
-IsInspect (tasks.Run n) = ⊥
-IsInspect (tasks.TracedRun n file) = ⊥
-IsInspect (tasks.Call client ports again) = ⊥
-IsInspect (tasks.CallAt client paths again) = ⊥
-IsInspect (tasks.Serve port dir sessions log lease threads status socket) = ⊥
-IsInspect (tasks.Inspect dir lists json) = ⊤
+IsInspect (tasks.Run n explain) = ⊥
+IsInspect (tasks.TracedRun n file explain) = ⊥
+IsInspect (tasks.Call client ports again together explain) = ⊥
+IsInspect (tasks.CallAt client paths again together explain) = ⊥
+IsInspect (tasks.Serve port dir sessions log lease threads status metrics socket wait explain) = ⊥
+IsInspect (tasks.Inspect dir lists json explain) = ⊤
 
 -- what words ask for that are written out above to the letter: the pipe, or a run
 abbrev pub AsksExactlyFor : List (List ℕ) → Task → Type 0
 AsksExactlyFor words tasks.Pipe = AsksForPipe words
-AsksExactlyFor words (tasks.Run n) = AsksForRun words n
-AsksExactlyFor words (tasks.TracedRun n file) = ⊥
-AsksExactlyFor words (tasks.Call client ports again) = ⊥
-AsksExactlyFor words (tasks.CallAt client paths again) = ⊥
-AsksExactlyFor words (tasks.Serve port dir sessions log lease threads status socket) = ⊥
-AsksExactlyFor words (tasks.Inspect dir lists json) = ⊥
+AsksExactlyFor words (tasks.Run n false) = AsksForRun words n
+AsksExactlyFor words (tasks.Run n true) = ⊥
+AsksExactlyFor words (tasks.TracedRun n file explain) = ⊥
+AsksExactlyFor words (tasks.Call client ports again together explain) = ⊥
+AsksExactlyFor words (tasks.CallAt client paths again together explain) = ⊥
+AsksExactlyFor words (tasks.Serve port dir sessions log lease threads status metrics socket wait explain) = ⊥
+AsksExactlyFor words (tasks.Inspect dir lists json explain) = ⊥
 
 -- a run and a call have at least one server, and not more than there may be
 abbrev pub HasServers : Task → Type 0
 HasServers tasks.Pipe = ⊤
-HasServers (tasks.Run n) = (1 ≤ n) × (n ≤ MAX_SERVERS)
-HasServers (tasks.TracedRun n file) = (1 ≤ n) × (n ≤ MAX_SERVERS)
-HasServers (tasks.Call client ports again) = (1 ≤ length ports) × (length ports ≤ MAX_SERVERS)
-HasServers (tasks.CallAt client paths again) = ⊤
-HasServers (tasks.Serve port dir sessions log lease threads status socket) = ⊤
-HasServers (tasks.Inspect dir lists json) = ⊤
+HasServers (tasks.Run n explain) = (1 ≤ n) × (n ≤ MAX_SERVERS)
+HasServers (tasks.TracedRun n file explain) = (1 ≤ n) × (n ≤ MAX_SERVERS)
+HasServers (tasks.Call client ports again together explain) = (1 ≤ length ports) × (length ports ≤ MAX_SERVERS)
+HasServers (tasks.CallAt client paths again together explain) = ⊤
+HasServers (tasks.Serve port dir sessions log lease threads status metrics socket wait explain) = ⊤
+HasServers (tasks.Inspect dir lists json explain) = ⊤
 
 -- whether a word begins with a hyphen
 abbrev pub has_hyphen : List ℕ → Bool

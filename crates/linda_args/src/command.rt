@@ -3,10 +3,11 @@
 mod paths;
 mod ports;
 mod socket;
+mod status;
 mod version;
 
 ghost use Rattle.std.specs.Prelude.{◌≡◌, ℕ, List, [], Some, None, false, map, codes, IfOk, IfSome};
-ghost use Rattle.std.specs.Prelude.{MatchResult};
+ghost use Rattle.std.specs.Prelude.{MatchResult, ◌↔◌, ◌≤◌, true};
 ghost use Rattle.std.specs.String.{string_bytes};
 ghost use Rattle.clap.specs.Lexer.{without_minus};
 ghost use Rattle.clap.specs.Matches.{first_value, one_text, subcommand_name_of};
@@ -14,14 +15,16 @@ ghost use Rattle.clap.specs.Words.{App, FailsBy, Kinds, Rule, app_of, fault_of, 
 ghost use Rattle.clap.specs.Words.{new_app};
 ghost use Rattle.clap.specs.Words.{rule_of, subcommand_of, subcommand_rows_of, with_rule};
 ghost use Rattle.clap.specs.Words.{with_subcommand};
+ghost use Rattle.clap.specs.declared.parser.matches.ValueSource.TheVariants as sources;
 ghost use Rattle.linda_args.specs.Commands as spec;
 ghost use Rattle.linda_args.specs.Commands.{AsksExactlyFor, AsksFor, AsksForPipe, AsksForRun};
 ghost use Rattle.linda_args.specs.Commands.{HasServers, Spells};
+ghost use Rattle.linda_client.specs.declared.limits.TheConstants.{MAX_SERVERS};
 ghost use Rattle.linda_args.specs.Commands.{IsCall, IsCommand, IsInspect, IsRefusedAs, IsServe};
-ghost use Rattle.linda_args.specs.Commands.{IsCallAt, IsTracedRun};
+ghost use Rattle.linda_args.specs.Commands.{IsCallAt, IsRunWith};
 ghost use Rattle.linda_args.specs.Commands.{Refuses, client_rule, dir_rule, flag_rule, lease_rule};
-ghost use Rattle.linda_args.specs.Commands.{linda};
-ghost use Rattle.linda_args.specs.Commands.{option_rule};
+ghost use Rattle.linda_args.specs.Commands.{linda, source_in};
+ghost use Rattle.linda_args.specs.Commands.{metric_rule, option_rule};
 ghost use Rattle.linda_args.specs.Commands.{port_rule, ports_rule, servers_rule, sessions_rule};
 ghost use Rattle.linda_args.specs.Commands.{status_rule};
 ghost use Rattle.linda_args.specs.Commands.{word_rule};
@@ -29,6 +32,7 @@ ghost use Rattle.linda_args.specs.declared.command.Task.TheVariants as tasks;
 
 use clap::builder::ValueParser;
 use clap::error::ErrorKind;
+use clap::parser::ValueSource;
 use clap::{Arg, ArgAction, ArgMatches, Command, Error, value_parser};
 use linda_client::MAX_SERVERS;
 use linda_inspect::Lists;
@@ -36,6 +40,8 @@ pub use paths::Paths;
 pub use ports::Ports;
 pub use socket::Socket;
 use socket::{MODE, SOCKET, calls_at_sockets, mode_found, serves_at_socket};
+pub use status::StatusPlace;
+use status::{METRIC, STATUS, asks_at_path, metrics_found, status_found};
 use std::alloc::{AllocError, Global};
 pub use version::{VERSION_LINES, asks_for_version};
 
@@ -47,11 +53,14 @@ pub enum Task {
     /// A script from standard input, played with this many servers: from 1 to `MAX_SERVERS`.
     Run {
         servers: u32,
+        /// A fault of a line is explained, and so in the others below.
+        explain: bool,
     },
     /// A run as `Run` is, with its trace written to this file.
     TracedRun {
         servers: u32,
         file: String,
+        explain: bool,
     },
     /// Lines of a client from standard input, over servers that listen on ports of this machine;
     /// `again` where it goes on as a client that was used before.
@@ -59,12 +68,17 @@ pub enum Task {
         client: u32,
         ports: Ports,
         again: bool,
+        /// Lines that put tuples need not wait for one another.
+        together: bool,
+        explain: bool,
     },
     /// Lines as those of `Call`, over servers that listen on unix sockets.
     CallAt {
         client: u32,
         paths: Paths,
         again: bool,
+        together: bool,
+        explain: bool,
     },
     /// The store in this folder, for clients that connect to this port, or to any if it is 0, or to
     /// a unix socket; so many connections if a number is given, with a log or without one, and in
@@ -78,15 +92,21 @@ pub enum Task {
         /// For how many seconds a client may hold a tuple and say nothing, if that is limited.
         lease: Option<u32>,
         threads: bool,
-        /// On which port it is asked how the server does, if it is.
-        status: Option<u16>,
+        /// Where it is asked how the server does, if it is.
+        status: Option<StatusPlace>,
+        /// The tags whose tuples are counted in the metrics; none if there is no status.
+        metrics: Vec<String>,
         socket: Option<Socket>,
+        /// It waits while another server has the folder open.
+        wait: bool,
+        explain: bool,
     },
     /// What the store in this folder comes to, with these lists; as lines, or as one JSON object.
     Inspect {
         dir: String,
         lists: Lists,
         json: bool,
+        explain: bool,
     },
 }
 
@@ -107,8 +127,10 @@ pub fn read_task(alloc: Global, words: &[String]) -> Result<Task, Error>
     ensures refused { (kinds : Kinds) → IsRefusedAs (map string_bytes words.now) kinds
         → Refuses kinds result }
 {
-    if serves_at_socket(words) {
-        return task_of_socket(alloc, words);
+    let at_socket = serves_at_socket(words);
+    let at_path = asks_at_path(words);
+    if at_socket || at_path {
+        return task_of_paths(alloc, words, at_socket, at_path);
     }
     if calls_at_sockets(words) {
         return task_of_sockets(alloc, words);
@@ -117,17 +139,26 @@ pub fn read_task(alloc: Global, words: &[String]) -> Result<Task, Error>
     task_by(alloc, &mut linda, words)
 }
 
-// The task that the words ask for, which are to serve with a socket: then no port has to be there.
-fn task_of_socket(alloc: Global, words: &[String]) -> Result<Task, Error>
+// The task that the words ask for, which are to serve with a socket, or with a status at a path.
+// With a socket no port has to be there.
+fn task_of_paths(
+    alloc: Global,
+    words: &[String],
+    at_socket: bool,
+    at_path: bool,
+) -> Result<Task, Error>
     ensures { IfOk result IsServe }
 {
-    let mut linda = command_of_socket(alloc)?;
+    let mut linda = command_of_paths(alloc, at_socket, at_path)?;
     let matches = linda.try_get_matches_from_mut(words)?;
     if let Some(below) = matches.subcommand_matches(SERVE) {
         if mode_found(below).is_none() {
             return Err(linda.error(ErrorKind::ValueValidation, BAD_MODE)?);
         }
         if let Some(task) = serve_of(alloc, below)? {
+            if is_unkept(&task) {
+                return Err(linda.error(ErrorKind::ArgumentConflict, why_unkept(&task))?);
+            }
             return Ok(task);
         }
     }
@@ -160,7 +191,7 @@ fn task_by<'a>(alloc: Global, linda: &mut Command<'a>, words: &'a [String]) -> R
     match found_by(alloc, linda, words)? {
         Some(task) => {
             if is_unkept(&task) {
-                return Err(linda.error(ErrorKind::ArgumentConflict, UNKEPT)?);
+                return Err(linda.error(ErrorKind::ArgumentConflict, why_unkept(&task))?);
             }
             Ok(task)
         }
@@ -169,18 +200,32 @@ fn task_by<'a>(alloc: Global, linda: &mut Command<'a>, words: &'a [String]) -> R
 }
 
 // Whether it asks for what cannot be kept: each connection has two threads, and clients that hold
-// a tuple and say nothing are to be ended.
+// a tuple and say nothing are to be ended; or tuples are to be counted where nobody can ask.
 fn is_unkept(task: &Task) -> bool
     ensures { (words : List (List ℕ)) → AsksExactlyFor words task.now → result ≡ false }
 {
     match task {
-        Task::Serve { lease, threads, .. } => *threads && lease.is_some(),
+        Task::Serve {
+            lease,
+            threads,
+            status,
+            metrics,
+            ..
+        } => (*threads && lease.is_some()) || (status.is_none() && !metrics.is_empty()),
         Task::Pipe => false,
         Task::Run { .. } => false,
         Task::TracedRun { .. } => false,
         Task::Call { .. } => false,
         Task::CallAt { .. } => false,
         Task::Inspect { .. } => false,
+    }
+}
+
+// Why what it asks for cannot be kept.
+fn why_unkept(task: &Task) -> &'static str {
+    match task {
+        Task::Serve { lease, threads, .. } if *threads && lease.is_some() => UNKEPT,
+        _ => UNCOUNTED,
     }
 }
 
@@ -245,29 +290,62 @@ fn other_of(alloc: Global, matches: &ArgMatches) -> Result<Option<Task>, AllocEr
 // What is found below `run`.
 fn run_of(alloc: Global, below: &ArgMatches) -> Result<Option<Task>, AllocError>
     ensures bare { (text : List ℕ) (n : ℕ) → first_value (found_of below.now) (codes "trace") ≡ None
+        → (source_in (found_of below.now) (codes "explain") ≡ Some sources.CommandLine → ⊥)
         → one_text (found_of below.now) (codes "servers") ≡ Some (without_minus text)
-        → Spells text n → IfOk result (λ found. found ≡ Some (tasks.Run n)) }
+        → Spells text n → IfOk result (λ found. found ≡ Some (tasks.Run n false)) }
     ensures traced { (first_value (found_of below.now) (codes "trace") ≡ None → ⊥)
-        → IfOk result (λ found. IfSome found IsTracedRun) }
+        → IfOk result (λ found. IfSome found IsRunWith) }
+    ensures explained { source_in (found_of below.now) (codes "explain") ≡ Some sources.CommandLine
+        → IfOk result (λ found. IfSome found IsRunWith) }
 {
     let Some(servers) = below.get_one::<u32>(SERVERS) else {
         return Ok(None);
     };
+    let explain = explains(below);
     match below.get_str(TRACE) {
-        None => Ok(Some(Task::Run { servers })),
-        Some(file) => traced_run(alloc, servers, file),
+        None => Ok(run_without_trace(servers, explain)),
+        Some(file) => traced_run(alloc, servers, file, explain),
     }
 }
 
+// A run without a trace; the parser has judged the number.
+fn run_without_trace(servers: u32, explain: bool) -> Option<Task>
+    ensures bare { explain ≡ false → 1 ≤ servers → servers ≤ MAX_SERVERS
+        → result ≡ Some (tasks.Run servers false) }
+    ensures explained { explain ≡ true → IfSome result IsRunWith }
+{
+    if servers < 1 || servers > MAX_SERVERS {
+        return None;
+    }
+    Some(Task::Run { servers, explain })
+}
+
 // A run with its trace; the parser has judged the number.
-fn traced_run(alloc: Global, servers: u32, file: &str) -> Result<Option<Task>, AllocError>
-    ensures { IfOk result (λ found. IfSome found IsTracedRun) }
+fn traced_run(
+    alloc: Global,
+    servers: u32,
+    file: &str,
+    explain: bool,
+) -> Result<Option<Task>, AllocError>
+    ensures { IfOk result (λ found. IfSome found IsRunWith) }
 {
     if servers < 1 || servers > MAX_SERVERS {
         return Ok(None);
     }
     let file = String::from_str(alloc, file)?;
-    Ok(Some(Task::TracedRun { servers, file }))
+    Ok(Some(Task::TracedRun {
+        servers,
+        file,
+        explain,
+    }))
+}
+
+// Whether a fault is to be explained: the words say so.
+fn explains(below: &ArgMatches) -> bool
+    ensures { (result ≡ true)
+        ↔ (source_in (found_of below.now) (codes "explain") ≡ Some sources.CommandLine) }
+{
+    matches!(below.value_source(EXPLAIN), Some(ValueSource::CommandLine))
 }
 
 // What is found below `call`.
@@ -282,10 +360,14 @@ fn call_of(alloc: Global, below: &ArgMatches) -> Result<Option<Task>, AllocError
         return Ok(None);
     };
     let again = below.get_flag(AGAIN);
+    let together = below.get_flag(TOGETHER);
+    let explain = explains(below);
     Ok(Some(Task::Call {
         client,
         ports,
         again,
+        together,
+        explain,
     }))
 }
 
@@ -303,6 +385,8 @@ fn call_at_of(alloc: Global, below: &ArgMatches) -> Result<Option<Task>, AllocEr
         client,
         paths,
         again: below.get_flag(AGAIN),
+        together: below.get_flag(TOGETHER),
+        explain: explains(below),
     }))
 }
 
@@ -326,10 +410,10 @@ fn serve_of(alloc: Global, below: &ArgMatches) -> Result<Option<Task>, AllocErro
         return Ok(None);
     }
     let threads = below.get_flag(THREADS);
-    let status = below.get_one::<u16>(STATUS);
-    if status == Some(0) {
-        return Ok(None);
-    }
+    let status = status_found(alloc, below)?;
+    let metrics = metrics_found(alloc, below)?;
+    let wait = below.get_flag(WAIT);
+    let explain = explains(below);
     Ok(Some(Task::Serve {
         port,
         dir,
@@ -338,7 +422,10 @@ fn serve_of(alloc: Global, below: &ArgMatches) -> Result<Option<Task>, AllocErro
         lease,
         threads,
         status,
+        metrics,
         socket,
+        wait,
+        explain,
     }))
 }
 
@@ -354,7 +441,13 @@ fn inspect_of(alloc: Global, below: &ArgMatches) -> Result<Option<Task>, AllocEr
     let clients = below.get_flag(CLIENTS);
     let lists = Lists { tuples, clients };
     let json = below.get_flag(JSON);
-    Ok(Some(Task::Inspect { dir, lists, json }))
+    let explain = explains(below);
+    Ok(Some(Task::Inspect {
+        dir,
+        lists,
+        json,
+        explain,
+    }))
 }
 
 // The program's command.
@@ -414,15 +507,9 @@ fn run_command<'a>(alloc: Global) -> Result<Command<'a>, AllocError>
 {
     let about = "Play a script from standard input with servers in memory";
     let first = bare_command(alloc, RUN, about, SCRIPT).arg(servers(alloc));
-    with_arg(
-        first,
-        option(
-            alloc,
-            TRACE,
-            "FILE",
-            "Write what happened to this file, a line an event",
-        ),
-    )
+    let help = "Write what happened to this file, a line an event";
+    let second = with_arg(first, option(alloc, TRACE, "FILE", help));
+    with_arg(second, flag(alloc, EXPLAIN, EXPLAIN_LINES))
 }
 
 // The command of a client.
@@ -432,7 +519,9 @@ fn call_command<'a>(alloc: Global) -> Result<Command<'a>, AllocError>
     let about = "Put and take tuples at servers that listen on ports of this machine";
     let first = bare_command(alloc, CALL, about, LINES).arg(client(alloc));
     let second = with_arg(first, port_words(alloc));
-    with_arg(second, flag(alloc, AGAIN, AGAIN_HELP))
+    let third = with_arg(second, flag(alloc, AGAIN, AGAIN_HELP));
+    let fourth = with_arg(third, flag(alloc, TOGETHER, TOGETHER_HELP));
+    with_arg(fourth, flag(alloc, EXPLAIN, EXPLAIN_LINES))
 }
 
 // The program's command where it calls servers at sockets.
@@ -451,7 +540,9 @@ fn call_command_of_sockets<'a>(alloc: Global) -> Result<Command<'a>, AllocError>
         .value_parser(ValueParser::NonEmptyString);
     let first = bare_command(alloc, CALL, about, LINES).arg(client(alloc));
     let second = with_arg(first, sockets);
-    with_arg(second, flag(alloc, AGAIN, AGAIN_HELP))
+    let third = with_arg(second, flag(alloc, AGAIN, AGAIN_HELP));
+    let fourth = with_arg(third, flag(alloc, TOGETHER, TOGETHER_HELP));
+    with_arg(fourth, flag(alloc, EXPLAIN, EXPLAIN_LINES))
 }
 
 // The command that serves a folder.
@@ -465,22 +556,34 @@ fn serve_command<'a>(alloc: Global) -> Result<Command<'a>, AllocError>
     let fifth = with_arg(fourth, lease_option(alloc));
     let sixth = with_arg(fifth, flag(alloc, THREADS, THREADS_HELP));
     let seventh = with_arg(sixth, status_option(alloc));
-    let eighth = with_arg(seventh, option(alloc, SOCKET, "PATH", SOCKET_HELP));
-    with_arg(eighth, option(alloc, MODE, "MODE", MODE_HELP))
+    let eighth = with_arg(seventh, metric_option(alloc));
+    let ninth = with_arg(eighth, option(alloc, SOCKET, "PATH", SOCKET_HELP));
+    let tenth = with_arg(ninth, option(alloc, MODE, "MODE", MODE_HELP));
+    let eleventh = with_arg(tenth, flag(alloc, WAIT, WAIT_HELP));
+    with_arg(eleventh, flag(alloc, EXPLAIN, EXPLAIN_END))
 }
 
-// The program's command where it serves with a socket: a socket has to be there, and no port.
-fn command_of_socket<'a>(alloc: Global) -> Result<Command<'a>, AllocError> {
+// The program's command where it serves with a socket, which has to be there then, and no port; or
+// where its status is asked for at a path.
+fn command_of_paths<'a>(
+    alloc: Global,
+    at_socket: bool,
+    at_path: bool,
+) -> Result<Command<'a>, AllocError> {
     let bare = bare_command(alloc, "linda", "A tuple space", STARTING).subcommand_required(true);
-    bare.subcommand(serve_command_of_socket(alloc)?)
+    bare.subcommand(serve_command_of_paths(alloc, at_socket, at_path)?)
 }
 
-// The command that serves a folder with a socket.
-fn serve_command_of_socket<'a>(alloc: Global) -> Result<Command<'a>, AllocError> {
+// The command that serves a folder with a socket, or with its status at a path.
+fn serve_command_of_paths<'a>(
+    alloc: Global,
+    at_socket: bool,
+    at_path: bool,
+) -> Result<Command<'a>, AllocError> {
     let socket = option(alloc, SOCKET, "PATH", SOCKET_HELP)
-        .required(true)
+        .required(at_socket)
         .value_parser(ValueParser::NonEmptyString);
-    let port = port_option(alloc).required(false);
+    let port = port_option(alloc).required(!at_socket);
     let first = bare_command(alloc, SERVE, SERVE_ABOUT, SERVING).arg(port);
     let second = with_arg(first, dir_option(alloc));
     let third = with_arg(second, sessions_option(alloc));
@@ -488,9 +591,12 @@ fn serve_command_of_socket<'a>(alloc: Global) -> Result<Command<'a>, AllocError>
     let fifth = with_arg(fourth, lease_option(alloc));
     let threads = flag(alloc, THREADS, THREADS_HELP).conflicts_with(SOCKET)?;
     let sixth = with_arg(fifth, threads);
-    let seventh = with_arg(sixth, status_option(alloc));
-    let eighth = with_arg(seventh, socket);
-    with_arg(eighth, option(alloc, MODE, "MODE", MODE_HELP))
+    let seventh = with_arg(sixth, status_at(alloc, at_path));
+    let eighth = with_arg(seventh, metric_option(alloc));
+    let ninth = with_arg(eighth, socket);
+    let tenth = with_arg(ninth, option(alloc, MODE, "MODE", MODE_HELP));
+    let eleventh = with_arg(tenth, flag(alloc, WAIT, WAIT_HELP));
+    with_arg(eleventh, flag(alloc, EXPLAIN, EXPLAIN_END))
 }
 
 // The command that says what a folder holds.
@@ -505,7 +611,8 @@ fn inspect_command<'a>(alloc: Global) -> Result<Command<'a>, AllocError>
     let help = "A line for each client, with its kept reply";
     let third = with_arg(second, flag(alloc, CLIENTS, help));
     let help = "One JSON object in place of the lines";
-    with_arg(third, flag(alloc, JSON, help))
+    let fourth = with_arg(third, flag(alloc, JSON, help));
+    with_arg(fourth, flag(alloc, EXPLAIN, EXPLAIN_END))
 }
 
 // The option that says how many servers there are.
@@ -595,9 +702,26 @@ fn status_option<'a>(alloc: Global) -> Arg<'a>
     ensures rule { rule_of result ≡ status_rule }
     ensures own { result.global ≡ false }
 {
-    let help = "Answer on this port, over HTTP, how the server does";
     let parser = value_parser!(u16).range(1..);
-    number_option(alloc, STATUS, "Q", help, parser)
+    number_option(alloc, STATUS, "Q", STATUS_HELP, parser)
+}
+
+// The option that says where it is asked how the server does, on a port or at a path.
+fn status_at<'a>(alloc: Global, at_path: bool) -> Arg<'a> {
+    if at_path {
+        option(alloc, STATUS, "Q", STATUS_HELP)
+    } else {
+        status_option(alloc)
+    }
+}
+
+// The option that names a tag whose tuples are counted; it may be there more than once.
+fn metric_option<'a>(alloc: Global) -> Arg<'a>
+    ensures rule { rule_of result ≡ metric_rule }
+    ensures own { result.global ≡ false }
+{
+    let help = "Count the tuples with this tag in the metrics of the status; once for each tag";
+    option(alloc, METRIC, "TAG", help).action(ArgAction::Append)
 }
 
 // An option of this name, with a number that the parser takes.
@@ -674,7 +798,8 @@ const LEASE: &str = "lease";
 
 const THREADS: &str = "threads";
 
-const STATUS: &str = "status";
+const STATUS_HELP: &str =
+    "Answer over HTTP how the server does: on this port, or at a unix socket, if Q has a slash";
 
 const SERVE_ABOUT: &str = "Serve the store in a folder on a port of this machine";
 
@@ -686,11 +811,24 @@ const SOCKET_HELP: &str = "Listen on a unix socket at this path, beside a port o
 
 const MODE_HELP: &str = "Who may connect to the socket, in octal; 600 if it is not given";
 
+const WAIT: &str = "wait";
+
+const WAIT_HELP: &str = "Wait while another server has the folder open, and then serve it";
+
 /// Why a mode is refused.
 const BAD_MODE: &str = "the value of '--mode <MODE>' is not three octal digits";
 
 /// Why a lease is refused beside threads.
 const UNKEPT: &str = "the argument '--lease <S>' cannot be used with '--threads'";
+
+/// Why tags are refused beside no status.
+const UNCOUNTED: &str = "the argument '--metric <TAG>' cannot be used without '--status'";
+
+const EXPLAIN: &str = "explain";
+
+const EXPLAIN_LINES: &str = "Say in a second line where a line is no command, or what failed";
+
+const EXPLAIN_END: &str = "Say in a second line what failed";
 
 const INSPECT: &str = "inspect";
 
@@ -705,6 +843,10 @@ const PORTS: &str = "ports";
 const AGAIN: &str = "again";
 
 const AGAIN_HELP: &str = "Go on as a client that was used before";
+
+const TOGETHER: &str = "together";
+
+const TOGETHER_HELP: &str = "Put tuples without waiting, up to 64 before their outcomes";
 
 /// Why a call with so many sockets is refused.
 const TOO_MANY: &str = "there are more than 16 servers";

@@ -13,4 +13,6 @@
 
 mod command;
 
-pub use command::{Paths, Ports, Socket, Task, VERSION_LINES, asks_for_version, read_task};
+pub use command::{
+    Paths, Ports, Socket, StatusPlace, Task, VERSION_LINES, asks_for_version, read_task,
+};

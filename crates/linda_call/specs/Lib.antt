@@ -4,6 +4,7 @@ pub mod Lines
 pub mod Links
 pub mod Numbers
 pub mod Party
+pub mod Ring
 pub mod Standings
 pub mod Statuses
 pub mod Taking

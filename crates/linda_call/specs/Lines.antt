@@ -5,7 +5,7 @@ use Rattle.linda_shell_text.specs.declared.line_fault.LineFault.TheVariants as l
 use Rattle.linda_call.specs.declared.calling.fault.CallFault.{CallFault}
 use Rattle.linda_call.specs.declared.calling.fault.CallFault.TheVariants.{Line, NoConnection}
 use Rattle.linda_call.specs.declared.calling.fault.CallFault.TheVariants.{Refused, Restored, Memory}
-use Rattle.linda_call.specs.declared.calling.fault.CallFault.TheVariants.{Read}
+use Rattle.linda_call.specs.declared.calling.fault.CallFault.TheVariants.{InUse, NotAServer, Read}
 use Rattle.linda_call.specs.declared.calling.fault.CallFault.TheVariants.{Write, Turns, Clock}
 
 -- the number of the next line, of the 64 bits that there are
@@ -18,6 +18,8 @@ fault_at number (Line n fault) = Line n fault
 fault_at number (NoConnection server) = NoConnection server
 fault_at number (Refused server code detail) = Refused server code detail
 fault_at number (Restored server) = Restored server
+fault_at number (InUse server) = InUse server
+fault_at number (NotAServer server) = NotAServer server
 fault_at number Memory = Line number lines.Memory
 fault_at number Read = Read
 fault_at number Write = Write

@@ -6,8 +6,10 @@ mod clock;
 mod count;
 mod fault;
 mod kept;
+mod manner;
 mod numbers;
 mod party;
+mod ring;
 mod standing;
 
 ghost use Rattle.std.specs.Prelude.{◌≡◌, ◌≤◌, length, map, IfOk, vec_len};
@@ -21,6 +23,7 @@ pub use fault::CallFault;
 use linda_net_proxy::{Inbox, Link};
 use linda_pipe::{extend_line, without_return};
 use linda_store::MAX_READS;
+pub use manner::Manner;
 use std::alloc::{AllocError, Global};
 use std::io::{Read, Write};
 use std::net::{Net, TcpListener, TcpStream};
@@ -48,9 +51,10 @@ const BUFFER: usize = 4096;
 ///
 /// `Line` with the number of the first line that was not done, from 1: the outcomes of the lines
 /// before it are written. `NoConnection` and `Refused` of the first server that is given up or that
-/// refuses a request; `Restored` of one that has lost what it answered. `Read`, `Turns`, `Write`
-/// and `Clock` where the input, the output or the clock fails. `Memory` where memory, or a thread,
-/// cannot be had outside of a line.
+/// refuses a request; `NotAServer` of what answers a greeting as no server does; `Restored` of a
+/// server that has lost what it answered; `InUse` of one where another program uses the client's
+/// number. `Read`, `Turns`, `Write` and `Clock` where the input, the output or the clock fails.
+/// `Memory` where memory, or a thread, cannot be had outside of a line.
 pub fn call<
     S: Net<Listener = TcpListener, Stream = TcpStream> + Threads + Wait + Clock + Sync,
     R: Read,
@@ -67,8 +71,42 @@ pub fn call<
     requires some { 1 ≤ length ports.now }
     requires few { length ports.now ≤ MAX_SERVERS }
 {
-    let links = links_to(alloc, client, ports, !goes_on)?;
-    call_over(rt, alloc, reader, writer, client, &links, goes_on)
+    let manner = Manner {
+        goes_on,
+        together: false,
+    };
+    call_as(rt, alloc, reader, writer, client, ports, manner)
+}
+
+/// Plays lines as `call` does, in this manner. If tuples are put together, lines `out TUPLE` that
+/// came in one read go out one after the other, up to 64 before their outcomes; each outcome has
+/// its own line, in the order of the lines, and other lines wait until all before them are
+/// answered. The j-th tuple, from 0, goes to the server that the client's number plus j leaves by
+/// the count of servers. After a lost connection the last number that a server keeps says which
+/// tuples it stored: their ids are lost, and their line is `C stored S none`, but for the last one;
+/// the others are sent again.
+///
+/// # Errors
+///
+/// As those of `call`. If a server refuses a tuple, the outcomes of the lines before are written.
+pub fn call_as<
+    S: Net<Listener = TcpListener, Stream = TcpStream> + Threads + Wait + Clock + Sync,
+    R: Read,
+    W: Write,
+>(
+    rt: &S,
+    alloc: Global,
+    reader: &mut R,
+    writer: &mut W,
+    client: u32,
+    ports: &[u16],
+    manner: Manner,
+) -> Result<(), CallFault>
+    requires some { 1 ≤ length ports.now }
+    requires few { length ports.now ≤ MAX_SERVERS }
+{
+    let links = links_to(alloc, client, ports, !manner.goes_on)?;
+    call_over(rt, alloc, reader, writer, client, &links, manner)
 }
 
 /// Plays lines as `call` does, over the servers that listen on the unix sockets at these paths,
@@ -93,8 +131,37 @@ pub fn call_at<
     requires some { 1 ≤ length paths.now }
     requires few { length paths.now ≤ MAX_SERVERS }
 {
-    let links = links_at(alloc, client, paths, !goes_on)?;
-    call_over(rt, alloc, reader, writer, client, &links, goes_on)
+    let manner = Manner {
+        goes_on,
+        together: false,
+    };
+    call_at_as(rt, alloc, reader, writer, client, paths, manner)
+}
+
+/// Plays lines as `call_as` does, over the servers that listen on the unix sockets at these paths,
+/// which are numbered from 0.
+///
+/// # Errors
+///
+/// As those of `call_at`.
+pub fn call_at_as<
+    S: Net<Listener = TcpListener, Stream = TcpStream> + Threads + Wait + Clock + Sync,
+    R: Read,
+    W: Write,
+>(
+    rt: &S,
+    alloc: Global,
+    reader: &mut R,
+    writer: &mut W,
+    client: u32,
+    paths: &[String],
+    manner: Manner,
+) -> Result<(), CallFault>
+    requires some { 1 ≤ length paths.now }
+    requires few { length paths.now ≤ MAX_SERVERS }
+{
+    let links = links_at(alloc, client, paths, !manner.goes_on)?;
+    call_over(rt, alloc, reader, writer, client, &links, manner)
 }
 
 // Plays the lines over these links.
@@ -109,14 +176,14 @@ fn call_over<
     writer: &mut W,
     client: u32,
     all: &[Link],
-    goes_on: bool,
+    manner: Manner,
 ) -> Result<(), CallFault>
     requires some { 1 ≤ length all.now }
     requires few { length all.now ≤ MAX_SERVERS }
 {
     let inbox = Inbox::new(alloc);
     let arrivals = &inbox;
-    let caller = Caller::new(rt, alloc, arrivals, all, client, goes_on)?;
+    let caller = Caller::new(rt, alloc, arrivals, all, client, manner)?;
     thread::scope(thread::scope_env(), rt, |scope| {
         let mut is_kept = true;
         for link in all {
@@ -189,7 +256,8 @@ fn play<S: Wait + Clock, R: Read, W: Write>(
             return Err(CallFault::Read);
         };
         if count == 0 {
-            return lines.end_line(rt, alloc, writer);
+            lines.end_line(rt, alloc, writer)?;
+            return lines.caller.finish(rt, alloc, writer);
         }
         lines.take(rt, alloc, &buffer[..count], writer)?;
     }
@@ -205,7 +273,8 @@ struct Lines<'a> {
 }
 
 impl Lines<'_> {
-    // Takes a piece of the input, and does the lines that end in it.
+    // Takes a piece of the input, and does the lines that end in it. All of them are answered before
+    // more is read.
     fn take<S: Wait + Clock, W: Write>(
         &mut self,
         rt: &S,
@@ -219,12 +288,12 @@ impl Lines<'_> {
                 return Err(self.count.memory());
             };
             let Some(later) = later else {
-                return Ok(());
+                break;
             };
             self.end_line(rt, alloc, writer)?;
             rest = later;
         }
-        Ok(())
+        self.caller.finish(rt, alloc, writer)
     }
 
     // Does the line that was begun, and begins the next one. Memory that runs out is reported as a

@@ -9,4 +9,4 @@
 
 mod calling;
 
-pub use calling::{CallFault, call, call_at};
+pub use calling::{CallFault, Manner, call, call_as, call_at, call_at_as};

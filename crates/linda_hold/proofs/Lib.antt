@@ -1,4 +1,5 @@
 pub mod ListLaws
+pub mod LongLaws
 pub mod NameLaws
 pub mod NamingLaws
 pub mod CountLaws
@@ -9,6 +10,8 @@ pub mod IndexLaws
 pub mod NumberedLaws
 pub mod EntryLaws
 pub mod WaitLaws
-pub mod ArrivalLaws
+pub mod NextLaws
+pub mod MetLaws
+pub mod PositionLaws
 pub mod BeginningLaws
 pub mod TicketLaws

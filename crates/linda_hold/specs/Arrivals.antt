@@ -1,23 +1,23 @@
--- The numbers of requests that are still to be looked at, in order of arrival.
-use Rattle.std.specs.Prelude.{ℕ, Bool, List, [], Option, None, Some}
-use Rattle.std.specs.Ordering.{nat_cmp}
-use Rattle.std.specs.List.{list_any}
-use Rattle.std.specs.BTreeMap.{is_at}
-use Rattle.std.specs.BTreeSet.{insert_key}
-use Rattle.linda_hold.specs.declared.arrivals.Rest.{Rest}
-use Rattle.linda_hold.specs.declared.arrivals.Rest.TheVariants as rest
+-- Which number is the next one, of those that are to be looked at in order of arrival, and which
+-- waits are still to be looked at.
+use Rattle.std.specs.Prelude.{◌≡◌, ℕ, ◌≤◌, ◌<◌, nat_le, Bool, true, false, List, Option, None, Some, filter}
+use Rattle.std.specs.Map.{values_of}
+use Rattle.linda_tuple.specs.Tuple.{Tuple}
+use Rattle.linda_hold.specs.Heads.{may_answer}
+use Rattle.linda_hold.specs.Waits.{Wait}
+use Rattle.linda_hold.specs.Numbered.{in_order}
 
--- the numbers, with this one at its place among them
-abbrev pub with_one : Option ℕ → List ℕ → List ℕ
-with_one None numbers = numbers
-with_one (Some one) numbers = insert_key nat_cmp numbers one
+-- The least of these numbers from one on; nothing only if there is none.
+abbrev pub IsNext : (ℕ → Bool) → ℕ → Option ℕ → Type 0
+IsNext has from None = (k : ℕ) → from ≤ k → has k ≡ false
+IsNext has from (Some next) =
+    (from ≤ next) × (has next ≡ true) × ((k : ℕ) → from ≤ k → k < next → has k ≡ false)
 
--- whether the number is one of these
-abbrev pub has_in : List ℕ → ℕ → Bool
-has_in numbers q = list_any (is_at (nat_cmp q)) numbers
+-- whether the tuple may answer the wait
+abbrev pub may_meet : Tuple → Wait → Bool
+may_meet row w = may_answer row (Some w.1)
 
--- the numbers that are left of what was begun
-abbrev pub left_in : Rest → List ℕ
-left_in rest.Nothing = []
-left_in (rest.One numbers) = numbers
-left_in (rest.Both numbers) = numbers
+-- the waits that the tuple may answer, from a number on, in order of arrival
+abbrev pub met_from : Tuple → ℕ → List (ℕ × Wait) → List Wait
+met_from row from es =
+    filter (may_meet row) (values_of (filter (λ e. nat_le from e.0) (in_order es)))

@@ -1,5 +1,5 @@
--- Requests that ask for tuples of one tag and one number of fields: which of them a tuple may
--- answer, by its first field.
+-- Requests whose templates have their first value at one position, or have none: which of them a
+-- tuple may answer, by the field there.
 use Rattle.std.specs.Prelude.{Bool, ◌||◌, Option, None, Some}
 use Rattle.std.specs.Option.{is_some}
 use Rattle.linda_tuple.specs.declared.atom.Atom.{Atom}
@@ -10,7 +10,7 @@ use Rattle.linda_hold.specs.declared.group.Group.{Group}
 use Rattle.linda_bag.specs.Firsts.{HasFirsts}
 use Rattle.linda_hold.specs.Firsts.{first_of}
 
--- the request, if its template begins with no value
+-- the request, if its template has no value
 abbrev pub if_unkeyed : Option Atom → Asked → Option Asked
 if_unkeyed None asked = Some asked
 if_unkeyed (Some v) asked = None
@@ -22,17 +22,16 @@ unkeyed_at (Some asked) = if_unkeyed (first_of asked) asked
 abbrev pub unkeyed_of : Rows Asked → Rows Asked
 unkeyed_of asked q = unkeyed_at (asked q)
 
--- the request, if its template begins with this value
+-- the request, if this is the first value of its template
 abbrev pub keyed_at : Option Atom → Option Asked → Option Asked
 keyed_at None asked = None
 keyed_at (Some v) asked = row_at atom_ord.ghosts.cmp v (placed first_of asked)
 
--- whether there is a request that a tuple with this first field may answer
+-- whether there is a request that a tuple with this field there may answer
 abbrev pub is_reached : Option Atom → Option Asked → Bool
 is_reached first asked = is_some (keyed_at first asked) || is_some (unkeyed_at asked)
 
--- Each number is filed under the value that the template of its request begins with, or is with the
--- others.
+-- Each number is filed under the first value of its request's template, or is with the others.
 abbrev pub HasGroup : Group → Rows Asked → Type 0
 HasGroup group asked =
     HasFirsts first_of group.firsts asked × HasIds group.unkeyed (unkeyed_of asked)

@@ -1,15 +1,14 @@
--- Which requests a tuple may answer: those that ask for its tag and its number of fields and, where
--- their template begins with a value, for its first field.
+-- Which requests a tuple may answer: those that ask for its tag and its number of fields and, if
+-- their template has a value, for the field that is where the first one is.
 use Rattle.std.specs.Prelude.{ℕ, Bool, Option, length}
 use Rattle.linda_tuple.specs.declared.atom.Atom.{Atom}
 use Rattle.linda_tuple.specs.Tuple.{Tuple}
 use Rattle.linda_bag.specs.declared.heads.Heads.{Heads}
 use Rattle.linda_bag.specs.Filing.{Rows}
 use Rattle.linda_bag.specs.Heads.{HasHeads, with_head}
-use Rattle.linda_bag.specs.Candidates.{first_among}
 use Rattle.linda_hold.specs.declared.asked.Asked.{Asked}
-use Rattle.linda_hold.specs.declared.group.Group.{Group}
-use Rattle.linda_hold.specs.Group.{HasGroup, is_reached}
+use Rattle.linda_hold.specs.declared.positions.Positions.{Positions}
+use Rattle.linda_hold.specs.Positions.{HasPositions, is_met}
 use Rattle.linda_hold.specs.Waits.{Wait}
 
 -- The wait under each number, where there is one.
@@ -24,8 +23,8 @@ abbrev pub count_of : Asked → ℕ
 count_of asked = length asked.template.fields
 
 -- The heads have the numbers of what these requests ask.
-abbrev pub HasAsked : Heads Group → Rows Asked → Type 0
-HasAsked heads asked = HasHeads tag_of count_of HasGroup heads asked
+abbrev pub HasAsked : Heads Positions → Rows Asked → Type 0
+HasAsked heads asked = HasHeads tag_of count_of HasPositions heads asked
 
 -- what asks for a tuple of this tag and of as many fields
 abbrev pub alike : Tuple → Rows Asked → Rows Asked
@@ -33,4 +32,4 @@ alike row asked = with_head tag_of count_of row.tag (length row.fields) asked
 
 -- whether there is a request that the tuple may answer
 abbrev pub may_answer : Tuple → Option Asked → Bool
-may_answer row asked = is_reached (first_among row.fields) (alike row (λ _. asked) 0)
+may_answer row asked = is_met row.fields (alike row (λ _. asked) 0)

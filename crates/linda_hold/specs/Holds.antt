@@ -3,6 +3,7 @@ use Rattle.std.specs.Prelude.{◌≡◌, ℕ, ◌==◌, List, Option, None, Some
 use Rattle.std.specs.Ordering.{nat_cmp}
 use Rattle.std.specs.FinMap as map
 use Rattle.linda_hold.specs.declared.request.Request.{Request}
+use Rattle.linda_hold.specs.declared.long.LongHold.{LongHold}
 
 -- The request that each tuple is held for, by the tuple's id.
 abbrev pub HeldFor : Type 0
@@ -22,3 +23,7 @@ IsOneEach holds =
 -- the ids that are held for a client, in the order of the entries
 abbrev pub held_in : ℕ → List (ℕ × Request) → List ℕ
 held_in client es = map (λ e. e.0) (filter (λ e. e.1.client == client) es)
+
+-- The tuple is held for the request that is named.
+abbrev pub IsHold : HeldFor → LongHold → Type 0
+IsHold holds row = map.get holds row.id ≡ Some row.request

@@ -1,12 +1,11 @@
 -- How the requests that wait are found: by themselves, by their client, and by the head of what
 -- they ask for.
-use Rattle.std.specs.Prelude.{ℕ, List, [], ◌∷◌, Option, None, Some}
+use Rattle.std.specs.Prelude.{Option, None, Some}
 use Rattle.std.specs.Option.{option_map}
 use Rattle.linda_bag.specs.Filing.{Rows}
 use Rattle.linda_hold.specs.declared.index.Index.{Index}
 use Rattle.linda_hold.specs.Named.{Requests, HasNames}
 use Rattle.linda_hold.specs.declared.asked.Asked.{Asked}
-use Rattle.linda_hold.specs.Waits.{Wait}
 use Rattle.linda_hold.specs.Heads.{Waiting, HasAsked}
 
 -- the request of the wait under each number
@@ -21,16 +20,6 @@ asked_of waiting k = option_map (λ w. w.1) (waiting k)
 abbrev pub HasWaits : Index → Waiting → Type 0
 HasWaits index waiting =
     HasNames index.names (requests_of waiting) × HasAsked index.heads (asked_of waiting)
-
--- the wait, if there is one, before the others
-abbrev pub before : Option Wait → List Wait → List Wait
-before None waits = waits
-before (Some w) waits = w ∷ waits
-
--- the waits under these numbers, in their order
-abbrev pub waits_at : Waiting → List ℕ → List Wait
-waits_at waiting [] = []
-waits_at waiting (k ∷ ks) = before (waiting k) (waits_at waiting ks)
 
 -- what was found first, if something was
 abbrev pub or_else : {X : Type 0} → Option X → Option X → Option X

@@ -8,5 +8,6 @@ pub mod Codes
 pub mod Arrivals
 pub mod Firsts
 pub mod Group
+pub mod Positions
 pub mod Keys
 pub mod Numbered

@@ -1,13 +1,14 @@
 -- Waits: the requests that no tuple has answered yet, in order of arrival, and what is picked from
 -- them.
 use Rattle.std.specs.Prelude.{ℕ, ◌==◌, Bool, ◌&&◌, not, List, Option, filter, find}
-use Rattle.std.specs.List.{list_any, IsDistinct}
+use Rattle.std.specs.List.{list_any, Contains, IsDistinct}
 use Rattle.std.specs.Map.{keys_of}
 use Rattle.linda_tuple.specs.Tuple.{Tuple}
 use Rattle.linda_tuple.specs.Matching.{is_match}
 use Rattle.linda_hold.specs.declared.request.Request.{Request}
 use Rattle.linda_hold.specs.Request.{same_request}
 use Rattle.linda_hold.specs.declared.asked.Asked.{Asked}
+use Rattle.linda_hold.specs.declared.long.LongWait.{LongWait}
 
 -- A wait: a request, and what it asked.
 abbrev pub Wait : Type 0
@@ -56,3 +57,7 @@ without request waits = filter (λ w. not (same_request request w.0)) waits
 -- No request waits twice.
 abbrev pub AreDistinct : List Wait → Type 0
 AreDistinct waits = IsDistinct same_request (keys_of waits)
+
+-- The request waits, and asked this.
+abbrev pub IsWait : List Wait → LongWait → Type 0
+IsWait waits row = Contains waits (row.request, row.asked)

@@ -1,19 +1,39 @@
 //! Since when each of some numbers is there.
 
+ghost use Rattle.std.specs.Prelude.{◌≤◌, IfOk, length};
+
 use std::alloc::{AllocError, Global};
 use std::collections::BTreeMap;
 
-/// In which second each number was noted. Seconds are set from outside, and never fall. Until one
-/// is set nothing is noted, which takes no memory and one comparison.
+/// In which second each number was noted, and in which order they were. Seconds are set from
+/// outside, and never fall. Until one is set nothing is noted, which takes no memory and one
+/// comparison.
 ///
 /// It is for people who look on: no contract sees it, and no answer of a server depends on it.
 #[derive(Drop)]
 pub(crate) struct Ages {
     // The present second; 0 until one is set.
     second: u64,
-    noted: BTreeMap<u64, u64>,
-    // How many numbers were noted in each second.
-    counts: BTreeMap<u64, u64>,
+    noted: BTreeMap<u64, Noted>,
+    // The numbers that are noted, in the order in which they were.
+    order: BTreeMap<u64, u64>,
+    // The place in this order of the number that is noted next.
+    next: u64,
+}
+
+// When a number was noted.
+#[derive(Clone, Copy)]
+struct Noted {
+    second: u64,
+    // Its place in the order.
+    place: u64,
+}
+
+/// A number that is noted, and for how long it is.
+#[derive(Clone, Copy)]
+pub(crate) struct Age {
+    pub(crate) number: u64,
+    pub(crate) seconds: u64,
 }
 
 impl Ages {
@@ -22,7 +42,8 @@ impl Ages {
         Ages {
             second: 0,
             noted: BTreeMap::new(alloc),
-            counts: BTreeMap::new(alloc),
+            order: BTreeMap::new(alloc),
+            next: 0,
         }
     }
 
@@ -38,12 +59,17 @@ impl Ages {
             return;
         }
         self.forget(number);
-        let second = self.second;
-        if count_in(&mut self.counts, second).is_err() {
+        let place = self.next;
+        if self.order.insert(place, number).is_err() {
             return;
         }
-        if self.noted.insert(number, second).is_err() {
-            count_out(&mut self.counts, second);
+        self.next = place.saturating_add(1);
+        let noted = Noted {
+            second: self.second,
+            place,
+        };
+        if self.noted.insert(number, noted).is_err() {
+            self.order.remove(&place);
         }
     }
 
@@ -52,42 +78,45 @@ impl Ages {
         if self.second == 0 {
             return;
         }
-        if let Some(second) = self.noted.remove(&number) {
-            count_out(&mut self.counts, second);
+        if let Some(noted) = self.noted.remove(&number) {
+            self.order.remove(&noted.place);
         }
     }
 
     /// How many seconds ago the number was noted; nothing if it is not.
     pub(crate) fn age(&self, number: u64) -> Option<u64> {
-        let second = self.noted.get(&number).copied()?;
-        Some(self.second.saturating_sub(second))
+        let noted = self.noted.get(&number).copied()?;
+        Some(self.second.saturating_sub(noted.second))
     }
 
     /// How many seconds ago the number was noted that is noted for longest. It walks over none of
     /// them.
     pub(crate) fn oldest(&self) -> Option<u64> {
-        let (second, _) = self.counts.first_key_value()?;
-        Some(self.second.saturating_sub(*second))
+        let (_, number) = self.order.first_key_value()?;
+        self.age(*number)
     }
-}
 
-// Counts one more in the second.
-fn count_in(counts: &mut BTreeMap<u64, u64>, second: u64) -> Result<(), AllocError> {
-    if let Some(count) = counts.get_mut(&second) {
-        *count = count.saturating_add(1);
-        return Ok(());
-    }
-    counts.insert(second, 1)?;
-    Ok(())
-}
-
-// Counts one less in the second, which is gone with its last.
-fn count_out(counts: &mut BTreeMap<u64, u64>, second: u64) {
-    if let Some(count) = counts.get_mut(&second) {
-        if *count > 1 {
-            *count -= 1;
-            return;
+    /// The numbers that are noted for longest, the oldest first, as many as are asked for at most.
+    /// It walks over those only.
+    ///
+    /// # Errors
+    ///
+    /// `AllocError` if memory runs out.
+    pub(crate) fn longest(&self, alloc: Global, most: usize) -> Result<Vec<Age>, AllocError>
+        ensures { IfOk result (λ found. length found.items ≤ most) }
+    {
+        let mut found = Vec::new(alloc);
+        for number in self.order.values() {
+            if found.len() >= most {
+                return Ok(found);
+            }
+            if let Some(seconds) = self.age(*number) {
+                found.push(Age {
+                    number: *number,
+                    seconds,
+                })?;
+            }
         }
+        Ok(found)
     }
-    counts.remove(&second);
 }

@@ -1,164 +1,105 @@
-//! Numbers of requests from two sets, in one order: that of arrival.
+//! The waits that a tuple may answer, in order of arrival.
 
-ghost use Rattle.std.specs.Prelude.{◌≡◌, ℕ, ◌||◌, IfNone, [], drop};
-ghost use Rattle.std.specs.Option.{option_copied};
-ghost use Rattle.std.specs.Ordering.{nat_cmp};
+ghost use Rattle.std.specs.Prelude.{◌≡◌, ◌+◌, ◌<◌, ℕ, true, filter, [], IfNone};
+ghost use Rattle.std.specs.Option.{is_some, option_copied};
 ghost use Rattle.std.specs.List.{cons_option};
-ghost use Rattle.std.specs.List.Sorted.{IsStrictlySortedBy};
-ghost use Rattle.std.specs.BTreeSet.{contains};
-ghost use Rattle.linda_bag.specs.Ids.{has_any};
-ghost use Rattle.linda_hold.specs.Arrivals.{left_in, has_in};
+ghost use Rattle.std.specs.Map.{values_of};
+ghost use Rattle.linda_bag.specs.Filing.{Rows, IsShelved};
+ghost use Rattle.linda_hold.specs.declared.asked.Asked as asks;
+ghost use Rattle.linda_hold.specs.Arrivals.{IsNext, may_meet};
+ghost use Rattle.linda_hold.specs.Heads as heads;
+ghost use Rattle.linda_hold.specs.Heads.{HasAsked, may_answer};
+ghost use Rattle.linda_hold.specs.Index.{asked_of};
+ghost use Rattle.linda_hold.specs.Numbered.{AreBelow, in_order, wait_at};
+ghost use Rattle.linda_hold.specs.Positions.{HasPositions};
 
-use linda_bag::Ids;
-use std::cmp::Ordering;
-use std::collections::BTreeSet;
-use std::collections::btree_set::{Iter, Union};
+use crate::asked::Asked;
+use crate::heads::{Heads, Wait};
+use crate::keys::Keys;
+use crate::positions::Positions;
+use indexmap::IndexMap;
+use linda_bag::alike;
+use linda_tuple::Tuple;
 use std::marker::Model;
 
-/// The numbers that are left, rising: those of a set, and maybe a single one besides.
+/// The waits that are left, in order of arrival: those that ask for the tuple's tag and its number
+/// of fields and, if their template has a value, for the field where the first one is.
 #[derive(Drop)]
 pub(crate) struct Arrivals<'a> {
-    one: Option<u64>,
-    others: Ahead<'a>,
+    by_arrival: &'a IndexMap<u64, Wait, Keys>,
+    // Those of the tuple's tag and its number of fields.
+    positions: Option<&'a Positions>,
+    tuple: &'a Tuple,
+    // Those below this number were passed.
+    from: u64,
+    // All numbers are below this one.
+    end: u64,
 }
 
 impl<'a> Model for Arrivals<'a> {
-    ghost use Rattle.std.specs.Prelude.{List, ℕ};
-    ghost use Rattle.linda_hold.specs.Arrivals.{with_one};
+    ghost use Rattle.std.specs.Prelude.{List, ◌<◌, ◌^◌};
+    ghost use Rattle.linda_hold.specs.Waits as seen;
+    ghost use Rattle.linda_hold.specs.Arrivals.{met_from};
+    ghost use Rattle.std.specs.Option.{option_copied};
+    ghost use Rattle.linda_bag.specs.Filing.{IsShelved};
+    ghost use Rattle.linda_hold.specs.Positions.{HasPositions};
+    ghost use Rattle.linda_hold.specs.Heads as heads;
+    ghost use Rattle.linda_hold.specs.Index.{asked_of};
+    ghost use Rattle.linda_hold.specs.Numbered.{AreBelow, wait_at};
 
-    ghost Value = { List ℕ };
+    ghost Value = { List seen.Wait };
 
-    ghost view = { λ a. with_one a.one a.others };
+    ghost view = { λ a. met_from a.tuple.now a.from a.by_arrival.now.entries };
+
+    ghost invariant = { λ a. AreBelow a.end (wait_at a.by_arrival.now.entries)
+        × IsShelved HasPositions (option_copied a.positions)
+        (heads.alike a.tuple.now (asked_of (wait_at a.by_arrival.now.entries)))
+        × (a.end < 2 ^ 64) };
 }
 
 impl<'a> Arrivals<'a> {
-    /// No numbers.
-    pub(crate) fn none() -> Arrivals<'a>
-        ensures { result ≡ [] }
+    /// All waits that the tuple may answer.
+    pub(crate) fn new(
+        by_arrival: &'a IndexMap<u64, Wait, Keys>,
+        heads: &'a Heads,
+        tuple: &'a Tuple,
+        end: u64,
+    ) -> Arrivals<'a>
+        requires below { AreBelow end (wait_at by_arrival.now.entries) }
+        requires filed { HasAsked heads.now (asked_of (wait_at by_arrival.now.entries)) }
+        ensures { result
+            ≡ filter (may_meet tuple.now) (values_of (in_order by_arrival.now.entries)) }
     {
         Arrivals {
-            one: None,
-            others: Ahead::new(Rest::Nothing),
+            by_arrival,
+            positions: alike::<Asked, Positions>(heads, tuple.tag(), tuple.fields().len()),
+            tuple,
+            from: 0,
+            end,
         }
     }
 
-    /// The numbers of both sets.
-    pub(crate) fn new(keyed: Option<&'a Ids>, unkeyed: &'a BTreeSet<u64>) -> Arrivals<'a>
-        ensures ordered { IsStrictlySortedBy nat_cmp result }
-        ensures has { (q : ℕ) → has_in result q
-            ≡ (has_any (option_copied keyed.entry) q || contains nat_cmp unkeyed.now q) }
-    {
-        let Some(numbers) = keyed else {
-            return Arrivals {
-                one: None,
-                others: Ahead::new(Rest::One(unkeyed.iter())),
-            };
-        };
-        match numbers {
-            Ids::Nothing => Arrivals {
-                one: None,
-                others: Ahead::new(Rest::One(unkeyed.iter())),
-            },
-            Ids::One(only) => Arrivals {
-                one: Some(*only),
-                others: Ahead::new(Rest::One(unkeyed.iter())),
-            },
-            Ids::Many(many) => Arrivals {
-                one: None,
-                others: Ahead::new(Rest::Both(many.union(unkeyed))),
-            },
-        }
-    }
-
-    /// The first number that is left, which is left no more.
-    pub(crate) fn next(&mut self) -> Option<u64>
-        ensures first { self.old ≡ cons_option result self.new }
+    /// The first wait that is left, which is left no more.
+    pub(crate) fn next(&mut self) -> Option<&'a Wait>
+        ensures first { self.old ≡ cons_option (option_copied result) self.new }
         ensures none { IfNone result (self.new ≡ []) }
     {
-        let Some(one) = self.one else {
-            return self.others.next();
-        };
-        let Some(other) = self.others.first() else {
-            self.one = None;
-            return Some(one);
-        };
-        match one.cmp(&other) {
-            Ordering::Less => {
-                self.one = None;
-                Some(one)
-            }
-            Ordering::Equal => {
-                self.one = None;
-                self.others.next()
-            }
-            Ordering::Greater => self.others.next(),
-        }
+        let number = next_from(self.positions, self.tuple, self.from)?;
+        let wait = self.by_arrival.get(&number)?;
+        self.from = number + 1;
+        Some(wait)
     }
 }
 
-// Numbers, of which the first is known before it is taken.
-#[derive(Drop)]
-struct Ahead<'a> {
-    first: Option<u64>,
-    rest: Rest<'a>,
-}
-
-// The numbers of no set, of one, or of two.
-#[derive(Drop)]
-enum Rest<'a> {
-    Nothing,
-    One(Iter<'a, u64>),
-    Both(Union<'a, u64>),
-}
-
-impl<'a> Model for Ahead<'a> {
-    ghost use Rattle.std.specs.Prelude.{◌≡◌, List, ℕ, [], IfNone};
-    ghost use Rattle.std.specs.List.{cons_option};
-    ghost use Rattle.linda_hold.specs.Arrivals.{left_in};
-
-    ghost Value = { List ℕ };
-
-    ghost view = { λ a. cons_option a.first (left_in a.rest) };
-
-    ghost invariant = { λ a. IfNone a.first (left_in a.rest ≡ []) };
-}
-
-impl<'a> Ahead<'a> {
-    fn new(mut rest: Rest<'a>) -> Ahead<'a>
-        ensures { result ≡ left_in rest.entry }
-    {
-        let first = rest.next();
-        Ahead { first, rest }
-    }
-
-    // The first, which is left still.
-    fn first(&self) -> Option<u64>
-        ensures first { self.now ≡ cons_option result (drop 1 self.now) }
-        ensures none { IfNone result (self.now ≡ []) }
-    {
-        self.first
-    }
-
-    // The first, which is left no more.
-    fn next(&mut self) -> Option<u64>
-        ensures first { self.old ≡ cons_option result self.new }
-        ensures none { IfNone result (self.new ≡ []) }
-    {
-        let first = self.first;
-        self.first = self.rest.next();
-        first
-    }
-}
-
-impl<'a> Rest<'a> {
-    fn next(&mut self) -> Option<u64>
-        ensures first { left_in self.old ≡ cons_option result (left_in self.new) }
-        ensures none { IfNone result (left_in self.new ≡ []) }
-    {
-        match self {
-            Rest::Nothing => None,
-            Rest::One(numbers) => numbers.next().copied(),
-            Rest::Both(numbers) => numbers.next().copied(),
-        }
+// The least number, from one on, of the requests that the tuple may answer, of those of its tag and
+// its number of fields.
+fn next_from(positions: Option<&Positions>, tuple: &Tuple, from: u64) -> Option<u64>
+    ensures { (asked : Rows asks.Asked)
+        → IsShelved HasPositions (option_copied positions.entry) (heads.alike tuple.now asked)
+        → IsNext (λ q. may_answer tuple.now (asked q)) from result }
+{
+    match positions {
+        Some(positions) => positions.next_from(tuple.fields(), from),
+        None => None,
     }
 }

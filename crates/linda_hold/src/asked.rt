@@ -1,9 +1,9 @@
 //! What a request asks of the space.
 
 ghost use Rattle.std.specs.Prelude.{◌≡◌, ◌&&◌, not};
-ghost use Rattle.std.specs.Option.{option_copied};
+ghost use Rattle.std.specs.Option.{option_copied, option_map};
 ghost use Rattle.linda_tuple.specs.Matching.{is_match};
-ghost use Rattle.linda_hold.specs.Firsts.{first_of};
+ghost use Rattle.linda_hold.specs.Firsts.{first_of, later_of, value_from};
 
 use linda_tuple::{Atom, Pattern, Template, Tuple, matches};
 
@@ -16,17 +16,43 @@ pub struct Asked {
 }
 
 impl Asked {
-    /// The value that the template begins with, if it begins with one.
+    /// The first value of the template, wherever it is, with how many patterns are before it.
+    pub(crate) fn value(&self) -> Option<(usize, &Atom)>
+        ensures { option_map (λ p. (p.0, p.1.now)) result ≡ value_from 0 self.now.template.fields }
+    {
+        let mut before = 0;
+        for pattern in self.template.fields() {
+            match pattern {
+                Pattern::Value(value) => {
+                    return Some((before, value));
+                }
+                Pattern::IntFormal => {}
+                Pattern::TextFormal => {}
+                Pattern::BoolFormal => {}
+                Pattern::Any => {}
+            }
+            before += 1;
+        }
+        None
+    }
+
+    /// The first value of the template, wherever it is, if it has one.
     pub(crate) fn first(&self) -> Option<&Atom>
         ensures { option_copied result ≡ first_of self.now }
     {
-        match self.template.fields().first()? {
-            Pattern::Value(value) => Some(value),
-            Pattern::IntFormal => None,
-            Pattern::TextFormal => None,
-            Pattern::BoolFormal => None,
-            Pattern::Any => None,
+        let (_, value) = self.value()?;
+        Some(value)
+    }
+
+    /// How many patterns are before the first value, if it does not begin the template.
+    pub(crate) fn later(&self) -> Option<usize>
+        ensures { result ≡ later_of self.now }
+    {
+        let (before, _) = self.value()?;
+        if before == 0 {
+            return None;
         }
+        Some(before)
     }
 
     /// Whether this is a read that the tuple answers.

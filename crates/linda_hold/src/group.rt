@@ -1,17 +1,15 @@
-//! Requests that ask for tuples of one tag and one number of fields: those whose template begins
-//! with a value by that value, and the others together.
+//! Requests whose templates have their first value at one position, or have none: the first ones by
+//! that value, and the others together.
 
 ghost use Rattle.std.specs.Prelude.{◌≡◌, ℕ};
 ghost use Rattle.std.specs.Option.{option_copied};
-ghost use Rattle.std.specs.Ordering.{nat_cmp};
-ghost use Rattle.std.specs.List.Sorted.{IsStrictlySortedBy};
 ghost use Rattle.linda_bag.specs.Filing.{Rows};
 ghost use Rattle.linda_hold.specs.declared.asked.Asked as asks;
-ghost use Rattle.linda_hold.specs.Arrivals.{has_in};
+ghost use Rattle.linda_hold.specs.Arrivals.{IsNext};
 ghost use Rattle.linda_hold.specs.Group.{HasGroup, is_reached};
 
-use crate::arrivals::Arrivals;
 use crate::asked::Asked;
+use crate::numbers::{next_in, next_of, sooner};
 use linda_bag::{Firsts, Shelf};
 use linda_tuple::Atom;
 use std::alloc::{AllocError, Global};
@@ -25,16 +23,19 @@ pub(crate) struct Group {
 }
 
 impl Group {
-    /// The numbers of the requests that a tuple with this first field may answer: of those whose
-    /// template begins with that value, and of those whose template begins with none.
-    pub(crate) fn arrivals(&self, first: Option<&Atom>) -> Arrivals<'_>
-        ensures ordered { IsStrictlySortedBy nat_cmp result }
-        ensures has { (asked : Rows asks.Asked) → HasGroup self.now asked → (q : ℕ)
-            → has_in result q ≡ is_reached (option_copied first.entry) (asked q) }
+    /// The least number, from one on, of the requests that a tuple with this field there may
+    /// answer: of those whose first value it is, and of those that have none.
+    pub(crate) fn next_from(&self, field: Option<&Atom>, from: u64) -> Option<u64>
+        ensures { (asked : Rows asks.Asked) → HasGroup self.now asked
+            → IsNext (λ q. is_reached (option_copied field.entry) (asked q)) from result }
     {
-        match first {
-            Some(first) => Arrivals::new(self.firsts.get::<Asked>(first), &self.unkeyed),
-            None => Arrivals::new(None, &self.unkeyed),
+        let unkeyed = next_in(&self.unkeyed, from);
+        let Some(field) = field else {
+            return unkeyed;
+        };
+        match self.firsts.get::<Asked>(field) {
+            Some(ids) => sooner(next_of(ids, from), unkeyed),
+            None => unkeyed,
         }
     }
 }

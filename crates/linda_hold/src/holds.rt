@@ -1,13 +1,15 @@
 //! The tuples that are held for requests.
 
-ghost use Rattle.std.specs.Prelude.{◌≡◌, ℕ, None, Some, IfOk, OnOk, OnErr, length};
+ghost use Rattle.std.specs.Prelude.{◌≡◌, ◌≤◌, ℕ, None, Some, All, length};
+ghost use Rattle.std.specs.Prelude.{IfOk, IfSome, OnOk, OnErr};
 ghost use Rattle.std.specs.Option.{is_some};
 ghost use Rattle.std.specs.Ordering.{nat_cmp};
 ghost use Rattle.std.specs.FinMap as map;
 ghost use Rattle.std.specs.BTreeSet as set;
-ghost use Rattle.linda_hold.specs.Holds.{IsHeldAt, IsOneEach, held_in};
+ghost use Rattle.linda_hold.specs.Holds.{IsHeldAt, IsHold, IsOneEach, held_in};
 
-use crate::ages::Ages;
+use crate::ages::{Age, Ages};
+use crate::long::LongHold;
 use crate::names::Names;
 use crate::request::Request;
 use linda_bag::IdSet;
@@ -84,6 +86,41 @@ impl Holds {
     /// For how many seconds the tuple is held that is held for longest. It walks over none of them.
     pub fn oldest(&self) -> Option<u64> {
         self.ages.oldest()
+    }
+
+    /// The tuples that are held for longest, the longest first, as many as are asked for at most,
+    /// with their requests. It walks over those only. Nothing that was held before a second was set
+    /// is among them.
+    ///
+    /// # Errors
+    ///
+    /// `AllocError` if memory runs out.
+    pub fn longest(&self, alloc: Global, most: usize) -> Result<Vec<LongHold>, AllocError>
+        ensures held { IfOk result (λ found. All (IsHold self.now) found.items) }
+        ensures few { IfOk result (λ found. length found.items ≤ most) }
+    {
+        let aged = self.ages.longest(alloc, most)?;
+        let mut found = Vec::new(alloc);
+        for age in &aged {
+            if let Some(hold) = self.aged(*age) {
+                found.push(hold)?;
+            }
+        }
+        Ok(found)
+    }
+
+    // The tuple of this age, if it is held.
+    fn aged(&self, age: Age) -> Option<LongHold>
+        ensures { IfSome result (IsHold self.now) }
+    {
+        let Some(request) = self.get(age.number) else {
+            return None;
+        };
+        Some(LongHold {
+            id: age.number,
+            request,
+            seconds: age.seconds,
+        })
     }
 
     /// The request that the tuple is held for.

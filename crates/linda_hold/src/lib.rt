@@ -19,12 +19,16 @@ mod heads;
 mod holds;
 mod index;
 mod keys;
+mod long;
 mod names;
+mod numbers;
+mod positions;
 mod request;
 mod waits;
 
 pub use asked::Asked;
 pub use awaiting::Awaiting;
 pub use holds::Holds;
+pub use long::{LongHold, LongWait};
 pub use request::Request;
 pub use waits::Waits;

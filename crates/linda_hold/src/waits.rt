@@ -1,20 +1,23 @@
 //! The requests that wait for a tuple.
 
-ghost use Rattle.std.specs.Prelude.{◌≡◌, ℕ, ◌+◌, ◌++◌, ◌∷◌, [], None, cond, false, true, nat_eq};
-ghost use Rattle.std.specs.Prelude.{length, map};
+ghost use Rattle.std.specs.Prelude.{◌≡◌, ◌≤◌, ℕ, ◌+◌, ◌++◌, ◌∷◌, [], None, cond, false, true};
+ghost use Rattle.std.specs.Prelude.{All, filter, length, map, nat_eq};
 ghost use Rattle.std.specs.Prelude.{IfOk, OnOk, OnErr, IfSome, IfNone};
 ghost use Rattle.std.specs.Option.{option_map};
 ghost use Rattle.linda_hold.specs.Request.{request_of};
+ghost use Rattle.linda_hold.specs.Arrivals.{may_meet};
 ghost use Rattle.linda_hold.specs.Numbered.{wait_at};
-ghost use Rattle.linda_hold.specs.Waits.{AreDistinct, is_awaited, is_waiting, longest, readers};
-ghost use Rattle.linda_hold.specs.Waits.{waits_of, without, without_client, without_readers};
+ghost use Rattle.linda_hold.specs.Waits.{AreDistinct, IsWait, is_awaited, is_waiting, longest};
+ghost use Rattle.linda_hold.specs.Waits.{readers, waits_of, without, without_client, without_readers};
 
-use crate::ages::Ages;
+use crate::ages::{Age, Ages};
+use crate::arrivals::Arrivals;
 use crate::asked::Asked;
 use crate::awaiting::{Awaiting, awaiting_among, first_input, is_answering_one};
-use crate::heads::{Wait, arrivals};
+use crate::heads::Wait;
 use crate::index::Index;
 use crate::keys::Keys;
+use crate::long::LongWait;
 use crate::request::Request;
 use indexmap::IndexMap;
 use linda_tuple::Tuple;
@@ -96,6 +99,61 @@ impl Waits {
     /// For how many seconds the request waits that waits for longest. It walks over none of them.
     pub fn oldest(&self) -> Option<u64> {
         self.ages.oldest()
+    }
+
+    /// The requests that wait for longest, the longest first, as many as are asked for at most, with
+    /// what they asked. It walks over those only. None that began to wait before a second was set is
+    /// among them.
+    ///
+    /// # Errors
+    ///
+    /// `AllocError` if memory runs out.
+    pub fn longest_of_all(&self, alloc: Global, most: usize) -> Result<Vec<LongWait>, AllocError>
+        ensures waiting { IfOk result (λ found. All (IsWait self.now) found.items) }
+        ensures few { IfOk result (λ found. length found.items ≤ most) }
+    {
+        let aged = self.ages.longest(alloc, most)?;
+        let mut found = Vec::new(alloc);
+        for age in &aged {
+            self.push_aged(alloc, &mut found, *age)?;
+        }
+        Ok(found)
+    }
+
+    // Puts the request of this age behind the others, if it waits.
+    fn push_aged(
+        &self,
+        alloc: Global,
+        found: &mut Vec<LongWait>,
+        age: Age,
+    ) -> Result<(), AllocError>
+        ensures waiting { OnOk result (All (IsWait self.now) found.old.items
+            → All (IsWait self.now) found.new.items) }
+        ensures one { OnOk result (length found.new.items ≤ length found.old.items + 1) }
+    {
+        let Some(wait) = self.aged(alloc, age)? else {
+            return Ok(());
+        };
+        found.push(wait)?;
+        Ok(())
+    }
+
+    // The request of this age, if it waits, with what it asked.
+    fn aged(&self, alloc: Global, age: Age) -> Result<Option<LongWait>, AllocError>
+        ensures { IfOk result (λ found. IfSome found (IsWait self.now)) }
+    {
+        let Some((request, asked)) = self.by_arrival.get(&age.number) else {
+            return Ok(None);
+        };
+        let template = asked.template.try_clone(alloc)?;
+        Ok(Some(LongWait {
+            request: *request,
+            asked: Asked {
+                remove: asked.remove,
+                template,
+            },
+            seconds: age.seconds,
+        }))
     }
 
     /// Lets the numbers be hashed by random keys, which no client knows. If a request waits
@@ -229,29 +287,32 @@ impl Waits {
             a.longest ≡ option_map (λ w. w.0) (longest tuple.now self.now)) }
         ensures distinct { AreDistinct self.now }
     {
-        awaiting_among(
-            alloc,
-            &self.by_arrival,
-            arrivals(&self.index.heads, tuple),
-            tuple,
-        )
+        awaiting_among(alloc, self.arrivals(tuple), tuple)
     }
 
-    /// Whether some request waits that the tuple answers. It looks at those alone that ask for its
-    /// tag, its number of fields, and its first field or no value there, and takes no memory.
+    // The requests that the tuple may answer.
+    fn arrivals<'a>(&'a self, tuple: &'a Tuple) -> Arrivals<'a>
+        ensures met { result ≡ filter (may_meet tuple.now) self.now }
+        ensures distinct { AreDistinct self.now }
+    {
+        Arrivals::new(&self.by_arrival, &self.index.heads, tuple, self.next)
+    }
+
+    /// Whether some request waits that the tuple answers. It looks only at those that ask for its
+    /// tag, its number of fields, and its field where their first value is, or for no value. It
+    /// takes no memory.
     pub fn is_awaited(&self, tuple: &Tuple) -> bool
         ensures { result ≡ is_awaited tuple.now self.now }
     {
-        is_answering_one(&self.by_arrival, arrivals(&self.index.heads, tuple), tuple)
+        is_answering_one(self.arrivals(tuple), tuple)
     }
 
-    /// The input that has waited longest of those that the tuple answers. It looks at those alone
-    /// that ask for its tag, its number of fields, and its first field or no value there, and takes
-    /// no memory.
+    /// The input that has waited longest of those that the tuple answers. It looks at no others
+    /// than `is_awaited`, and takes no memory.
     pub fn longest(&self, tuple: &Tuple) -> Option<Request>
         ensures { result ≡ option_map (λ w. w.0) (longest tuple.now self.now) }
     {
-        first_input(&self.by_arrival, arrivals(&self.index.heads, tuple), tuple)
+        first_input(self.arrivals(tuple), tuple)
     }
 
     /// How many requests of the client wait. It walks over none of them, and takes no memory.

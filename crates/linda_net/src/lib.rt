@@ -8,6 +8,7 @@
 //!   named here too.
 #![tactic(auto)]
 
+mod busy;
 mod coming;
 mod frames;
 mod limits;
@@ -31,12 +32,12 @@ pub use linda_net_proxy::{
 };
 pub use linda_net_pump::{Intake, pump};
 pub use linda_shared::{
-    ClientPage, Gauge, KindPage, ListedClient, ListedKind, ListedTuple, MOST_KINDS, Shared,
-    SharedFault, TuplePage, TupleQuery,
+    ClientPage, Gauge, KindPage, ListedClient, ListedKind, ListedReply, ListedTuple, Longest,
+    MOST_KINDS, Shared, SharedFault, TakenCount, TuplePage, TupleQuery,
 };
 pub use listeners::Listeners;
 pub use marks::Tally;
 pub use refusals::{Refused, Why};
 pub use serving::{serve, serve_loop, serve_watched};
-pub use status::{Asked, Status, Teller, Told};
+pub use status::{Asked, Listener, Status, Teller, Told};
 pub use watching::{Notice, Watcher};

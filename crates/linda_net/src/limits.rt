@@ -5,8 +5,8 @@
 pub struct Limits {
     /// So many connections are let in; any number if there is none.
     pub sessions: Option<u32>,
-    /// For so many seconds, and one or two more, a client that holds a tuple may send no message:
-    /// then its connection is ended, so what it holds is free again. If there is none it may wait
-    /// for ever.
+    /// For so many seconds a client that holds a tuple may send no message: then its connection is
+    /// ended, three seconds later at most unless the machine is busy, so what it holds is free
+    /// again. If there is none it may wait for ever.
     pub lease: Option<u32>,
 }

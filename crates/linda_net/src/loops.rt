@@ -6,7 +6,9 @@
 //! - A `Loop` has some of the connections (`Sessions`), and what of theirs goes to the server next
 //!   (`Batch`).
 //! - A `Connection` is read and written without waiting for it.
-//! - A `Lease` says when a client is late that holds a tuple and says nothing.
+//! - `Time` is that of a loop. A `Span` says for how long something is so at a connection: that its
+//!   client holds a tuple and says nothing, or that it is over and takes nothing.
+//! - A `Share` says how much is taken in one turn.
 //! - A `Relay` is what others hand to a loop: connections that came, and replies to its clients.
 //!   `Relays` has them all,
 //!   which loop serves which client, and what is counted.
@@ -14,14 +16,15 @@
 mod batch;
 mod connection;
 mod door;
-mod lease;
 mod place;
 mod posting;
 mod relay;
 mod relays;
 mod running;
 mod sessions;
-mod stream;
+mod share;
+mod span;
+mod time;
 mod took;
 mod turns;
 

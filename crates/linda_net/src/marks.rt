@@ -5,11 +5,14 @@ ghost use Rattle.linda_net.specs.Counting.{no_tally};
 ghost use Rattle.linda_wire.specs.declared.refusal.Refusal.TheVariants as refusals;
 ghost use Rattle.linda_wire.specs.Refusal.{refused};
 
-use crate::refusals::{Counts, Refused, why_of};
-use crate::watching::Notice;
-use linda_wire::{Refusal, Reply};
+use crate::busy::Runs;
+use crate::refusals::{Counts, Refused, Why, why_of};
+use crate::watching::{Notice, millis_of};
+use linda_wire::{Message, Refusal, Reply};
+use std::alloc::Global;
 use std::sync::atomic::{AtomicU64, Ordering};
 use std::sync::{Mutex, Wait};
+use std::time::{Clock, Instant};
 
 /// How often something happened since the connections began to be served.
 #[derive(Clone, Copy, Debug, PartialEq, Eq)]
@@ -71,11 +74,20 @@ pub(crate) struct Marks {
     took: AtomicU64,
     // What came of the last snapshot, until it is reported.
     snapshot: Mutex<Option<Notice>>,
+    busy: Mutex<Busy>,
+}
+
+/// The clients that are refused Busy again and again.
+#[derive(Drop)]
+struct Busy {
+    // When the first one was refused.
+    since: Option<Instant>,
+    runs: Runs,
 }
 
 impl Marks {
     /// Nothing happened yet.
-    pub(crate) fn new() -> Marks {
+    pub(crate) fn new(alloc: Global) -> Marks {
         Marks {
             came: AtomicU64::new(0),
             over: AtomicU64::new(0),
@@ -88,6 +100,10 @@ impl Marks {
             messages: AtomicU64::new(0),
             took: AtomicU64::new(0),
             snapshot: Mutex::new(None),
+            busy: Mutex::new(Busy {
+                since: None,
+                runs: Runs::new(alloc),
+            }),
         }
     }
 
@@ -128,13 +144,26 @@ impl Marks {
     }
 
     /// This reply goes out: if it says that the bank is full, or refuses its client for what an
-    /// operator may mend, that is counted.
+    /// operator may mend, that is counted; but that a number is in use is counted by `turns_away`.
     pub(crate) fn sends(&self, reply: &Reply) {
         if tells_full(reply) {
             let _ = self.refused.fetch_add(1, Ordering::SeqCst);
         }
         if let Some(why) = why_of(reply) {
-            self.turned.add(why);
+            if why != Why::Busy {
+                self.turned.add(why);
+            }
+        }
+    }
+
+    /// A greeting is refused with this code. If the number is in use, and was asked for again and
+    /// again for a second, that is counted.
+    pub(crate) fn turns_away<R: Wait + Clock>(&self, rt: &R, greeting: &Message, code: u8) {
+        let Message::Hello { client, .. } = greeting else {
+            return;
+        };
+        if code == Refusal::Busy.code() && self.busy.lock(rt).refuse(rt, *client) {
+            self.turned.add(Why::Busy);
         }
     }
 
@@ -161,6 +190,21 @@ impl Marks {
             groups: self.groups.load(Ordering::SeqCst),
             messages: self.messages.load(Ordering::SeqCst),
             took: self.took.load(Ordering::SeqCst),
+        }
+    }
+}
+
+impl Busy {
+    // A client is refused now. Says whether that counts.
+    fn refuse<R: Clock>(&mut self, rt: &R, client: u32) -> bool {
+        let Ok(now) = Instant::now(rt) else {
+            return false;
+        };
+        let since = *self.since.get_or_insert(now);
+        let millis = millis_of(now.duration_since(since));
+        match self.runs.refuse(client, millis) {
+            Ok(counts) => counts,
+            Err(_) => false,
         }
     }
 }

@@ -18,10 +18,11 @@ use linda_wire::{Message, Refusal, Reply};
 use std::alloc::Global;
 use std::sync::Wait;
 use std::sync::ledger::Ledger;
+use std::time::Clock;
 
 /// A connection that submits what it takes, and writes what that led to.
 #[derive(Drop)]
-struct Reader<'a, D: Disk, L: Ledger, R: Wait> {
+struct Reader<'a, D: Disk, L: Ledger, R: Wait + Clock> {
     rt: &'a R,
     alloc: Global,
     shared: &'a Shared<D, L>,
@@ -31,7 +32,7 @@ struct Reader<'a, D: Disk, L: Ledger, R: Wait> {
 }
 
 /// No contract names what a server has that threads share, so nothing is said of the messages.
-impl<D: Disk, L: Ledger, R: Wait> Intake for Reader<'_, D, L, R> {
+impl<D: Disk, L: Ledger, R: Wait + Clock> Intake for Reader<'_, D, L, R> {
     ghost use Rattle.std.specs.Prelude.{None};
 
     ghost taken = { λ _. None };
@@ -46,7 +47,7 @@ impl<D: Disk, L: Ledger, R: Wait> Intake for Reader<'_, D, L, R> {
     }
 }
 
-impl<D: Disk, L: Ledger, R: Wait> Reader<'_, D, L, R> {
+impl<D: Disk, L: Ledger, R: Wait + Clock> Reader<'_, D, L, R> {
     // Takes the first of these messages, as many as are taken at once, and writes what they led to.
     // Returns how many.
     fn take_some(&mut self, messages: &[Message]) -> Result<usize, ConverseFault>
@@ -88,7 +89,12 @@ impl<D: Disk, L: Ledger, R: Wait> Reader<'_, D, L, R> {
         ensures { IfErr result IsOfIntake }
     {
         match self.shared.greet(self.rt, message) {
-            Ok(greeted) => self.settle(greeted),
+            Ok(greeted) => {
+                if let Greeted::Refused(code, _) = &greeted {
+                    self.marks.turns_away(self.rt, message, *code);
+                }
+                self.settle(greeted)
+            }
             Err(fault) => Err(fault_of(fault)),
         }
     }
@@ -201,7 +207,7 @@ fn is_hello(message: &Message) -> bool
 
 /// Reads a connection to its end, and submits what comes. The session of a client that was greeted
 /// ends then, after all of its replies were written.
-pub(crate) fn read_messages<D: Disk, L: Ledger, R: Wait>(
+pub(crate) fn read_messages<D: Disk, L: Ledger, R: Wait + Clock>(
     rt: &R,
     alloc: Global,
     shared: &Shared<D, L>,

@@ -96,7 +96,7 @@ fn serve_beside<
 ) -> (Result<(), SharedFault>, Tally) {
     let is_over = Mutex::new(false);
     let over = &is_over;
-    let counts = Marks::new();
+    let counts = Marks::new(alloc);
     let marks = &counts;
     let seconds = Seconds::begin(rt, shared, station.is_some());
     thread::scope(thread::scope_env(), rt, |scope| {
@@ -112,7 +112,8 @@ fn serve_beside<
 /// in a thread of its own, read what came and write what is sent. A loop takes what its connections
 /// have to the server as one group, those messages first of which no deed comes. An idle connection
 /// costs no thread. A client that holds a tuple and says nothing for longer than the limits allow
-/// has its connection ended. If the system has no room for a loop, and there is neither such a
+/// has its connection ended. No connection has more of a turn than its share. If the server goes down
+/// all connections end, and so does this call. If the system has no room for a loop, and there is neither such a
 /// limit nor a unix socket, it serves as `serve_watched` does.
 ///
 /// # Errors

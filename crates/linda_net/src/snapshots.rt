@@ -10,23 +10,21 @@ use std::sync::{Mutex, Wait};
 use std::thread;
 use std::time::{Clock, Duration};
 
-/// A snapshot of fewer tuples is taken at once: it takes no longer than a step.
-const FEW: usize = 4_096;
-
-/// About so many bytes are written in a step.
+/// About so many bytes are written in a step. A bank of fewer bytes has a snapshot of hardly more,
+/// which is taken at once.
 const STEP: usize = 262_144;
 
 /// For how many milliseconds others have the server between two steps.
 const PAUSE: u64 = 1;
 
-/// Takes a snapshot: in steps, or at once if there are few tuples, or if one in steps was given up.
+/// Takes a snapshot: in steps, or at once if the bank is short, or if one in steps was given up.
 /// Returns what came of it; nothing if it was over before it came to its end.
 pub(crate) fn snapshot<D: Disk, L: Ledger, R: Wait + Clock>(
     rt: &R,
     shared: &Shared<D, L>,
     is_over: &Mutex<bool>,
 ) -> Option<Result<(), SharedFault>> {
-    if shared.gauge(rt).tuples < FEW {
+    if shared.gauge(rt).used < STEP {
         return Some(shared.snapshot(rt));
     }
     if let Err(fault) = shared.begin_steps(rt) {

@@ -7,13 +7,13 @@ mod station;
 
 use crate::marks::Tally;
 use linda_disk::Disk;
-pub use linda_net_http::{Asked, Told};
+pub use linda_net_http::{Asked, Listener, Told};
 use linda_shared::Shared;
 pub(crate) use station::Station;
 use std::alloc::AllocError;
-use std::net::TcpListener;
 use std::sync::Wait;
 use std::sync::ledger::Ledger;
+use std::time::Clock;
 
 /// Who has the pages that are asked for.
 pub trait Teller {
@@ -23,7 +23,7 @@ pub trait Teller {
     /// # Errors
     ///
     /// Memory ran out: some of the page may be there.
-    fn spell<D: Disk, L: Ledger, R: Wait>(
+    fn spell<D: Disk, L: Ledger, R: Wait + Clock>(
         &self,
         rt: &R,
         shared: &Shared<D, L>,
@@ -36,7 +36,7 @@ pub trait Teller {
 /// Where it is asked how the server does, and who has the pages.
 #[derive(Drop)]
 pub struct Status<A: Teller> {
-    pub listener: TcpListener,
+    pub listener: Listener,
     pub teller: A,
 }
 
@@ -45,7 +45,7 @@ pub struct Status<A: Teller> {
 pub(crate) struct Unasked;
 
 impl Teller for Unasked {
-    fn spell<D: Disk, L: Ledger, R: Wait>(
+    fn spell<D: Disk, L: Ledger, R: Wait + Clock>(
         &self,
         _rt: &R,
         _shared: &Shared<D, L>,

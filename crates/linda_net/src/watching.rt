@@ -55,6 +55,12 @@ pub enum Notice {
 pub trait Watcher {
     /// This happened; so much the server and its connections come to then.
     fn tell<C: Clock>(&mut self, clock: &C, notice: Notice, gauge: &Gauge, tally: &Tally);
+
+    /// Whether what the server writes is kept, as far as whoever is told knows: asked once a minute.
+    /// If it is not the server goes down.
+    fn is_kept<C: Clock>(&mut self, _clock: &C) -> bool {
+        true
+    }
 }
 
 /// A watcher that nobody listens to.
@@ -93,6 +99,7 @@ pub(crate) fn watch<D: Disk, L: Ledger, R: Wait + Clock, T: Watcher>(
             tell(rt, shared, marks, watcher, Notice::Minute);
             seen.end_minute(&tally);
             begin = Instant::now(rt).ok();
+            end_if_not_kept(rt, shared, watcher);
         }
         thread::sleep(rt, look());
     }
@@ -164,6 +171,18 @@ pub(crate) fn tell<D: Disk, L: Ledger, R: Wait + Clock, T: Watcher>(
     watcher.lock(rt).tell(rt, notice, &gauge, &tally);
 }
 
+// The server goes down if what it writes is not kept.
+fn end_if_not_kept<D: Disk, L: Ledger, R: Wait + Clock, T: Watcher>(
+    rt: &R,
+    shared: &Shared<D, L>,
+    watcher: &Mutex<T>,
+) {
+    let is_kept = watcher.lock(rt).is_kept(rt);
+    if !is_kept {
+        shared.give_up(rt);
+    }
+}
+
 // How many milliseconds have gone by since then; 0 where the clock cannot be read.
 fn millis_since<R: Clock>(rt: &R, begin: Option<Instant>) -> u64 {
     let Some(begin) = begin else {
@@ -175,8 +194,8 @@ fn millis_since<R: Clock>(rt: &R, begin: Option<Instant>) -> u64 {
     }
 }
 
-// How many whole milliseconds a time has, as far as that can be counted.
-fn millis_of(passed: Duration) -> u64
+/// How many whole milliseconds a time has, as far as that can be counted.
+pub(crate) fn millis_of(passed: Duration) -> u64
     ensures { result ≡ min (as_nanos passed / 1_000_000) (2 ^ 64 - 1) }
 {
     match u64::try_from(passed.as_millis()) {

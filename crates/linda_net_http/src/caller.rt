@@ -3,10 +3,9 @@
 ghost use Rattle.std.specs.Prelude.{◌≤◌, vec_len};
 
 use crate::answer::Answer;
-use mio::net::TcpStream;
+use crate::stream::Stream;
 use std::alloc::Global;
-use std::io::{ErrorKind, Read, Write};
-use std::net::Shutdown;
+use std::io::ErrorKind;
 use std::time::{Duration, Instant};
 
 /// How many bytes are read of one connection at most: those behind its head are not looked at.
@@ -18,7 +17,7 @@ const MOST_SECONDS: u64 = 10;
 /// One connection: it asks once, is answered, and ends.
 #[derive(Drop)]
 pub(crate) struct Caller {
-    stream: TcpStream,
+    stream: Stream,
     // What it sent, until it is answered.
     head: Vec<u8>,
     // How many bytes it sent.
@@ -39,7 +38,7 @@ pub(crate) struct Caller {
 
 impl Caller {
     /// A connection that was not looked at.
-    pub(crate) fn new(alloc: Global, stream: TcpStream, came: Option<Instant>) -> Caller {
+    pub(crate) fn new(alloc: Global, stream: Stream, came: Option<Instant>) -> Caller {
         Caller {
             stream,
             head: Vec::new(alloc),
@@ -55,7 +54,7 @@ impl Caller {
     }
 
     /// The socket.
-    pub(crate) fn stream(&mut self) -> &mut TcpStream {
+    pub(crate) fn stream(&mut self) -> &mut Stream {
         &mut self.stream
     }
 
@@ -139,7 +138,7 @@ impl Caller {
             }
         }
         if !self.has_unsent() {
-            let _ = self.stream.shutdown(Shutdown::Write);
+            self.stream.end_writing();
         }
     }
 

@@ -2,6 +2,7 @@
 
 use std::alloc::AllocError;
 use std::sync::Wait;
+use std::time::Clock;
 
 /// Which page is asked for: what is before the first question mark, and what is behind it, as it
 /// was sent. Both are any bytes.
@@ -32,7 +33,7 @@ pub trait Pages {
     /// # Errors
     ///
     /// Memory ran out: some of the page may be there.
-    fn spell<R: Wait>(
+    fn spell<R: Wait + Clock>(
         &self,
         rt: &R,
         asked: Asked<'_>,

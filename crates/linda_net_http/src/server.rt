@@ -3,13 +3,15 @@
 use crate::answer::Answer;
 use crate::caller::Caller;
 use crate::head::{Head, read_head};
+use crate::listener::{Door, Listener};
 use crate::pages::{Pages, Told};
-use mio::net::{TcpListener, TcpStream};
-use mio::{Events, Interest, Poll, Registry, Token};
+use crate::stream::Stream;
+use mio::{Events, Poll, Registry, Token};
 use std::alloc::{AllocError, Global};
 use std::io;
 use std::io::ErrorKind;
 use std::net::Net;
+use std::os::fd::OwnedFd;
 use std::sync::{Mutex, Wait};
 use std::time::{Clock, Duration, Instant};
 
@@ -38,17 +40,19 @@ const PAGE: usize = 8_192;
 const QUIET: u64 = 100;
 
 /// Where pages are asked for, and who asks. At most 64 connections are there, each for ten seconds
-/// and a tenth of one at most if the clock does not fail; none is waited for.
+/// and a tenth of one at most if the clock does not fail; none is waited for. One descriptor is kept
+/// back: so somebody is answered if the process may have no more.
 #[derive(Drop)]
 pub struct HttpServer {
     alloc: Global,
     poll: Poll,
     events: Events,
-    listener: TcpListener,
+    door: Door,
     // More may wait at the listener.
     may_accept: bool,
     // The last one could not be had.
     has_missed: bool,
+    spare: Option<OwnedFd>,
     places: Vec<Option<Caller>>,
     room: Room,
 }
@@ -67,16 +71,11 @@ impl HttpServer {
     /// # Errors
     ///
     /// The system has no room for it, or there is no memory.
-    pub fn open<R: Net>(
-        rt: &R,
-        alloc: Global,
-        listener: std::net::TcpListener,
-    ) -> io::Result<HttpServer> {
-        listener.set_nonblocking(true)?;
+    pub fn open<R: Net>(rt: &R, alloc: Global, listener: Listener) -> io::Result<HttpServer> {
+        let mut door = Door::of(listener)?;
         let poll = Poll::new(rt)?;
-        let mut listener = TcpListener::from_std(listener);
-        poll.registry()
-            .register(&mut listener, Token(DOOR), Interest::READABLE)?;
+        door.register(poll.registry(), Token(DOOR))?;
+        let spare = door.spare();
         let mut places = Vec::new(alloc);
         for _ in 0..PLACES {
             places.push(None)?;
@@ -85,9 +84,10 @@ impl HttpServer {
             alloc,
             poll,
             events: Events::with_capacity(alloc, EVENTS)?,
-            listener,
+            door,
             may_accept: true,
             has_missed: false,
+            spare,
             places,
             room: Room {
                 page: String::with_capacity(alloc, PAGE)?,
@@ -111,6 +111,7 @@ impl HttpServer {
                 serve_place(rt, pages, &mut server.room, place);
                 end_if_late(place, now);
             }
+            server.keep_spare();
         }
     }
 
@@ -142,20 +143,29 @@ impl HttpServer {
             return;
         }
         for _ in 0..MOST_NEW {
-            match self.listener.accept() {
-                Ok((stream, _)) => {
+            match self.door.accept() {
+                Ok(stream) => {
                     let registry = self.poll.registry();
                     let_in(self.alloc, registry, &mut self.places, stream, now);
                 }
                 Err(error) => {
                     if error.kind() == ErrorKind::WouldBlock {
                         self.may_accept = false;
-                    } else {
-                        self.has_missed = true;
+                        return;
                     }
-                    return;
+                    if self.spare.take().is_none() {
+                        self.has_missed = true;
+                        return;
+                    }
                 }
             }
+        }
+    }
+
+    // Keeps a descriptor back, if none is.
+    fn keep_spare(&mut self) {
+        if self.spare.is_none() {
+            self.spare = self.door.spare();
         }
     }
 }
@@ -165,15 +175,14 @@ fn let_in(
     alloc: Global,
     registry: &Registry,
     places: &mut [Option<Caller>],
-    stream: TcpStream,
+    stream: Stream,
     now: Option<Instant>,
 ) {
     for (index, place) in places.iter_mut().enumerate() {
         if place.is_none() {
             let mut caller = Caller::new(alloc, stream, now);
             let token = Token(index.saturating_add(1));
-            let both = Interest::READABLE | Interest::WRITABLE;
-            if registry.register(caller.stream(), token, both).is_ok() {
+            if caller.stream().register(registry, token).is_ok() {
                 *place = Some(caller);
             }
             return;
@@ -195,7 +204,12 @@ fn end_if_late(place: &mut Option<Caller>, now: Option<Instant>) {
 }
 
 // Serves the connection in this place, if something happened at it.
-fn serve_place<R: Wait, P: Pages>(rt: &R, pages: &P, room: &mut Room, place: &mut Option<Caller>) {
+fn serve_place<R: Wait + Clock, P: Pages>(
+    rt: &R,
+    pages: &P,
+    room: &mut Room,
+    place: &mut Option<Caller>,
+) {
     let Some(caller) = place else {
         return;
     };
@@ -210,7 +224,7 @@ fn serve_place<R: Wait, P: Pages>(rt: &R, pages: &P, room: &mut Room, place: &mu
 }
 
 // Reads what the connection sent, answers it, and writes what it can take.
-fn serve<R: Wait, P: Pages>(rt: &R, pages: &P, room: &mut Room, caller: &mut Caller) {
+fn serve<R: Wait + Clock, P: Pages>(rt: &R, pages: &P, room: &mut Room, caller: &mut Caller) {
     caller.is_awake = true;
     for _ in 0..MOST_READS {
         if !caller.read(&mut room.buffer) {
@@ -223,7 +237,7 @@ fn serve<R: Wait, P: Pages>(rt: &R, pages: &P, room: &mut Room, caller: &mut Cal
 }
 
 // Answers the connection, once its head is there.
-fn answer<R: Wait, P: Pages>(rt: &R, pages: &P, room: &mut Room, caller: &mut Caller) {
+fn answer<R: Wait + Clock, P: Pages>(rt: &R, pages: &P, room: &mut Room, caller: &mut Caller) {
     let Some(head) = caller.head() else {
         return;
     };
@@ -235,7 +249,7 @@ fn answer<R: Wait, P: Pages>(rt: &R, pages: &P, room: &mut Room, caller: &mut Ca
 }
 
 // The answer to what was sent, with its page; none as long as the head is not whole.
-fn judge<R: Wait, P: Pages>(
+fn judge<R: Wait + Clock, P: Pages>(
     rt: &R,
     pages: &P,
     page: &mut String,

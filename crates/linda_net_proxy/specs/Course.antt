@@ -12,7 +12,7 @@ use Rattle.linda_net_proxy.specs.declared.arrivals.Arrival.{Arrival}
 use Rattle.linda_net_proxy.specs.declared.arrivals.Arrival.TheVariants as arrival
 use Rattle.linda_net_proxy.specs.declared.fault.ProxyFault.{ProxyFault}
 use Rattle.linda_net_proxy.specs.declared.fault.ProxyFault.TheVariants.{Unreachable, Lost, Refused}
-use Rattle.linda_net_proxy.specs.declared.fault.ProxyFault.TheVariants.{Memory}
+use Rattle.linda_net_proxy.specs.declared.fault.ProxyFault.TheVariants.{NotAServer, Memory}
 use Rattle.linda_net_proxy.specs.declared.course.Course.{Course}
 use Rattle.linda_net_proxy.specs.declared.course.Next.{Next}
 use Rattle.linda_net_proxy.specs.declared.course.Next.TheVariants.{Again, Later, Over}
@@ -23,16 +23,16 @@ abbrev pub hello_of : ℕ → Bool → Message
 hello_of client fresh = Hello VERSION client fresh
 
 -- What the answer to a Hello says: the last number that is kept, the refusal, or nothing that
--- answers it.
+-- answers it, so that no server gave it.
 abbrev pub welcome_in : Reply → Result ℕ ProxyFault
 welcome_in (reply.Welcome last) = Ok last
-welcome_in (reply.Stored n id) = Err Lost
-welcome_in (reply.Offer ticket id tuple) = Err Lost
-welcome_in (reply.Read ticket id tuple) = Err Lost
-welcome_in (reply.Taken n id tuple) = Err Lost
-welcome_in (reply.Gone n) = Err Lost
+welcome_in (reply.Stored n id) = Err NotAServer
+welcome_in (reply.Offer ticket id tuple) = Err NotAServer
+welcome_in (reply.Read ticket id tuple) = Err NotAServer
+welcome_in (reply.Taken n id tuple) = Err NotAServer
+welcome_in (reply.Gone n) = Err NotAServer
 welcome_in (reply.Refused code detail) = Err (Refused code detail)
-welcome_in (reply.Left n) = Err Lost
+welcome_in (reply.Left n) = Err NotAServer
 
 -- Whether a client says that it was never used: only before a Hello of it may have reached the
 -- server.
@@ -46,6 +46,7 @@ abbrev pub is_again : Course → ProxyFault → Bool
 is_again c Unreachable = c.is_met
 is_again c Lost = true
 is_again c (Refused code detail) = (code == BUSY) && (c.is_met || not c.fresh)
+is_again c NotAServer = false
 is_again c Memory = false
 
 -- Nothing was said to the server yet.
@@ -74,6 +75,7 @@ abbrev pub after : Course → ProxyFault → Next × Course
 after c Unreachable = if is_again c Unreachable then failed c else (Over, c)
 after c Lost = lost c
 after c (Refused code detail) = if is_again c (Refused code detail) then failed c else (Over, c)
+after c NotAServer = (Over, c)
 after c Memory = (Over, c)
 
 -- What is brought of a server that is given up.
@@ -81,4 +83,5 @@ abbrev pub arrival_of : ProxyFault → Arrival
 arrival_of Unreachable = arrival.NoConnection
 arrival_of Lost = arrival.NoConnection
 arrival_of (Refused code detail) = arrival.Refused code detail
+arrival_of NotAServer = arrival.NotAServer
 arrival_of Memory = arrival.Memory

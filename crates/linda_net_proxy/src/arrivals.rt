@@ -17,6 +17,8 @@ pub enum Arrival {
     Came(Reply),
     /// It refused the greeting, with this code and this detail, and is given up.
     Refused(u8, u64),
+    /// What answered the greeting is no server, and is given up.
+    NotAServer,
     /// There is no connection to it, and none is tried for until that is asked for.
     NoConnection,
     /// Memory ran out, and something that came may be lost.

@@ -88,6 +88,7 @@ impl Course {
             ProxyFault::Refused(code, _) => {
                 code == Refusal::Busy.code() && (self.is_met || !self.fresh)
             }
+            ProxyFault::NotAServer => false,
             ProxyFault::Memory => false,
         }
     }
@@ -120,14 +121,14 @@ pub(crate) fn hello_of(client: u32, fresh: bool) -> Message
 }
 
 /// What the answer to a Hello says: the last number that the server keeps, or why it does not go
-/// on.
+/// on. What gives another reply is no server.
 pub(crate) fn welcome_in(reply: &Reply) -> Result<u64, ProxyFault>
     ensures { result ≡ spec.welcome_in reply.now }
 {
     match reply {
         Reply::Welcome { last } => Ok(*last),
         Reply::Refused { code, detail } => Err(ProxyFault::Refused(*code, *detail)),
-        _ => Err(ProxyFault::Lost),
+        _ => Err(ProxyFault::NotAServer),
     }
 }
 
@@ -137,6 +138,7 @@ pub(crate) fn arrival_of(fault: ProxyFault) -> Arrival
 {
     match fault {
         ProxyFault::Refused(code, detail) => Arrival::Refused(code, detail),
+        ProxyFault::NotAServer => Arrival::NotAServer,
         ProxyFault::Memory => Arrival::Memory,
         ProxyFault::Unreachable | ProxyFault::Lost => Arrival::NoConnection,
     }

@@ -9,9 +9,12 @@ pub enum ProxyFault {
     /// No connection could be had.
     #[error("no connection")]
     Unreachable,
-    /// The connection ended, or what came is no reply.
+    /// The connection ended.
     #[error("connection lost")]
     Lost,
+    /// What came is no frame of a server, or none that answers a Hello.
+    #[error("not a server")]
+    NotAServer,
     /// The server refused the greeting, with this code and this detail.
     #[error("refused {0} {1}")]
     Refused(u8, u64),

@@ -119,7 +119,8 @@ impl Link {
     /// connection can be had for it, or the server refuses it, the server is given up at once, but
     /// Busy is tried again for a client that goes on. A connection that is lost after a greeting is
     /// greeted again; if that fails too often, `NoConnection` is brought, and the tries begin again
-    /// after `retry`.
+    /// after `retry`. What answers any greeting by bytes that are no answer of a server is given up
+    /// at once.
     pub fn keep<R: Net<Stream = TcpStream> + Wait + Clock>(
         &self,
         rt: &R,

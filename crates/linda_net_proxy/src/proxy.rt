@@ -73,8 +73,8 @@ impl Proxy {
     ///
     /// # Errors
     ///
-    /// `Refused`, as the server said; `Lost`; `Memory`. The server may have welcomed the client at
-    /// the last two.
+    /// `Refused`, as the server said; `NotAServer`, if what came is no answer of a server; `Lost`;
+    /// `Memory`. The server may have welcomed the client at the last two.
     pub fn greet(&mut self, alloc: Global, client: u32, fresh: bool) -> Result<u64, ProxyFault> {
         send(&mut self.stream, alloc, &hello_of(client, fresh))?;
         welcome_in(&self.receive(alloc)?)
@@ -97,8 +97,8 @@ impl Proxy {
     ///
     /// # Errors
     ///
-    /// `Lost` where the connection ended, or what came is no reply; `Memory`, after which it may be
-    /// called again.
+    /// `Lost` where the connection ended; `NotAServer` if what came is no reply; `Memory`, after
+    /// which it may be called again.
     pub fn receive(&mut self, alloc: Global) -> Result<Reply, ProxyFault> {
         let mut buffer = [0; PIECE];
         for _ in 0..MAX_READS {
@@ -118,18 +118,18 @@ impl Proxy {
 }
 
 // The reply at the front of what came, which is then read; `None` where less than a whole frame is
-// there. What is no reply ends the connection.
+// there. What gives something else is no server.
 fn next_reply(feed: &mut ReplyFeed, alloc: Global) -> Result<Option<Reply>, ProxyFault>
     ensures found { IfOk result (λ o.
         IfSome o (λ r. feed.old ≡ frame (replies.spell r) ++ feed.new)) }
     ensures partial { (result ≡ Ok None) ↔ (front replies feed.old ≡ Partial) }
-    ensures fault { IfErr result (λ f. (f ≡ faults.Lost) ⊎ (f ≡ faults.Memory)) }
+    ensures fault { IfErr result (λ f. (f ≡ faults.NotAServer) ⊎ (f ≡ faults.Memory)) }
     ensures memory { IsErrOf result ProxyFault.Memory → IsWhole (front replies feed.old) }
 {
     match feed.next(alloc) {
         Ok(found) => Ok(found),
         Err(FrameFault::Memory) => Err(ProxyFault::Memory),
-        Err(_) => Err(ProxyFault::Lost),
+        Err(_) => Err(ProxyFault::NotAServer),
     }
 }
 

@@ -6,6 +6,8 @@ use Rattle.linda_hold.specs.declared.request.Request.{Request}
 use Rattle.linda_text.specs.Written.{written_tuple}
 use Rattle.linda_shared_listing.specs.declared.listed.ListedTuple.{ListedTuple}
 use Rattle.linda_shared_listing.specs.declared.listed.TuplePage.{TuplePage}
+use Rattle.linda_shared_listing.specs.declared.listed.ListedReply.{ListedReply}
+use Rattle.linda_shared_listing.specs.declared.listed.ListedReply.TheVariants as listed
 use Rattle.linda_shared_listing.specs.declared.listed.ListedClient.{ListedClient}
 use Rattle.linda_shared_listing.specs.declared.listed.ClientPage.{ClientPage}
 use Rattle.linda_inspect.specs.Json.{json_member, json_string, json_tuple}
@@ -82,6 +84,18 @@ unfoldable pub json_named : ℕ → ℕ → List ℕ
 json_named client number =
     json_member (codes "{\"client\":") client ++ json_member (codes ",\"number\":") number
 
+-- The reply that is kept for a client, and the id of the tuple that it speaks of.
+unfoldable pub json_reply : Option ListedReply → List ℕ
+json_reply None = codes ",\"reply\":null,\"id\":null"
+json_reply (Some (listed.Stored id)) = json_member (codes ",\"reply\":\"stored\",\"id\":") id
+json_reply (Some (listed.Taken id)) = json_member (codes ",\"reply\":\"taken\",\"id\":") id
+json_reply (Some listed.Gone) = codes ",\"reply\":\"gone\",\"id\":null"
+json_reply (Some listed.Left) = codes ",\"reply\":\"left\",\"id\":null"
+
+-- A client with its last number and the reply to that.
+unfoldable pub json_kept : ℕ → ℕ → Option ListedReply → List ℕ
+json_kept client number reply = json_named client number ++ json_reply reply
+
 -- Whether a client has a connection.
 unfoldable pub json_connected : Bool → List ℕ
 json_connected true = codes ",\"connected\":true"
@@ -100,7 +114,7 @@ json_counts holds waits =
 -- A client.
 unfoldable pub json_client : ListedClient → List ℕ
 json_client row =
-    json_named row.client row.number
+    json_kept row.client row.number row.reply
     ++ json_connection row.is_connected row.connected_for
     ++ json_counts row.holds row.waits
 

@@ -21,39 +21,42 @@ form_at path =
     else (if bytes_eq path (codes "/tuples") then Some forms.Tuples
     else (if bytes_eq path (codes "/clients") then Some forms.Clients
     else (if bytes_eq path (codes "/tags") then Some forms.Tags
-    else None)))))
+    else (if bytes_eq path (codes "/longest") then Some forms.Longest
+    else None))))))
 
 -- 1 if the server is up, 0 if it is down
 abbrev pub is_up : Bool → ℕ
 is_up true = 0
 is_up false = 1
 
--- What a number of a server comes to.
-abbrev pub value_of : Figure → Gauge → Tally → ℕ
-value_of figures.Up gauge tally = is_up gauge.is_down
-value_of figures.Tuples gauge tally = gauge.tuples
-value_of figures.Waits gauge tally = gauge.waits
-value_of figures.OldestWait gauge tally = gauge.oldest_wait
-value_of figures.Holds gauge tally = gauge.holds
-value_of figures.OldestHold gauge tally = gauge.oldest_hold
-value_of figures.Clients gauge tally = gauge.clients
-value_of figures.Connections gauge tally = tally.came - tally.over
-value_of figures.Came gauge tally = tally.came
-value_of figures.Deeds gauge tally = gauge.deeds
-value_of figures.Used gauge tally = gauge.used
-value_of figures.Limit gauge tally = gauge.limit
-value_of figures.Records gauge tally = gauge.records
-value_of figures.Next gauge tally = gauge.next
-value_of figures.Full gauge tally = tally.refused
-value_of figures.Busy gauge tally = tally.turned.busy
-value_of figures.TooMany gauge tally = tally.turned.clients
-value_of figures.Greetings gauge tally = tally.turned.greetings
-value_of figures.Malformed gauge tally = tally.turned.malformed
-value_of figures.Unserved gauge tally = unserved tally
-value_of figures.Late gauge tally = tally.late
-value_of figures.Groups gauge tally = tally.groups
-value_of figures.Messages gauge tally = tally.messages
-value_of figures.Took gauge tally = tally.took
+-- What a number of a server comes to; so many clients are away and took a tuple by their last
+-- message.
+abbrev pub value_of : Figure → Gauge → Tally → ℕ → ℕ
+value_of figures.Up gauge tally absent = is_up gauge.is_down
+value_of figures.Tuples gauge tally absent = gauge.tuples
+value_of figures.Waits gauge tally absent = gauge.waits
+value_of figures.OldestWait gauge tally absent = gauge.oldest_wait
+value_of figures.Holds gauge tally absent = gauge.holds
+value_of figures.OldestHold gauge tally absent = gauge.oldest_hold
+value_of figures.Clients gauge tally absent = gauge.clients
+value_of figures.TakenByAbsent gauge tally absent = absent
+value_of figures.Connections gauge tally absent = tally.came - tally.over
+value_of figures.Came gauge tally absent = tally.came
+value_of figures.Deeds gauge tally absent = gauge.deeds
+value_of figures.Used gauge tally absent = gauge.used
+value_of figures.Limit gauge tally absent = gauge.limit
+value_of figures.Records gauge tally absent = gauge.records
+value_of figures.Next gauge tally absent = gauge.next
+value_of figures.Full gauge tally absent = tally.refused
+value_of figures.Busy gauge tally absent = tally.turned.busy
+value_of figures.TooMany gauge tally absent = tally.turned.clients
+value_of figures.Greetings gauge tally absent = tally.turned.greetings
+value_of figures.Malformed gauge tally absent = tally.turned.malformed
+value_of figures.Unserved gauge tally absent = unserved tally
+value_of figures.Late gauge tally absent = tally.late
+value_of figures.Groups gauge tally absent = tally.groups
+value_of figures.Messages gauge tally absent = tally.messages
+value_of figures.Took gauge tally absent = tally.took
 
 -- A number of a metric, as a line: its name with its label, a blank, and its digits.
 abbrev pub sample : List ℕ → List ℕ → ℕ → List ℕ

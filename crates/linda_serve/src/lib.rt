@@ -20,5 +20,6 @@ pub use inspecting::{inspect_folder, inspect_folder_as_json};
 pub use linda_disk::{FileCall, FileTrouble};
 pub use linda_net::{Gauge, Notice, Refused, Tally, Watcher, Why};
 pub use serving::{
-    Cause, InUse, Log, Place, Plan, ServingFault, open_store, serve_folder, stamp_of,
+    Cause, InUse, Log, Place, Plan, ServingFault, StatusAt, Unwaited, open_store, serve_folder,
+    stamp_of,
 };

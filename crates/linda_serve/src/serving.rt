@@ -2,32 +2,41 @@
 //! a unix socket.
 
 mod address;
+mod banks;
 mod fault;
 mod heap;
 mod log;
 mod minutes;
 mod socket;
 mod stamp;
+mod start;
 mod status;
 mod store;
+mod unwaited;
+mod waiting;
 
-ghost use Rattle.std.specs.Prelude.{◌≡◌, ◌<◌, false, IfOk, OnErr, OnOk};
+ghost use Rattle.std.specs.Prelude.{◌≡◌, ◌<◌, false, OnErr, OnOk};
 ghost use Rattle.linda_shared_accounts.specs.declared.limits.TheConstants.{PARTS};
 
 use address::{of_this_machine, ready_line, ready_line_at};
+use banks::Banks;
 pub use fault::ServingFault;
 use fault::served;
 use heap::keep_heap;
 use linda_disk::FileDisk;
-use linda_net::{Limits, Listeners, Shared, SharedFault, Status, Tally, serve_loop, serve_watched};
+use linda_net::{
+    Gauge, Limits, Listener, Listeners, Shared, SharedFault, Status, Tally, serve_loop,
+    serve_watched,
+};
 use linda_server::Durable;
 pub use linda_server::InUse;
 use linda_shared_accounts::PARTS;
 pub use log::{Cause, Log};
 pub use socket::Place;
-use socket::{listen_at, remove};
+use socket::{OwnFile, file_at, listen_at, remove};
 pub use stamp::stamp_of;
-use status::Numbers;
+use start::{BankTrouble, Begun, Course};
+use status::{About, Numbers};
 use std::alloc::Global;
 use std::fs::{File, Files};
 use std::hash::RandomState;
@@ -39,10 +48,14 @@ use std::random::RandomSource;
 use std::sync::ledger::{Blank, Ledger};
 use std::sync::{Mutex, Wait};
 use std::thread::Threads;
-use std::time::Clock;
+use std::time::{Clock, Instant};
 pub use store::open_store;
 pub(crate) use store::{LEFT, RIGHT};
-use store::{give_back, open_folder};
+pub use unwaited::Unwaited;
+use waiting::open_when_free;
+
+/// The mode of a unix socket where it is asked how a server does: only its owner may connect.
+const STATUS_MODE: u32 = 0o600;
 
 /// What is served, where, and for how long.
 #[derive(Clone, Copy, Debug)]
@@ -58,29 +71,48 @@ pub struct Plan<'a> {
     /// For how many seconds a client may hold a tuple and say nothing, if that is limited; only
     /// loops keep it.
     pub lease: Option<u32>,
+    /// Whether it waits while another server has the folder open.
+    pub waits: bool,
     /// Whether each connection has two threads; else a few loops serve all of them.
     pub by_threads: bool,
-    /// On which port of this machine the server says over HTTP how it does, if it does.
-    pub status: Option<u16>,
+    /// Where the server says over HTTP how it does, if it does.
+    pub status: Option<StatusAt<'a>>,
+    /// The texts for which it says there how many tuples have them for their tag.
+    pub metrics: &'a [String],
+    /// The version of the program, which is said there.
+    pub version: &'a str,
+}
+
+/// Where a server says over HTTP how it does.
+#[derive(Clone, Copy, Debug)]
+pub enum StatusAt<'a> {
+    /// On this port of this machine.
+    Port(u16),
+    /// At a unix socket with this path, which its owner may connect to.
+    Path(&'a str),
 }
 
 /// Serves the store in a folder to clients that connect to a port of this machine, to a unix
 /// socket, or to either, and writes `ready PORT` once it listens; without a port `ready PATH`. If
 /// there is a sink, it gets a log, as docs/OPERATING.md has it; a line that cannot be written there
-/// is lost. If there is a port for it, the server says there how it does, as docs/OPERATING.md has
+/// is lost. If there is a place for it, the server says there how it does, as docs/OPERATING.md has
 /// it too.
 ///
-/// The socket's file has its mode from the first moment on. One that is left of a server that was
+/// While another server has the folder open it waits, if the plan says so: it tries again ten times a
+/// second, and reads nothing of the store before it has the lock. It listens once the store is opened.
+///
+/// A socket's file has its mode from the first moment on. One that is left of a server that was
 /// killed is replaced, and it is removed at the end. Anything else at its path stays.
 ///
-/// If the last snapshot was cut off, its room is given back. The next one is put off until there
-/// are as many records more as make one due, unless the bank in use is in the old form or a deed is
-/// refused for room: so a disk that has no room for a snapshot is no reason to serve nobody.
+/// If its records have as many bytes as the last snapshot left in the bank, one is taken first. If
+/// the last one was cut off, or this one cannot be written, its room is given back, and the next one
+/// is put off until there are records of half of that room, or as many as make one due, unless a
+/// deed is refused for room: so a disk that has no room for a snapshot is no reason to serve nobody.
 ///
 /// # Errors
 ///
-/// As `open_store` returns them, and then `Io` if a port or a socket cannot be listened on, or
-/// there is neither, or the output fails. `Down` if the server went down, at the next connection or
+/// As `open_store` returns them, but `InUse` only if it does not wait, and then `Io` if a port or a
+/// socket cannot be listened on, or there is neither, or the output fails. `Down` if the server went down, at the next connection or
 /// at the end. `Memory`.
 pub fn serve_folder<
     F: Files<File = File> + Net,
@@ -100,24 +132,35 @@ pub fn serve_folder<
     sink: Option<&mut E>,
     plan: &Plan<'_>,
 ) -> Result<(), ServingFault> {
-    let (mut server, bank) = open_to_serve(files, alloc, plan.folder)?;
+    let mut log = Log::new(alloc, sink)?;
+    let begun = open_when_free(files, rt, alloc, &mut log, plan)?;
+    let Begun { mut server, course } = begun;
     choose_keys(rt, &mut server);
-    let log = Log::new(alloc, sink)?;
+    log.watch(Banks::open(files, alloc, plan.folder)?);
     let listeners = listen(files, rt, alloc, plan)?;
     let kept = kept_open(&listeners);
+    let own = own_file(files, plan.socket);
+    let asked = listen_for_status(files, rt, alloc, plan.status);
+    let held = kept_status(&asked);
+    let own_status = own_file_of_status(files, &asked, plan.status);
     let ended = tell_and_serve::<Brand, S, W, E>(
         rt,
         alloc,
         writer,
         log,
-        bank,
         server,
+        course,
         Blank::new(PARTS),
         listeners,
+        asked,
         plan,
     );
+    if let Some(StatusAt::Path(path)) = plan.status {
+        remove(files, path, own_status);
+    }
+    drop(held);
     if let Some(socket) = plan.socket {
-        remove(files, socket);
+        remove(files, socket.path, own);
     }
     drop(kept);
     ended
@@ -147,23 +190,6 @@ fn kept_open(listeners: &Listeners) -> Option<UnixListener> {
     socket.try_clone().ok()
 }
 
-// Opens the store in a folder to serve it, and gives back the room of a snapshot that was cut off;
-// with the bank in use.
-fn open_to_serve<F: Files<File = File>>(
-    files: &F,
-    alloc: Global,
-    folder: &str,
-) -> Result<(Durable<FileDisk>, Option<InUse>), ServingFault>
-    ensures up { IfOk result (λ opened. opened.0.down ≡ false) }
-{
-    let (mut server, is_cut_off) = open_folder(files, alloc, folder)?;
-    let bank = server.in_use();
-    if is_cut_off {
-        give_back(&mut server)?;
-    }
-    Ok((server, bank))
-}
-
 // The server keeps what waits by random keys, if the system has any; else by those that it has.
 fn choose_keys<S: RandomSource>(rt: &S, server: &mut Durable<FileDisk>)
     ensures { server.new.down ≡ server.old.down }
@@ -173,13 +199,13 @@ fn choose_keys<S: RandomSource>(rt: &S, server: &mut Durable<FileDisk>)
     }
 }
 
-// Shares a server that was opened. Its next snapshot is put off, unless its bank is in the old
-// form: so it serves for a while even if the last one took it down, since the disk had no room for
-// it.
+// Shares a server that was opened. Its bytes are counted from those that its bank had when it was
+// new, and its next snapshot is put off as its start says, unless its bank is in the old form.
 fn share<L: Ledger, R: Wait>(
     rt: &R,
     alloc: Global,
     server: Durable<FileDisk>,
+    course: &Course,
     blank: Blank,
 ) -> Result<Shared<FileDisk, L>, ServingFault>
     requires up { server.down ≡ false }
@@ -187,8 +213,10 @@ fn share<L: Ledger, R: Wait>(
 {
     let is_old = server.is_of_old_form();
     let shared = Shared::new(alloc, server, blank)?;
-    if !is_old {
-        shared.put_off(rt);
+    shared.count_from(rt, course.base);
+    match course.put_off {
+        Some(room) if !is_old => shared.put_off(rt, room),
+        _ => {}
     }
     Ok(shared)
 }
@@ -204,22 +232,32 @@ fn tell_and_serve<
     alloc: Global,
     writer: &mut W,
     log: Log<'_, E>,
-    bank: Option<InUse>,
     server: Durable<FileDisk>,
+    course: Course,
     blank: Blank,
     listeners: Listeners,
+    asked: Result<Option<Listener>, ServingFault>,
     plan: &Plan<'_>,
 ) -> Result<(), ServingFault>
     requires up { server.down ≡ false }
     requires blank { (blank.name ≡ L.name) × (blank.parts ≡ L.parts) × (L.parts ≡ PARTS) }
 {
     let mut log = log;
-    let shared: Shared<FileDisk, L> = share(rt, alloc, server, blank)?;
+    let asked = asked?;
+    let bank = server.in_use();
+    let shared: Shared<FileDisk, L> = share(rt, alloc, server, &course, blank)?;
     keep_heap(alloc);
-    let status = listen_for_status(rt, alloc, plan.status)?;
     let port = port_of(&listeners)?;
     let path = plan.socket.map(|socket| socket.path);
+    let about = About {
+        version: plan.version,
+        folder: plan.folder,
+        port,
+        socket: path,
+    };
+    let status = status_at(rt, alloc, asked, about, plan.metrics);
     log.tell_opened(rt, port, path, bank, &shared.gauge(rt));
+    tell_start(rt, &mut log, &course, &shared.gauge(rt));
     tell_ready(alloc, writer, port, path)?;
     let watcher = Mutex::new(log);
     let (ended, tally) = match by_threads(&listeners, plan) {
@@ -243,6 +281,17 @@ fn tell_and_serve<
     tell_end(rt, watcher.into_inner(), shared, ended, &tally)
 }
 
+// Writes what a start came to: that a snapshot was taken, or why it could not be.
+fn tell_start<S: Clock, E: Write>(rt: &S, log: &mut Log<'_, E>, course: &Course, gauge: &Gauge) {
+    if let Some(millis) = course.taken {
+        log.tell_snapshot(rt, millis, gauge);
+    }
+    if let Some(BankTrouble { is_right, trouble }) = &course.trouble {
+        let bank = if *is_right { "right" } else { "left" };
+        log.tell_failed(rt, bank, trouble);
+    }
+}
+
 // The listener of a port whose connections have two threads each, if the plan wants that.
 fn by_threads<'a>(listeners: &'a Listeners, plan: &Plan<'_>) -> Option<&'a TcpListener> {
     if !plan.by_threads || listeners.socket.is_some() {
@@ -264,7 +313,11 @@ fn tell_end<L: Ledger, S: Wait + Clock, E: Write>(
     let (left, right) = shared.into_server().into_disks();
     tell_trouble(rt, &mut log, "left", &left);
     tell_trouble(rt, &mut log, "right", &right);
-    let failures = left.failures().saturating_add(right.failures());
+    let removed = u64::from(log.is_removed());
+    let failures = left
+        .failures()
+        .saturating_add(right.failures())
+        .saturating_add(removed);
     log.tell_end(rt, cause_of(&ended, failures), tally.came, &gauge);
     served(ended)
 }
@@ -293,29 +346,97 @@ fn cause_of(ended: &Result<(), SharedFault>, failures: u64) -> Cause
     }
 }
 
-// Listens on a port of this machine.
+// Listens on a port of this machine. As many connections may wait there as the system allows.
 fn listen_on<S: Net<Listener = TcpListener, Stream = TcpStream>>(
     rt: &S,
     port: u16,
 ) -> Result<TcpListener, ServingFault> {
-    match TcpListener::bind(rt, of_this_machine(port)) {
-        Ok(listener) => Ok(listener),
+    let Ok(listener) = mio::net::TcpListener::bind(rt, of_this_machine(port)) else {
+        return Err(ServingFault::Io);
+    };
+    let listener = TcpListener::from(listener);
+    match listener.set_nonblocking(false) {
+        Ok(()) => Ok(listener),
         Err(_) => Err(ServingFault::Io),
     }
 }
 
-// Listens where it is asked how the server does, if there is a port for that.
-fn listen_for_status<S: Net<Listener = TcpListener, Stream = TcpStream>>(
+// Listens where it is asked how the server does, if it is.
+fn listen_for_status<
+    F: Files<File = File> + Net,
+    S: Net<Listener = TcpListener, Stream = TcpStream>,
+>(
+    files: &F,
     rt: &S,
     alloc: Global,
-    port: Option<u16>,
-) -> Result<Option<Status<Numbers>>, ServingFault> {
-    let Some(port) = port else {
-        return Ok(None);
+    status: Option<StatusAt<'_>>,
+) -> Result<Option<Listener>, ServingFault> {
+    match status {
+        Some(StatusAt::Port(port)) => Ok(Some(Listener::Port(listen_on(rt, port)?))),
+        Some(StatusAt::Path(path)) => {
+            let socket = listen_at(files, alloc, place_of_status(path))?;
+            Ok(Some(Listener::Socket(socket)))
+        }
+        None => Ok(None),
+    }
+}
+
+// The unix socket with this path where it is asked how the server does.
+fn place_of_status(path: &str) -> Place<'_> {
+    Place {
+        path,
+        mode: STATUS_MODE,
+    }
+}
+
+// Keeps the socket of the status open until its file is removed, so that nobody replaces it before.
+fn kept_status(asked: &Result<Option<Listener>, ServingFault>) -> Option<UnixListener> {
+    match asked {
+        Ok(Some(Listener::Socket(socket))) => socket.try_clone().ok(),
+        Ok(Some(Listener::Port(_))) => None,
+        Ok(None) => None,
+        Err(_) => None,
+    }
+}
+
+// The file of a socket that is listened on, if there is one.
+fn own_file<F: Files>(files: &F, socket: Option<Place<'_>>) -> Option<OwnFile> {
+    let socket = socket?;
+    file_at(files, socket.path)
+}
+
+// The file of the socket of the status, if it is listened on.
+fn own_file_of_status<F: Files>(
+    files: &F,
+    asked: &Result<Option<Listener>, ServingFault>,
+    status: Option<StatusAt<'_>>,
+) -> Option<OwnFile> {
+    if asked.is_err() {
+        return None;
+    }
+    match status {
+        Some(StatusAt::Path(path)) => file_at(files, path),
+        Some(StatusAt::Port(_)) => None,
+        None => None,
+    }
+}
+
+// What is said where it is asked how the server does, if it is.
+fn status_at<'a, S: Clock>(
+    rt: &S,
+    alloc: Global,
+    asked: Option<Listener>,
+    about: About<'a>,
+    metrics: &'a [String],
+) -> Option<Status<Numbers<'a>>> {
+    let listener = asked?;
+    let teller = Numbers {
+        alloc,
+        about,
+        metrics,
+        begin: Instant::now(rt).ok(),
     };
-    let listener = listen_on(rt, port)?;
-    let teller = Numbers { alloc };
-    Ok(Some(Status { listener, teller }))
+    Some(Status { listener, teller })
 }
 
 // On which port it listens, if it does.

@@ -8,6 +8,7 @@ mod kinds;
 mod lead;
 mod leave;
 mod list;
+mod longest;
 mod submit;
 
 ghost use Rattle.std.specs.Prelude.{◌≡◌, false};
@@ -77,6 +78,12 @@ impl<D: Disk, L: Ledger> Shared<D, L> {
         self.locked.lock(rt).held.is_down()
     }
 
+    /// The server counts as down from now on: for whoever sees that what it writes is not kept.
+    pub fn give_up<R: Wait>(&self, rt: &R) {
+        self.locked.lock(rt).held.give_up();
+        self.end_where(rt, true);
+    }
+
     /// Whether a snapshot is due.
     pub fn needs_snapshot<R: Wait>(&self, rt: &R) -> bool {
         self.locked.lock(rt).held.needs_snapshot()
@@ -88,11 +95,17 @@ impl<D: Disk, L: Ledger> Shared<D, L> {
         self.locked.lock(rt).held.pays()
     }
 
-    /// Has no snapshot that pays tried before there are as many records more as make one due; one
-    /// that a deed asks for which was refused for room is taken all the same. For a server that was
-    /// opened, and may have gone down in one.
-    pub fn put_off<R: Wait>(&self, rt: &R) {
-        self.locked.lock(rt).held.put_off();
+    /// Has no snapshot that pays tried before there are 1,024 records more, or records of `room`
+    /// bytes, 32 MiB at most, whichever come first; one that a deed asks for which was refused for
+    /// room is taken all the same. For a server that was opened, and may have gone down in one.
+    pub fn put_off<R: Wait>(&self, rt: &R, room: usize) {
+        self.locked.lock(rt).held.put_off(room);
+    }
+
+    /// Has bytes counted from `base` on, which the bank in use took when it was new. For a server
+    /// that was opened: else they are counted from what the bank had then.
+    pub fn count_from<R: Wait>(&self, rt: &R, base: usize) {
+        self.locked.lock(rt).held.count_from(base);
     }
 
     /// What the server comes to at a moment, in numbers, for whoever tells its operator. Takes no

@@ -11,37 +11,54 @@ pays base start records used limit =
     (nat_le SNAPSHOT_RECORDS records || nat_le SNAPSHOT_BYTES (used - start))
     && (nat_le base (used - base) || nat_le (limit - used) used)
 
--- It pays, or the bank is not in the form of new banks, and none was refused just before; or a deed
--- was refused for room, and there is a record that the last try did not find.
-abbrev pub is_due : Bool → ℕ → ℕ → ℕ → ℕ → Bool → ℕ → ℕ → ℕ → Bool
-is_due old base start not_before tried lacks records used limit =
-    (nat_le not_before records && (old || pays base start records used limit))
+-- It pays, or the bank is not in the form of new banks, and there are records enough or bytes enough
+-- since one was put off or refused; or a deed was refused for room, and there is a record that the
+-- last try did not find.
+abbrev pub is_due : Bool → ℕ → ℕ → ℕ → ℕ → ℕ → Bool → ℕ → ℕ → ℕ → Bool
+is_due old base start not_before not_below tried lacks records used limit =
+    ((nat_le not_before records || nat_le not_below used)
+    && (old || pays base start records used limit))
     || (lacks && nat_lt tried records)
+
+-- a number with more, as far as that can be counted
+abbrev pub raised : ℕ → ℕ → ℕ
+raised one other = min (one + other) (2 ^ 64 - 1)
 
 -- the pace of a bank that took so many bytes when it was new, and of which so many are not counted
 abbrev pub pace_from : ℕ → ℕ → Pace
 pace_from base start =
-    record { base = base; start = start; not_before = 0; tried = 0; lacks_room = false }
+    record {
+      base = base;
+      start = start;
+      not_before = 0;
+      not_below = 0;
+      tried = 0;
+      lacks_room = false;
+    }
 
--- the pace once a snapshot was tried at so many records
-abbrev pub tried_at : ℕ → Pace → Pace
-tried_at records p =
+-- the pace once a snapshot was tried at so many records and bytes: it waits for 1,024 records more,
+-- or for 32 MiB, whichever come first
+abbrev pub tried_at : ℕ → ℕ → Pace → Pace
+tried_at records used p =
     record {
       base = p.base;
       start = p.start;
-      not_before = min (records + SNAPSHOT_RECORDS) (2 ^ 64 - 1);
+      not_before = raised records SNAPSHOT_RECORDS;
+      not_below = raised used SNAPSHOT_BYTES;
       tried = records;
       lacks_room = false;
     }
 
--- the pace once a snapshot was put off at so many records: a deed that is refused for room asks for
--- one all the same
-abbrev pub put_off_at : ℕ → Pace → Pace
-put_off_at records p =
+-- the pace once a snapshot was put off at so many records and bytes: it waits for 1,024 records more,
+-- or for `room` bytes and no more than 32 MiB, whichever come first. A deed that is refused for room
+-- asks for one all the same.
+abbrev pub put_off_at : ℕ → ℕ → ℕ → Pace → Pace
+put_off_at records used room p =
     record {
       base = p.base;
       start = p.start;
-      not_before = min (records + SNAPSHOT_RECORDS) (2 ^ 64 - 1);
+      not_before = raised records SNAPSHOT_RECORDS;
+      not_below = raised used (min room SNAPSHOT_BYTES);
       tried = p.tried;
       lacks_room = p.lacks_room;
     }
@@ -53,6 +70,7 @@ refused_for_room p =
       base = p.base;
       start = p.start;
       not_before = p.not_before;
+      not_below = p.not_below;
       tried = p.tried;
       lacks_room = true;
     }

@@ -11,6 +11,7 @@ mod greet;
 mod kinds;
 mod leave;
 mod list;
+mod longest;
 mod measure;
 mod recall;
 mod serve;

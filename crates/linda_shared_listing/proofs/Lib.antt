@@ -1,3 +1,6 @@
+pub mod FirstLaws
 pub mod ListingLaws
+pub mod ShapeLaws
 pub mod ClientLaws
+pub mod TakenLaws
 pub mod KindLaws

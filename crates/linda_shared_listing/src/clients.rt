@@ -1,22 +1,27 @@
 //! The clients of a server, a page at a time.
 
-ghost use Rattle.std.specs.Prelude.{◌≡◌, ◌∷◌, [], ◌<◌, ◌≤◌, IfOk, IfSome, IfNone};
-ghost use Rattle.std.specs.Prelude.{ℕ, suc, Some, None};
+ghost use Rattle.std.specs.Prelude.{◌≡◌, IfOk};
 ghost use Rattle.std.specs.FinMap as maps;
-ghost use Rattle.linda_snap.specs.Rising.{entries_from, first_after};
+ghost use Rattle.std.specs.Option.{is_some};
+ghost use Rattle.linda_book.specs.Entries.{number_in};
+ghost use Rattle.linda_snap.specs.Rising.{first_after};
 ghost use Rattle.linda_shared_outbox.specs.Waiting.{waits_for};
-ghost use Rattle.linda_shared_listing.specs.Clients.{first_client, client_of, timeless};
-ghost use Rattle.linda_shared_listing.specs.Clients.{IsClientPage};
+ghost use Rattle.linda_shared_listing.specs.Firsts.{IsNext};
+ghost use Rattle.linda_shared_listing.specs.Clients.{is_listed, client_of, timeless};
+ghost use Rattle.linda_shared_listing.specs.Clients.{listed_reply, reply_in, IsClientPage};
 
+use crate::kept::{before, next_entry};
+use crate::lesser::lesser;
 use crate::limits::MOST_LOOKED;
-use crate::listed::{ClientPage, ListedClient};
+use crate::listed::{ClientPage, ListedClient, ListedReply};
 use linda_book::{Book, KeptReply};
 use linda_hold::{Holds, Waits};
 use linda_shared_outbox::Outboxes;
 use std::alloc::{AllocError, Global};
 
-/// The first clients from this one on, in rising order of their numbers: as many as are asked for
-/// at most, one if that is none, and never more than 1,000.
+/// The first clients from this one on that have an outbox or for which a reply is kept, in rising
+/// order of their numbers: as many as are asked for, one if that is none, and never more than
+/// 1,000.
 ///
 /// # Errors
 ///
@@ -30,95 +35,88 @@ pub fn list_clients(
     from: u32,
     limit: usize,
 ) -> Result<ClientPage, AllocError>
-    ensures { IfOk result (IsClientPage book.now holds.now waits.now (waits_for boxes.now)
+    ensures { IfOk result (IsClientPage book.now (waits_for boxes.now) holds.now waits.now
         from limit) }
 {
-    let limit = limit.max(1);
+    let most = limit.max(1).min(MOST_LOOKED as usize);
     let mut rows = Vec::new(alloc);
-    let mut last = before(from);
-    for _ in 0..MOST_LOOKED {
-        let Some((client, (number, _))) = kept_after(book, last) else {
+    let mut next = listed_after(book, boxes, before(from));
+    for _ in 0..most {
+        let Some(client) = next else {
             return Ok(ClientPage { rows, next: None });
         };
-        rows.push(client_of(holds, waits, boxes, client, number))?;
-        last = Some(client);
-        if rows.len() >= limit {
-            return Ok(ClientPage {
-                rows,
-                next: client_after(book, last),
-            });
-        }
+        rows.push(client_of(book, holds, waits, boxes, client))?;
+        next = listed_after(book, boxes, Some(client));
     }
-    Ok(ClientPage {
-        rows,
-        next: client_after(book, last),
-    })
+    Ok(ClientPage { rows, next })
 }
 
-// The client before this one, if there is one.
-fn before(from: u32) -> Option<u32>
-    ensures { first_after result ≡ from }
+// The least client that is listed, above the last one if there is a last one.
+fn listed_after(book: &Book, boxes: &Outboxes, last: Option<u32>) -> Option<u32>
+    ensures { IsNext (is_listed book.now (waits_for boxes.now)) (first_after last) result }
 {
-    if from == 0 {
-        return None;
-    }
-    Some(from - 1)
+    lesser(next_kept(book, last), next_open(boxes, last))
 }
 
-// The first client of the book above this one, or at all where none is given, with its number and
-// reply.
-fn kept_after(book: &Book, last: Option<u32>) -> Option<(u32, (u64, &KeptReply))>
-    ensures found { IfSome result (λ e. entries_from (first_after last) book.now
-        ≡ (e.0, (e.1.0, e.1.1.now)) ∷ entries_from (suc e.0) book.now) }
-    ensures above { IfSome result (λ e. first_after last ≤ e.0) }
-    ensures none { IfNone result (entries_from (first_after last) book.now ≡ []) }
+// The least client for which a reply is kept, above the last one if there is a last one.
+fn next_kept(book: &Book, last: Option<u32>) -> Option<u32>
+    ensures { IsNext (λ client. is_some (maps.get book.now client)) (first_after last) result }
 {
-    let Some((client, entry)) = next_entry(book, last) else {
-        return None;
-    };
-    Some((client, entry))
-}
-
-fn next_entry(book: &Book, last: Option<u32>) -> Option<(u32, (u64, &KeptReply))>
-    ensures found { IfSome result (λ e. maps.get book.now e.0 ≡ Some (e.1.0, e.1.1.now)) }
-    ensures above { IfSome result (λ e. first_after last ≤ e.0) }
-    ensures least { IfSome result (λ e. (c : ℕ) → first_after last ≤ c → c < e.0
-        → maps.get book.now c ≡ None) }
-    ensures none { IfNone result ((c : ℕ) → first_after last ≤ c → maps.get book.now c ≡ None) }
-{
-    match last {
-        None => book.entry_from(0),
-        Some(client) => book.entry_after(client),
-    }
-}
-
-// The first client of the book above this one.
-fn client_after(book: &Book, last: Option<u32>) -> Option<u32>
-    ensures first { result ≡ first_client (entries_from (first_after last) book.now) }
-    ensures above { IfSome result (λ client. first_after last ≤ client) }
-{
-    match kept_after(book, last) {
+    match next_entry(book, last) {
         Some((client, _)) => Some(client),
         None => None,
     }
 }
 
-// A client with its number, and what it has.
+// The least client that has an outbox, above the last one if there is a last one.
+fn next_open(boxes: &Outboxes, last: Option<u32>) -> Option<u32>
+    ensures { IsNext (λ client. is_some (waits_for boxes.now client)) (first_after last) result }
+{
+    boxes.next_after(last)
+}
+
+// A client with what there is of it.
 fn client_of(
+    book: &Book,
     holds: &Holds,
     waits: &Waits,
     boxes: &Outboxes,
     client: u32,
-    number: u64,
 ) -> ListedClient
-    ensures { timeless result ≡ client_of holds.now waits.now (waits_for boxes.now) client number }
+    ensures { timeless result
+        ≡ client_of book.now (waits_for boxes.now) holds.now waits.now client }
 {
+    let (number, reply) = kept_for(book, client);
     ListedClient {
         client,
         number,
+        reply,
         is_connected: boxes.has(client),
         connected_for: boxes.age(client),
         holds: holds.count_of(client),
         waits: waits.count_of(client),
+    }
+}
+
+// The number and the reply that are kept for the client; 0 if there are none.
+fn kept_for(book: &Book, client: u32) -> (u64, Option<ListedReply>)
+    ensures number { result.0 ≡ number_in (maps.get book.now client) }
+    ensures reply { result.1 ≡ reply_in (maps.get book.now client) }
+{
+    match book.kept(client) {
+        Some((number, reply)) => (number, Some(listed_reply(reply))),
+        None => (0, None),
+    }
+}
+
+// The reply without its tuple.
+fn listed_reply(reply: &KeptReply) -> ListedReply
+    ensures { result ≡ listed_reply reply.now }
+{
+    match reply {
+        KeptReply::Stored(id) => ListedReply::Stored(*id),
+        KeptReply::Taken(id, _) => ListedReply::Taken(*id),
+        KeptReply::Gone => ListedReply::Gone,
+        KeptReply::Left => ListedReply::Left,
     }
 }

@@ -64,20 +64,35 @@ pub struct ListedTuple {
 /// Some of the tuples that are asked for, as they were at one moment.
 #[derive(Drop)]
 pub struct TuplePage {
-    /// They stand in rising order of ids.
+    /// They are in rising order of ids.
     pub rows: Vec<ListedTuple>,
-    /// The id of the first tuple that was not looked at: the next page is from there on. Nothing if
-    /// there is none.
+    /// The id of the next tuple that is asked for: the next page is from there on. Nothing if there
+    /// is none.
     pub next: Option<u64>,
+}
+
+/// A reply that is kept for a client, without its tuple.
+#[derive(Clone, Copy, Debug, PartialEq, Eq)]
+pub enum ListedReply {
+    /// A tuple was put, under this id.
+    Stored(u64),
+    /// The tuple of this id was taken.
+    Taken(u64),
+    /// An offer was gone, and nothing was taken.
+    Gone,
+    /// The client left.
+    Left,
 }
 
 /// A client, as it was at one moment.
 #[derive(Clone, Copy, Debug, PartialEq, Eq)]
 pub struct ListedClient {
     pub client: u32,
-    /// The number of its last message of which a deed came.
+    /// The number of its last message of which a deed came; 0 if none is kept.
     pub number: u64,
-    /// Whether it has a connection.
+    /// The reply to that message, if one is kept.
+    pub reply: Option<ListedReply>,
+    /// Whether it has an outbox, which it has as long as it has a connection.
     pub is_connected: bool,
     /// For how many seconds it has it, if that is known. No contract says it.
     pub connected_for: Option<u64>,
@@ -90,9 +105,8 @@ pub struct ListedClient {
 /// Some of the clients, as they were at one moment.
 #[derive(Drop)]
 pub struct ClientPage {
-    /// They stand in rising order of their numbers.
+    /// They are in rising order of their numbers.
     pub rows: Vec<ListedClient>,
-    /// The first client that was not looked at: the next page is from there on. Nothing if there is
-    /// none.
+    /// The next client after them: the next page is from there on. Nothing if there is none.
     pub next: Option<u32>,
 }

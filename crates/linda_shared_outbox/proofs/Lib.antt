@@ -1,2 +1,3 @@
 pub mod BoxLaws
 pub mod WaitLaws
+pub mod NextLaws

@@ -1,5 +1,6 @@
 -- What waits for each client, as a function that answers nothing where the client has no outbox.
-use Rattle.std.specs.Prelude.{ℕ, ◌+◌, ◌≤◌, List, Option, vec_len, vec_capacity, All, length}
+use Rattle.std.specs.Prelude.{ℕ, ◌+◌, ◌≤◌, ◌<◌, ⊤, List, Option, None, Some, All, length}
+use Rattle.std.specs.Prelude.{vec_len, vec_capacity}
 use Rattle.linda_wire.specs.declared.reply.Reply.{Reply}
 use Rattle.linda_shared_outbox.specs.Boxes.{box_of, replies_in, TakesMore}
 use Rattle.linda_shared_outbox.specs.declared.outboxes.Outboxes.{Outboxes}
@@ -19,3 +20,8 @@ abbrev pub HasPlaces : Outboxes → List (ℕ × Reply) → Type 0
 HasPlaces outboxes sends =
     (vec_len outboxes.waiting + length sends ≤ vec_capacity outboxes.waiting)
     × All (λ s. TakesMore (length sends) (box_of outboxes.keys outboxes.boxes s.0)) sends
+
+-- The client is above the last one, if there is a last one.
+abbrev pub IsAbove : Option ℕ → ℕ → Type 0
+IsAbove None client = ⊤
+IsAbove (Some last) client = last < client

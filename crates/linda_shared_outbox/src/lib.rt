@@ -8,6 +8,7 @@
 //! A call that may take memory has a fault for that; no other call takes any.
 #![tactic(auto)]
 
+mod keys;
 mod opened;
 mod outbox;
 mod outboxes;

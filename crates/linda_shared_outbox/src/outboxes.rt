@@ -1,7 +1,8 @@
 //! The outboxes of all clients.
 
-ghost use Rattle.std.specs.Prelude.{◌≡◌, ◌≢◌, ℕ, ◌+◌, ◌≤◌, Some, None, [], ◌∷◌, All, length};
+ghost use Rattle.std.specs.Prelude.{◌≡◌, ◌≢◌, ℕ, ◌+◌, ◌≤◌, ◌<◌, Some, None, [], ◌∷◌, All, length};
 ghost use Rattle.std.specs.Prelude.{vec_len, vec_capacity, OnOk, OnErr, OnSome, IfSome, IfNone};
+ghost use Rattle.std.specs.Prelude.{true};
 ghost use Rattle.std.specs.Option.{is_some};
 ghost use Rattle.std.specs.Ordering.{nat_cmp};
 ghost use Rattle.std.specs.BTreeMap as tree;
@@ -10,6 +11,7 @@ ghost use Rattle.linda_shared_outbox.specs.Boxes.{TakesMore};
 ghost use Rattle.linda_shared_outbox.specs.Replies.{replies_to, opened, with_more, emptied};
 ghost use Rattle.linda_shared_outbox.specs.Replies.{handed_out};
 
+use crate::keys::next_key;
 use crate::opened::Opened;
 use crate::outbox::{Outbox, make_place, put, take_out, unlist};
 use crate::sent::Sent;
@@ -32,7 +34,7 @@ pub struct Outboxes {
 }
 
 impl Outboxes {
-    ghost use Rattle.linda_shared_outbox.specs.Waiting.{waits_for, HasRoom, HasPlaces};
+    ghost use Rattle.linda_shared_outbox.specs.Waiting.{waits_for, HasRoom, HasPlaces, IsAbove};
 
     /// No outboxes. Takes no memory until one is opened.
     pub fn new(alloc: Global) -> Outboxes
@@ -65,6 +67,18 @@ impl Outboxes {
         ensures { result ≡ is_some (waits_for self.now client) }
     {
         self.keys.contains_key(&client)
+    }
+
+    /// The least client that has an outbox, of those above the last one, or of all if there is no
+    /// last one; nothing if there is none. Takes no walk over the others.
+    pub fn next_after(&self, last: Option<u32>) -> Option<u32>
+        ensures found { IfSome result (λ next. is_some (waits_for self.now next) ≡ true) }
+        ensures above { IfSome result (λ next. IsAbove last next) }
+        ensures least { IfSome result (λ next. (c : ℕ) → IsAbove last c → c < next
+            → waits_for self.now c ≡ None) }
+        ensures none { IfNone result ((c : ℕ) → IsAbove last c → waits_for self.now c ≡ None) }
+    {
+        next_key(&self.keys, last)
     }
 
     /// Gives the client an empty outbox; where it has one, nothing changes.

@@ -2,7 +2,6 @@
 use Rattle.std.proofs.Common.{◌≡◌, ℕ, suc, ◌<◌, ◌≤◌, ◌^◌, ◌==◌, true, false, cond, List, ◌∷◌, ◌++◌, length, Option, Some, None, refl, sym, ap, subst, ◌∙◌, true≢false, ◌⊎◌, inl, inr, append_assoc, append-nil, arith}
 use Rattle.std.specs.Prelude.{IfSome, is_none, nat_lt, ◌-◌, if◌then◌else◌}
 use Rattle.std.specs.Borrow.{Bor}
-use Rattle.std.specs.Global.{Vec}
 use Rattle.std.specs.Cmp.{unsigned_Decides}
 use Rattle.std.specs.List.{flat_map, slice_get}
 use Rattle.std.specs.FinMap.{get, insert, entries}
@@ -18,7 +17,8 @@ use Rattle.linda_store_state.specs.After.{IsAfter}
 use Rattle.linda_store_state.specs.State.{State, IsState}
 use Rattle.linda_snap.specs.declared.draft.Draft.{Draft}
 use Rattle.linda_snap.specs.Rising.{entries_from}
-use Rattle.linda_snap.specs.Snapshot.{listed, placed, kept, spell_state, FitsState}
+use Rattle.linda_snap.specs.Clients.{HasTuples}
+use Rattle.linda_snap.specs.Snapshot.{placed, spell_state}
 use Rattle.linda_snap.specs.Draft.{Tuples, Owes, IsThrough, IsFirst, IsFirstOwed, IsSafe, aside_of, first_of, owed_at, earlier_of, seen}
 use Rattle.linda_snap.proofs.PuttingLaws.{few_tuples}
 use Rattle.linda_snap.proofs.RisingLaws.{first_is, none_is, all_is, all_got}
@@ -83,7 +83,7 @@ module _ (draft : Draft) (now : Tuples) where
 
 -- It once all tuples below that id are written.
 abbrev pub moved : ℕ → Draft → Draft
-moved from draft = record { from = from; next = draft.next; aside = draft.aside; book = draft.book; len = draft.len }
+moved from draft = record { from = from; next = draft.next; aside = draft.aside; book = draft.book; count = draft.count; len = draft.len }
 
 pub one_more : (begun : State) (draft : Draft) (bytes piece : List ℕ) (now : Tuples) (e : ℕ × Tuple) → Owes begun draft bytes now → IsFirstOwed draft now draft.from (Some e) → piece ≡ (placed written).spell e → (placed written).Fits e → Owes begun (moved (suc e.0) draft) (bytes ++ piece) now
 one_more begun draft bytes piece now e owes first is fits =
@@ -129,20 +129,12 @@ pub through_if_none : (begun : State) (draft : Draft) (bytes : List ℕ) (now : 
 through_if_none begun draft bytes now None owes none first = no_more begun draft bytes now owes first
 through_if_none begun draft bytes now (Some e) owes none first = absurd (true≢false (sym none))
 
--- What is written and what is kept for clients is the whole snapshot, once all tuples are written.
-pub all_written : (begun : State) (draft : Draft) (bytes : List ℕ) (now : Tuples) → Owes begun draft bytes now → IsThrough begun draft → bytes ++ draft.book.items ≡ spell_state written begun
-all_written begun draft bytes now owes through =
-    let spell = (placed written).spell in
-    let tuples = (listed (placed written)).spell (entries begun.bag) in
-    let is : bytes ≡ number.spell begun.next ++ tuples = sym (append-nil bytes) ∙ ap (λ es. bytes ++ flat_map spell es) (sym (none_is begun.bag draft.from through)) ∙ owes.parts in
-    ap (λ b. b ++ draft.book.items) is
-    ∙ ap (λ b. (number.spell begun.next ++ tuples) ++ b) owes.clients
-    ∙ append_assoc (number.spell begun.next) tuples ((listed (kept written)).spell (entries begun.book))
-
--- It has a spelling then.
-pub all_fit : (begun : State) (draft : Draft) (bytes : List ℕ) (now : Tuples) → Owes begun draft bytes now → IsThrough begun draft → length (spell_state written begun) < 2 ^ 32 → FitsState written begun
-all_fit begun draft bytes now owes through short =
-    (owes.known.0, ((few_tuples begun short, All-from_recursion (placed written).Fits (entries begun.bag) (all_got (placed written).Fits begun.bag each)), owes.known.1))
+-- All tuples are written then.
+pub all_tuples : (begun : State) (draft : Draft) (bytes : List ℕ) (now : Tuples) → Owes begun draft bytes now → IsThrough begun draft → length (spell_state written begun) < 2 ^ 32 → HasTuples begun bytes
+all_tuples begun draft bytes now owes through short = record {
+  parts = sym (append-nil bytes) ∙ ap (λ es. bytes ++ flat_map (placed written).spell es) (sym (none_is begun.bag draft.from through)) ∙ owes.parts;
+  fits = (owes.known, (few_tuples begun short, All-from_recursion (placed written).Fits (entries begun.bag) (all_got (placed written).Fits begun.bag each)));
+}
   where
     each : (id : ℕ) → IfSome (get begun.bag id) (λ row. (placed written).Fits (id, row))
     each id =
@@ -190,11 +182,11 @@ owes_after begun draft bytes st ds new owes le after safe = record {
         ] refl
 
 -- A tuple that is there may be put aside too: what is owed is the same.
-pub aside_too : (begun : State) (draft other : Draft) (bytes : List ℕ) (now : Tuples) (id : ℕ) (row : Tuple) → Owes begun draft bytes now → get now id ≡ Some row → other.from ≡ draft.from → other.next ≡ draft.next → other.book ≡ draft.book → aside_of other ≡ insert (aside_of draft) id row → Owes begun other bytes now
-aside_too begun draft other bytes now id row owes there from next book aside = record {
+pub aside_too : (begun : State) (draft other : Draft) (bytes : List ℕ) (now : Tuples) (id : ℕ) (row : Tuple) → Owes begun draft bytes now → get now id ≡ Some row → other.from ≡ draft.from → other.next ≡ draft.next → other.book ≡ draft.book → other.count ≡ draft.count → aside_of other ≡ insert (aside_of draft) id row → Owes begun other bytes now
+aside_too begun draft other bytes now id row owes there from next book count aside = record {
   parts = ap (λ n. bytes ++ flat_map (placed written).spell (entries_from n begun.bag)) from ∙ owes.parts;
   owed = λ q low. owes.owed q (omega (arith, from, low)) ∙ owed_as draft other now now q next (λ lt. same q);
-  clients = ap (λ (b : Vec ℕ). b.items) book ∙ owes.clients;
+  clients = (book ∙ owes.clients.0, count ∙ owes.clients.1);
   fits = λ q low. owes.fits q (omega (arith, from, low));
   known = owes.known;
 }
@@ -216,11 +208,11 @@ aside_too begun draft other bytes now id row owes there from next book aside = r
             ∙ ap (λ k. first_of (get now k) (get (aside_of other) k)) (sym e)
 
 -- What is owed goes by what is aside.
-pub same_aside : (begun : State) (draft other : Draft) (bytes : List ℕ) (now : Tuples) → Owes begun draft bytes now → other.from ≡ draft.from → other.next ≡ draft.next → other.book ≡ draft.book → aside_of other ≡ aside_of draft → Owes begun other bytes now
-same_aside begun draft other bytes now owes from next book aside = record {
+pub same_aside : (begun : State) (draft other : Draft) (bytes : List ℕ) (now : Tuples) → Owes begun draft bytes now → other.from ≡ draft.from → other.next ≡ draft.next → other.book ≡ draft.book → other.count ≡ draft.count → aside_of other ≡ aside_of draft → Owes begun other bytes now
+same_aside begun draft other bytes now owes from next book count aside = record {
   parts = ap (λ n. bytes ++ flat_map (placed written).spell (entries_from n begun.bag)) from ∙ owes.parts;
   owed = λ q low. owes.owed q (omega (arith, from, low)) ∙ owed_as draft other now now q next (λ lt. ap (λ m. first_of (get now q) (get m q)) (sym aside));
-  clients = ap (λ (b : Vec ℕ). b.items) book ∙ owes.clients;
+  clients = (book ∙ owes.clients.0, count ∙ owes.clients.1);
   fits = λ q low. owes.fits q (omega (arith, from, low));
   known = owes.known;
 }
@@ -252,8 +244,8 @@ beyond st ranges id le = by (get st.bag id) (ranges.ids id)
     by None low = refl
     by (Some row) low = absurd (omega (arith, low.1, le))
 
-pub begun : (st : State) (draft : Draft) (bytes : List ℕ) → IsState st → draft.from ≡ 0 → draft.next ≡ st.next → ((id : ℕ) → get (aside_of draft) id ≡ None) → draft.book.items ≡ (listed (kept written)).spell (entries st.book) → (listed (kept written)).Fits (entries st.book) → bytes ≡ number.spell st.next ++ short_number.spell (length (entries st.bag)) → Owes st draft bytes st.bag
-begun st draft bytes ranges from next none clients known is =
+pub begun : (st : State) (draft : Draft) (bytes : List ℕ) → IsState st → draft.from ≡ 0 → draft.next ≡ st.next → ((id : ℕ) → get (aside_of draft) id ≡ None) → draft.book ≡ st.book → draft.count ≡ length (entries st.book) → bytes ≡ number.spell st.next ++ short_number.spell (length (entries st.bag)) → Owes st draft bytes st.bag
+begun st draft bytes ranges from next none clients count_is is =
     let spell = (placed written).spell in
     let count = short_number.spell (length (entries st.bag)) in record {
       parts =
@@ -266,9 +258,9 @@ begun st draft bytes ranges from next none clients known is =
             | inl lt ↦ sym (owed_below draft st.bag id lt ∙ ap (λ o. first_of (get st.bag id) o) (none id) ∙ itself (get st.bag id))
             | inr le ↦ beyond st ranges id (omega (arith, next, le)) ∙ sym (owed_beyond draft st.bag id le)
           ];
-      clients = clients;
+      clients = (clients, count_is);
       fits = λ id lt. absurd (omega (arith, from, lt));
-      known = (omega (arith, ranges.next_high), known);
+      known = omega (arith, ranges.next_high);
     }
   where
     itself : (o : Option Tuple) → first_of o None ≡ o

@@ -9,4 +9,5 @@ pub mod ReplayLaws
 pub mod ChoiceLaws
 pub mod AppendLaws
 pub mod DraftLaws
+pub mod ClientsLaws
 mod CauseLaws

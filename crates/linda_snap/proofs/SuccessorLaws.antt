@@ -1,7 +1,9 @@
 -- How a new bank goes on that is written in steps.
 use Rattle.std.proofs.Common.{◌≡◌, ℕ, ◌+◌, ◌<◌, ◌≤◌, ◌^◌, true, List, [], ◌∷◌, ◌++◌, length, take, drop, Option, Some, None, Result, Ok, Err, refl, sym, ap, subst, ◌∙◌, append_assoc, append-nil, length-append, arith}
 use Rattle.std.specs.Prelude.{IfOk, IfSome, IfNone}
+use Rattle.std.specs.FinMap.{FinMap, entries}
 use Rattle.std.specs.Global.{Vec}
+use Rattle.std.specs.Ordering.{nat_cmp}
 use Rattle.std.proofs.Math.Seq.{drop-append_seam}
 use Rattle.std.proofs.lemmas.Grind.{flat_map-append}
 use Rattle.std.proofs.lemmas.List.{take-append-drop}
@@ -17,26 +19,49 @@ use Rattle.linda_store_state.proofs.ProperLaws.{none_done}
 use Rattle.linda_journal.specs.declared.kinds.TheConstants.{CLOSED}
 use Rattle.linda_journal.specs.Bank.{magic, behind_gate}
 use Rattle.linda_journal.specs.Records.{IsRecord, AreRecords, spell_record, spell_records}
+use Rattle.linda_book.specs.Entries.{Entry}
+use Rattle.linda_snap.specs.declared.clients.Clients.{Clients}
 use Rattle.linda_snap.specs.declared.draft.Draft.{Draft}
 use Rattle.linda_snap.specs.declared.successor.Successor.{Successor}
 use Rattle.linda_snap.specs.declared.tail.Tail.{Tail}
+use Rattle.linda_snap.specs.Clients.{HasTuples, OwesClients, AreThrough}
 use Rattle.linda_snap.specs.Draft.{Tuples, Owes, IsSafe, IsThrough}
 use Rattle.linda_snap.specs.Replay.{GoesOn}
 use Rattle.linda_snap.specs.Snapshot.{spell_state, FitsState}
 use Rattle.linda_snap.specs.Stands.{deeds_in}
 use Rattle.linda_snap.specs.Successor.{Follows, IsBehindTuples, IsSafeFor, Completes, heading}
+use Rattle.linda_snap.proofs.ClientsLaws.{all_clients, clients_fit}
 use Rattle.linda_snap.proofs.DraftLaws.{owes_after}
 
 -- It with this draft, these records, and so many of them.
 abbrev pub with_draft : Successor → Option Draft → Successor
-with_draft s draft = record { generation = s.generation; limit = s.limit; len = s.len; draft = draft; since = s.since; records = s.records }
+with_draft s draft = record { generation = s.generation; limit = s.limit; len = s.len; draft = draft; clients = s.clients; since = s.since; records = s.records }
+
+abbrev pub with_clients : Successor → Option Draft → Option Clients → Successor
+with_clients s draft clients = record { generation = s.generation; limit = s.limit; len = s.len; draft = draft; clients = clients; since = s.since; records = s.records }
 
 abbrev pub with_since : Successor → Tail → ℕ → Successor
-with_since s since records = record { generation = s.generation; limit = s.limit; len = s.len; draft = s.draft; since = since; records = records }
+with_since s since records = record { generation = s.generation; limit = s.limit; len = s.len; draft = s.draft; clients = s.clients; since = since; records = records }
 
 -- What the draft owes of the body, before any record is written.
 abbrev OwesAll : State → List ℕ → List ℕ → State → Draft → Type 0
 OwesAll begun body tail st d = Owes begun d body st.bag × (d.next ≤ st.next) × (tail ≡ [])
+
+-- What its clients do.
+abbrev ListsAll : State → List ℕ → List ℕ → Clients → Type 0
+ListsAll begun body tail c = OwesClients begun c body × (tail ≡ [])
+
+-- The whole snapshot is there.
+abbrev IsAll : State → List ℕ → Type 0
+IsAll begun body = (body ≡ spell_state written begun) × FitsState written begun
+
+-- More of the body is written, before any record is.
+grown : (head body tail more front : List ℕ) → tail ≡ [] → front ≡ head ++ (body ++ tail) → front ++ more ≡ head ++ ((body ++ more) ++ tail)
+grown head body tail more front none is =
+    ap (λ l. l ++ more) is
+    ∙ append_assoc head (body ++ tail) more
+    ∙ ap (λ l. head ++ l)
+    (ap (λ t. (body ++ t) ++ more) none ∙ ap (λ b. b ++ more) (append-nil body) ∙ sym (append-nil (body ++ more)) ∙ ap (λ t. (body ++ more) ++ t) (sym none))
 
 -- ---- its beginning
 
@@ -59,7 +84,8 @@ begins s draft first front st ranges is owes next short low high none zero front
   body = first;
   front_is = front_is ∙ ap (λ b. heading s.generation (length (spell_state written st)) ++ b) (sym (append-nil first));
   owes = subst (λ o. IfSome o (OwesAll st first [] st)) (sym is) (owes, omega (arith, next), refl);
-  whole = subst (λ o. IfNone o ((first ≡ spell_state written st) × FitsState written st)) (sym is) tt;
+  lists = subst (λ o. IfNone o (IfSome s.clients (ListsAll st first []))) (sym is) tt;
+  whole = subst (λ o. IfNone o (IfNone s.clients (IsAll st first))) (sym is) tt;
 }
 
 -- ---- the draft goes on
@@ -85,12 +111,9 @@ module _ (s : Successor) (old new : Draft) (front : List ℕ) (st : State) (is :
     parts = f.parts;
     place = f.place;
     body = f.body ++ more;
-    front_is =
-        ap (λ l. l ++ more) f.front_is
-        ∙ append_assoc (heading s.generation (length (spell_state written f.begun))) (f.body ++ f.tail) more
-        ∙ ap (λ l. heading s.generation (length (spell_state written f.begun)) ++ l)
-        (ap (λ t. (f.body ++ t) ++ more) owed.2 ∙ ap (λ b. b ++ more) (append-nil f.body) ∙ sym (append-nil (f.body ++ more)) ∙ ap (λ t. (f.body ++ more) ++ t) (sym owed.2));
+    front_is = grown (heading s.generation (length (spell_state written f.begun))) f.body f.tail more front owed.2 f.front_is;
     owes = (owes, omega (arith, next, owed.1), owed.2);
+    lists = tt;
     whole = tt;
   }
 
@@ -112,6 +135,7 @@ module _ (s : Successor) (old new : Draft) (front : List ℕ) (st : State) (is :
     body = f.body;
     front_is = f.front_is;
     owes = (owes, omega (arith, next, owed.1), owed.2);
+    lists = tt;
     whole = tt;
   }
 
@@ -137,16 +161,18 @@ no_tuples s old new front st (Ok None) is next same through f =
     record { follows = none_written s old new front st is next f (subst (λ d. Owes f.begun d f.body st.bag) (sym same) were); through = through f.begun f.body were }
 no_tuples s old new front st (Err e) is next same through f = tt
 
--- ---- the draft ends
+-- ---- the draft ends, and its clients begin
 
-pub ends : (s : Successor) (draft : Draft) (other : Option Draft) (front : List ℕ) (st : State) (book : List ℕ) → s.draft ≡ Some draft → other ≡ None
-    → ((begun : State) (bytes : List ℕ) (now : Tuples) → Owes begun draft bytes now → IsThrough begun draft → bytes ++ book ≡ spell_state written begun)
-    → ((begun : State) (bytes : List ℕ) (now : Tuples) → Owes begun draft bytes now → IsThrough begun draft → length (spell_state written begun) < 2 ^ 32 → FitsState written begun)
-    → IsBehindTuples s front st → Follows (with_draft s other) (front ++ book) st
-ends s draft other front st book is none spelled fits b =
+pub turns : (s : Successor) (draft : Draft) (other : Option Draft) (book : FinMap nat_cmp Entry) (count : ℕ) (clients : Clients) (front more : List ℕ) (st : State) → s.draft ≡ Some draft → other ≡ None
+    → ((begun : State) (bytes : List ℕ) (now : Tuples) → Owes begun draft bytes now → (book ≡ begun.book) × (count ≡ length (entries begun.book)))
+    → ((begun : State) (bytes : List ℕ) (now : Tuples) → Owes begun draft bytes now → IsThrough begun draft → length (spell_state written begun) < 2 ^ 32 → HasTuples begun bytes)
+    → ((begun : State) (bytes : List ℕ) → HasTuples begun bytes → book ≡ begun.book → count ≡ length (entries begun.book) → OwesClients begun clients (bytes ++ more))
+    → IsBehindTuples s front st → Follows (with_clients s other (Some clients)) (front ++ more) st
+turns s draft other book count clients front more st is none same has lists b =
     let f = b.follows in
     let was = subst (λ o. IfSome o (OwesAll f.begun f.body f.tail st)) is f.owes in
     let through = subst (λ o. IfSome o (λ d. IsThrough f.begun d)) is b.through in
+    let book_is = same f.begun f.body st.bag was.0 in
     record {
       begun = f.begun;
       ranges = f.ranges;
@@ -161,25 +187,84 @@ ends s draft other front st book is none spelled fits b =
       spelled = f.spelled;
       parts = f.parts;
       place = f.place;
-      body = f.body ++ book;
-      front_is =
-          ap (λ l. l ++ book) f.front_is
-          ∙ append_assoc (heading s.generation (length (spell_state written f.begun))) (f.body ++ f.tail) book
-          ∙ ap (λ l. heading s.generation (length (spell_state written f.begun)) ++ l)
-          (ap (λ t. (f.body ++ t) ++ book) was.2 ∙ ap (λ l. l ++ book) (append-nil f.body) ∙ sym (append-nil (f.body ++ book)) ∙ ap (λ t. (f.body ++ book) ++ t) (sym was.2));
-      owes = subst (λ o. IfSome o (OwesAll f.begun (f.body ++ book) f.tail st)) (sym none) tt;
-      whole = subst (λ o. IfNone o ((f.body ++ book ≡ spell_state written f.begun) × FitsState written f.begun)) (sym none) (spelled f.begun f.body st.bag was.0 through, fits f.begun f.body st.bag was.0 through f.short);
+      body = f.body ++ more;
+      front_is = grown (heading s.generation (length (spell_state written f.begun))) f.body f.tail more front was.2 f.front_is;
+      owes = subst (λ o. IfSome o (OwesAll f.begun (f.body ++ more) f.tail st)) (sym none) tt;
+      lists = subst (λ o. IfNone o (ListsAll f.begun (f.body ++ more) f.tail clients)) (sym none)
+          (lists f.begun f.body (has f.begun f.body st.bag was.0 through f.short) book_is.0 book_is.1, was.2);
+      whole = subst (λ o. IfNone o (Unit {0})) (sym none) tt;
     }
 
 pub has_ended : (s : Successor) (other : Option Draft) (front : List ℕ) (st : State) → s.draft ≡ None → other ≡ None → IsBehindTuples s front st → Follows (with_draft s other) front st
 has_ended s other front st is none b = subst (λ o. Follows (with_draft s o) front st) (is ∙ sym none) b.follows
 
+-- ---- the clients go on
+
+listed : (s : Successor) (old : Clients) (front : List ℕ) (st : State) → s.draft ≡ None → s.clients ≡ Some old → (f : Follows s front st) → ListsAll f.begun f.body f.tail old
+listed s old front st none is f =
+    subst (λ o. IfSome o (ListsAll f.begun f.body f.tail)) is (subst (λ o. IfNone o (IfSome s.clients (ListsAll f.begun f.body f.tail))) none f.lists)
+
+-- More of them are written.
+pub more_clients : (s : Successor) (old new : Clients) (front more : List ℕ) (st : State) → s.draft ≡ None → s.clients ≡ Some old → ((begun : State) (bytes : List ℕ) → OwesClients begun old bytes → OwesClients begun new (bytes ++ more))
+    → Follows s front st → Follows (with_clients s s.draft (Some new)) (front ++ more) st
+more_clients s old new front more st none is goes f =
+    let were = listed s old front st none is f in
+    record {
+      begun = f.begun;
+      ranges = f.ranges;
+      short = f.short;
+      low = f.low;
+      high = f.high;
+      records = f.records;
+      good = f.good;
+      done = f.done;
+      tail = f.tail;
+      left = f.left;
+      spelled = f.spelled;
+      parts = f.parts;
+      place = f.place;
+      body = f.body ++ more;
+      front_is = grown (heading s.generation (length (spell_state written f.begun))) f.body f.tail more front were.1 f.front_is;
+      owes = subst (λ o. IfSome o (OwesAll f.begun (f.body ++ more) f.tail st)) (sym none) tt;
+      lists = subst (λ o. IfNone o (ListsAll f.begun (f.body ++ more) f.tail new)) (sym none) (goes f.begun f.body were.0, were.1);
+      whole = subst (λ o. IfNone o (Unit {0})) (sym none) tt;
+    }
+
+-- All of them are.
+pub no_clients : (s : Successor) (old : Clients) (other : Option Clients) (front : List ℕ) (st : State) → s.draft ≡ None → s.clients ≡ Some old → other ≡ None → AreThrough old → Follows s front st → Follows (with_clients s s.draft other) front st
+no_clients s old other front st none is gone through f =
+    let were = listed s old front st none is f in
+    record {
+      begun = f.begun;
+      ranges = f.ranges;
+      short = f.short;
+      low = f.low;
+      high = f.high;
+      records = f.records;
+      good = f.good;
+      done = f.done;
+      tail = f.tail;
+      left = f.left;
+      spelled = f.spelled;
+      parts = f.parts;
+      place = f.place;
+      body = f.body;
+      front_is = f.front_is;
+      owes = f.owes;
+      lists = subst (λ o. IfNone s.draft (IfSome o (ListsAll f.begun f.body f.tail))) (sym gone) (subst (λ o. IfNone o (Unit {0})) (sym none) tt);
+      whole = subst (λ o. IfNone s.draft (IfNone o (IsAll f.begun f.body))) (sym gone)
+          (subst (λ o. IfNone o (IsAll f.begun f.body)) (sym none) (all_clients f.begun old f.body were.0 through, clients_fit f.begun old f.body were.0 through f.short));
+    }
+
+pub had_none : (s : Successor) (other : Option Clients) (front : List ℕ) (st : State) → s.clients ≡ None → other ≡ None → Follows s front st → Follows (with_clients s s.draft other) front st
+had_none s other front st is none f = subst (λ o. Follows (with_clients s s.draft o) front st) (is ∙ sym none) f
+
 -- ---- its records
 
 -- A first piece of those that are left is written.
-pub piece_written : (s : Successor) (since : Tail) (most : ℕ) (left piece front new : List ℕ) (st : State) → s.draft ≡ None → Follows s front st → left ≡ drop s.since.written s.since.bytes.items → piece ≡ take most left → length piece ≡ most
+pub piece_written : (s : Successor) (since : Tail) (most : ℕ) (left piece front new : List ℕ) (st : State) → s.draft ≡ None → s.clients ≡ None → Follows s front st → left ≡ drop s.since.written s.since.bytes.items → piece ≡ take most left → length piece ≡ most
     → since.bytes ≡ s.since.bytes → since.written ≡ s.since.written + most → new ≡ piece → Follows (with_since s since s.records) (front ++ new) st
-piece_written s since most left piece front new st none f left_is piece_is long bytes passed new_is =
+piece_written s since most left piece front new st none gone f left_is piece_is long bytes passed new_is =
     let all = heading s.generation (length (spell_state written f.begun)) in
     let rest : left ≡ f.left = left_is ∙ ap (λ n. drop n s.since.bytes.items) f.place ∙ ap (λ l. drop (length f.tail) l) f.parts ∙ drop-append_seam f.tail f.left in
     let split : f.left ≡ piece ++ drop most left = sym rest ∙ sym (take-append-drop most left) ∙ ap (λ l. l ++ drop most left) (sym piece_is) in
@@ -203,6 +288,7 @@ piece_written s since most left piece front new st none f left_is piece_is long 
           ∙ append_assoc all (f.body ++ f.tail) piece
           ∙ ap (λ l. all ++ l) (append_assoc f.body f.tail piece);
       owes = subst (λ o. IfSome o (OwesAll f.begun f.body (f.tail ++ piece) st)) (sym none) tt;
+      lists = subst (λ o. IfNone s.draft (IfSome o (ListsAll f.begun f.body (f.tail ++ piece)))) (sym gone) (subst (λ o. IfNone o (Unit {0})) (sym none) tt);
       whole = f.whole;
     }
 
@@ -218,9 +304,9 @@ headed generation body rest =
     ∙ sym (append_assoc (magic written) (n ++ (l ++ body)) rest)
 
 -- The others, and a closed gate, end the bank.
-pub completes : (s : Successor) (left front bytes : List ℕ) (st : State) → s.draft ≡ None → Follows s front st → left ≡ drop s.since.written s.since.bytes.items → bytes ≡ left ++ CLOSED ∷ [] → Completes s front bytes st
-completes s left front bytes st none f left_is bytes_is =
-    let whole = subst (λ o. IfNone o ((f.body ≡ spell_state written f.begun) × FitsState written f.begun)) none f.whole in
+pub completes : (s : Successor) (left front bytes : List ℕ) (st : State) → s.draft ≡ None → s.clients ≡ None → Follows s front st → left ≡ drop s.since.written s.since.bytes.items → bytes ≡ left ++ CLOSED ∷ [] → Completes s front bytes st
+completes s left front bytes st none gone f left_is bytes_is =
+    let whole = subst (λ o. IfNone o (IsAll f.begun f.body)) gone (subst (λ o. IfNone o (IfNone s.clients (IsAll f.begun f.body))) none f.whole) in
     let body = spell_state written f.begun in
     let rest : left ≡ f.left = left_is ∙ ap (λ n. drop n s.since.bytes.items) f.place ∙ ap (λ l. drop (length f.tail) l) f.parts ∙ drop-append_seam f.tail f.left in
     let all : f.tail ++ f.left ≡ spell_records written f.records = sym f.parts ∙ f.spelled in
@@ -267,6 +353,7 @@ notes s since records front more st new ds ranges goes safe f are bytes passed =
   body = f.body;
   front_is = f.front_is;
   owes = by s.draft f.owes safe;
+  lists = f.lists;
   whole = f.whole;
 }
   where

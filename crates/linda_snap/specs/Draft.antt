@@ -1,6 +1,6 @@
 -- A snapshot that is written in steps while the server goes on: what it has written, and what it
 -- owes.
-use Rattle.std.specs.Prelude.{◌≡◌, ◌≤◌, ◌<◌, ◌++◌, ℕ, nat_lt, List, Option, None, Some}
+use Rattle.std.specs.Prelude.{◌≡◌, ◌≤◌, ◌<◌, ◌++◌, ℕ, nat_lt, List, length, Option, None, Some}
 use Rattle.std.specs.Prelude.{if◌then◌else◌, IfSome, IfNone}
 use Rattle.std.specs.Borrow.{Bor}
 use Rattle.std.specs.List.{flat_map}
@@ -12,7 +12,7 @@ use Rattle.linda_store_state.specs.DeedFormat.{written}
 use Rattle.linda_store_state.specs.State.{State}
 use Rattle.linda_snap.specs.declared.draft.Draft.{Draft}
 use Rattle.linda_snap.specs.Rising.{entries_from}
-use Rattle.linda_snap.specs.Snapshot.{listed, placed, kept}
+use Rattle.linda_snap.specs.Snapshot.{listed, placed}
 
 -- tuples by id
 abbrev pub Tuples : Type 0
@@ -41,12 +41,12 @@ pub record Owes (begun : State) (draft : Draft) (bytes : List ℕ) (now : Tuples
       ≡ number.spell begun.next ++ (listed (placed written)).spell (entries begun.bag)
   -- each of those tuples is there still, or was put aside;
   pub owed : (id : ℕ) → draft.from ≤ id → get begun.bag id ≡ owed_at draft now id
-  -- its clients are spelled already, to be written last;
-  pub clients : draft.book.items ≡ (listed (kept written)).spell (entries begun.book)
+  -- what was kept for its clients is there, to be written last;
+  pub clients : (draft.book ≡ begun.book) × (draft.count ≡ length (entries begun.book))
   -- and all that was spelled has a spelling.
   pub fits : (id : ℕ) → id < draft.from
       → IfSome (get begun.bag id) (λ row. (placed written).Fits (id, row))
-  pub known : number.Fits begun.next × (listed (kept written)).Fits (entries begun.book)
+  pub known : number.Fits begun.next
 
 -- The tuple of this id may be taken: it is written, or not of the snapshot, or put aside.
 abbrev pub IsSafe : Draft → Tuples → ℕ → Type 0

@@ -5,5 +5,6 @@ pub mod Stands
 pub mod Switch
 pub mod Replay
 pub mod Choice
+pub mod Clients
 pub mod Draft
 pub mod Successor

@@ -12,6 +12,7 @@ use Rattle.linda_journal.specs.Renewal.{IsLast}
 use Rattle.linda_snap.specs.declared.successor.Successor.{Successor}
 use Rattle.linda_snap.specs.declared.successor.Part.{Part}
 use Rattle.linda_snap.specs.declared.successor.Part.TheVariants.{More, Last}
+use Rattle.linda_snap.specs.Clients.{OwesClients}
 use Rattle.linda_snap.specs.Draft.{Tuples, Owes, IsSafe, IsThrough}
 use Rattle.linda_snap.specs.Snapshot.{spell_state, FitsState}
 use Rattle.linda_snap.specs.Stands.{deeds_in}
@@ -41,9 +42,12 @@ pub record Follows (s : Successor) (front : List ℕ) (st : State) : Type 0 wher
   pub body : List ℕ
   pub front_is : front
       ≡ heading s.generation (length (spell_state written begun)) ++ (body ++ tail)
-  -- The draft owes the rest of the body; once there is none, the body is the whole snapshot.
+  -- The draft owes the rest of the body; once there is none, the clients do; and once there are none
+  -- either, the body is the whole snapshot.
   pub owes : IfSome s.draft (λ d. Owes begun d body st.bag × (d.next ≤ st.next) × (tail ≡ []))
-  pub whole : IfNone s.draft ((body ≡ spell_state written begun) × FitsState written begun)
+  pub lists : IfNone s.draft (IfSome s.clients (λ c. OwesClients begun c body × (tail ≡ [])))
+  pub whole : IfNone s.draft (IfNone s.clients
+      ((body ≡ spell_state written begun) × FitsState written begun))
 
 -- All tuples of the snapshot are written.
 pub record IsBehindTuples (s : Successor) (front : List ℕ) (st : State) : Type 0 where

@@ -40,7 +40,8 @@ pub(crate) fn kept_after(book: &Book, last: Option<u32>) -> Option<(u32, (u64, &
     Some((client, entry))
 }
 
-fn next_entry(book: &Book, last: Option<u32>) -> Option<(u32, (u64, &KeptReply))>
+/// The same, as the map of the book has it.
+pub(crate) fn next_entry(book: &Book, last: Option<u32>) -> Option<(u32, (u64, &KeptReply))>
     ensures found { IfSome result (λ e. maps.get book.now e.0 ≡ Some (e.1.0, e.1.1.now)) }
     ensures above { IfSome result (λ e. first_after last ≤ e.0) }
     ensures least { IfSome result (λ e. (c : ℕ) → first_after last ≤ c → c < e.0

@@ -2,23 +2,27 @@
 //!
 //! It is one of the state at its beginning. Tuples are written by rising id: one that is taken
 //! before its turn is put aside, and new tuples have greater ids and are not of it. What is kept
-//! for clients is spelled at the beginning, and written last. `specs/Draft` says what it has
+//! for clients is copied at the beginning, and written last. `specs/Draft` says what it has
 //! written, and what it owes.
 
 ghost use Rattle.std.specs.Prelude.{◌≡◌, ◌≤◌, ◌<◌, ◌^◌, ◌++◌, ℕ, List, [], length, None, Some};
 ghost use Rattle.std.specs.Prelude.{◌+◌, ◌⊎◌, OnOk, OnErr, IfOk, IfErr, IsErrOf, IfSome, IfNone};
+ghost use Rattle.std.specs.FinMap.{entries};
 ghost use Rattle.linda_journal.specs.declared.limits.TheConstants.{MIN_BYTES};
 ghost use Rattle.linda_store_state.specs.State as states;
 ghost use Rattle.linda_store_state.specs.State.{IsState};
 ghost use Rattle.linda_store_state.specs.DeedFormat.{written};
 ghost use Rattle.linda_snap.specs.Draft.{Tuples, Owes, IsThrough, IsFirst, IsFirstOwed};
 ghost use Rattle.linda_snap.specs.Draft.{seen, earlier_of, IsSafe};
-ghost use Rattle.linda_snap.specs.Snapshot.{spell_state, FitsState};
+ghost use Rattle.linda_snap.specs.Clients.{HasTuples};
+ghost use Rattle.linda_snap.specs.Snapshot.{spell_state};
 
+use crate::clients::copied;
 use crate::entry::push_placed;
-use crate::putting::{push_book, push_count};
+use crate::putting::push_count;
 use crate::renewal::{SwitchFault, len_within};
 use linda_bag::{Bag, ListBag};
+use linda_book::Book;
 use linda_store_state::State;
 use linda_tuple::Tuple;
 use std::alloc::{AllocError, Global};
@@ -35,8 +39,9 @@ pub struct Draft {
     next: u64,
     // Tuples that were taken since, before their turn.
     aside: ListBag,
-    // The spelling of what was kept for clients.
-    book: Vec<u8>,
+    // What was kept for clients, and how many these are.
+    book: Book,
+    count: u32,
     // How many bytes all of it has.
     len: usize,
 }
@@ -154,17 +159,18 @@ impl Draft {
         Ok(Some(more))
     }
 
-    /// What is written last, behind all tuples: its clients.
-    pub fn into_book(self) -> Vec<u8>
-        ensures spelled { (begun : states.State) (bytes : List ℕ) (now : Tuples)
+    /// What is written last, behind all tuples: what was kept for its clients, and how many these
+    /// are.
+    pub fn into_book(self) -> (Book, u32)
+        ensures book { (begun : states.State) (bytes : List ℕ) (now : Tuples)
+            → Owes begun self bytes now
+            → (result.0 ≡ begun.book) × (result.1 ≡ length (entries begun.book)) }
+        ensures tuples { (begun : states.State) (bytes : List ℕ) (now : Tuples)
             → Owes begun self bytes now → IsThrough begun self
-            → bytes ++ result.items ≡ spell_state written begun }
-        ensures fits { (begun : states.State) (bytes : List ℕ) (now : Tuples)
-            → Owes begun self bytes now → IsThrough begun self
-            → length (spell_state written begun) < 2 ^ 32 → FitsState written begun }
+            → length (spell_state written begun) < 2 ^ 32 → HasTuples begun bytes }
     {
-        let Draft { book, .. } = self;
-        book
+        let Draft { book, count, .. } = self;
+        (book, count)
     }
 
     // The first tuple that it owes, from this id on.
@@ -189,8 +195,8 @@ fn spell_first<B: Bag>(
     ensures len { IfOk result (λ d. d.0.len ≡ len) }
     ensures next { IfOk result (λ d. d.0.next ≡ state.now.next) }
 {
-    let mut book = Vec::new(alloc);
-    push_book(&mut book, &state.book)?;
+    let book = copied(alloc, &state.book)?;
+    let count = as_count(state.book.len());
     let mut bytes = Vec::new(alloc);
     bytes.extend_from_slice(&state.next.to_be_bytes())?;
     push_count(&mut bytes, state.bag.len())?;
@@ -199,9 +205,18 @@ fn spell_first<B: Bag>(
         next: state.next,
         aside: ListBag::new(alloc),
         book,
+        count,
         len,
     };
     Ok((draft, bytes))
+}
+
+// A count that has four bytes.
+fn as_count(count: usize) -> u32
+    requires { count < 2 ^ 32 }
+    ensures { result ≡ count }
+{
+    count as u32
 }
 
 // The first tuple of the bag from an id on and below another one.

@@ -13,6 +13,7 @@
 #![tactic(auto)]
 
 mod choice;
+mod clients;
 mod cursor;
 mod draft;
 mod entry;

@@ -59,7 +59,7 @@ fn push_tuples<B: Bag>(out: &mut Vec<u8>, state: &State<B>) -> Result<(), AllocE
 }
 
 // Appends the count of the clients, and each with its number and reply; likewise.
-pub(crate) fn push_book(out: &mut Vec<u8>, book: &Book) -> Result<(), AllocError>
+fn push_book(out: &mut Vec<u8>, book: &Book) -> Result<(), AllocError>
     requires { length (entries book.now) < 2 ^ 32 }
     ensures ok { OnOk result (out.new.items
         ≡ out.old.items ++ (listed (format.kept written)).spell (entries book.now)) }

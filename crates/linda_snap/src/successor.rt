@@ -14,6 +14,7 @@ ghost use Rattle.linda_snap.specs.Replay.{GoesOn};
 ghost use Rattle.linda_snap.specs.Snapshot.{spell_state};
 ghost use Rattle.linda_snap.specs.Successor.{Follows, IsBehindTuples, IsSafeFor, IsNext, heading};
 
+use crate::clients::Clients;
 use crate::draft::Draft;
 use crate::renewal::SwitchFault;
 use crate::tail::Tail;
@@ -30,8 +31,9 @@ pub struct Successor {
     // The most bytes that the bank may take, and how many its snapshot has.
     limit: usize,
     len: usize,
-    // The snapshot, until all of it is written.
+    // The snapshot, until all its tuples are written, and then its clients, until all of these are.
     draft: Option<Draft>,
+    clients: Option<Clients>,
     // The records of what was done since it began, and how many they are.
     since: Tail,
     records: usize,
@@ -85,6 +87,7 @@ impl Successor {
                             limit,
                             len,
                             draft: Some(draft),
+                            clients: None,
                             since: Tail::new(alloc),
                             records: 0,
                         };
@@ -178,9 +181,12 @@ impl Successor {
     {
         match self.next_tuples(alloc, state, most)? {
             Some(bytes) => Ok(Part::More(bytes)),
-            None => match self.take_clients() {
+            None => match self.begin_clients(alloc, most)? {
                 Some(bytes) => Ok(Part::More(bytes)),
-                None => self.next_records(alloc, most),
+                None => match self.next_clients(alloc, most)? {
+                    Some(bytes) => Ok(Part::More(bytes)),
+                    None => self.next_records(alloc, most),
+                },
             },
         }
     }
@@ -205,24 +211,56 @@ impl Successor {
         }
     }
 
-    // The clients of the snapshot, which end it; nothing if it has ended.
-    fn take_clients(&mut self) -> Option<Vec<u8>>
+    // The count of the clients and the first of them, behind the tuples; nothing if they are written.
+    fn begin_clients(&mut self, alloc: Global, most: usize) -> Result<Option<Vec<u8>>, AllocError>
         ensures some { (front : List ℕ) (st : states.State) → IsBehindTuples self.old front st
-            → IfSome result (λ bytes. Follows self.new (front ++ bytes.items) st) }
+            → IfOk result (λ o. IfSome o (λ bytes.
+            Follows self.new (front ++ bytes.items) st)) }
         ensures none { (front : List ℕ) (st : states.State) → IsBehindTuples self.old front st
-            → IfNone result (Follows self.new front st) }
-        ensures ended { self.new.draft ≡ None }
+            → IfOk result (λ o. IfNone o (Follows self.new front st)) }
+        ensures ended { OnOk result (self.new.draft ≡ None) }
         ensures generation { self.new.generation ≡ self.old.generation }
     {
         match mem::replace(&mut self.draft, None) {
-            None => None,
-            Some(draft) => Some(draft.into_book()),
+            None => Ok(None),
+            Some(draft) => {
+                let (book, count) = draft.into_book();
+                let (clients, bytes) = Clients::begin(alloc, book, count, most)?;
+                self.clients = Some(clients);
+                Ok(Some(bytes))
+            }
+        }
+    }
+
+    // The next clients, which end the snapshot; nothing if it has ended.
+    fn next_clients(&mut self, alloc: Global, most: usize) -> Result<Option<Vec<u8>>, AllocError>
+        requires { self.old.draft ≡ None }
+        ensures some { (front : List ℕ) (st : states.State) → Follows self.old front st
+            → IfOk result (λ o. IfSome o (λ bytes.
+            Follows self.new (front ++ bytes.items) st)) }
+        ensures none { (front : List ℕ) (st : states.State) → Follows self.old front st
+            → IfOk result (λ o. IfNone o (Follows self.new front st)) }
+        ensures ended { IfOk result (λ o. IfNone o (self.new.clients ≡ None)) }
+        ensures same { (self.new.draft ≡ None) × (self.new.generation ≡ self.old.generation) }
+    {
+        match mem::replace(&mut self.clients, None) {
+            None => Ok(None),
+            Some(clients) => {
+                let mut clients = clients;
+                match clients.spell_next(alloc, most)? {
+                    None => Ok(None),
+                    Some(bytes) => {
+                        self.clients = Some(clients);
+                        Ok(Some(bytes))
+                    }
+                }
+            }
         }
     }
 
     // The next records, so many bytes of them; with the last ones the closed gate.
     fn next_records(&mut self, alloc: Global, most: usize) -> Result<Part, AllocError>
-        requires { self.old.draft ≡ None }
+        requires { (self.old.draft ≡ None) × (self.old.clients ≡ None) }
         ensures next { (front : List ℕ) (st : states.State) → Follows self.old front st
             → IfOk result (λ part. IsNext part self.new front st) }
         ensures generation { self.new.generation ≡ self.old.generation }

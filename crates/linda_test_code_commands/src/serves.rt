@@ -126,7 +126,10 @@ fn serve_and_call<
             folder: FOLDER,
             sessions: Some(1),
             lease: None,
+            waits: false,
             status: None,
+            metrics: &[],
+            version: "0",
             by_threads,
         };
         let nowhere: Option<&mut Vec<u8>> = None;

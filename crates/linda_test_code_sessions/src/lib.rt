@@ -15,6 +15,8 @@ mod hostile;
 #[cfg(test)]
 mod largest;
 #[cfg(test)]
+mod pacing;
+#[cfg(test)]
 mod script;
 #[cfg(test)]
 mod snapshots;

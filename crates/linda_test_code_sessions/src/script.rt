@@ -2,7 +2,8 @@
 //!
 //! `greet hello 2 7 fresh` greets; `7 out 1 ("a", 3)` submits a message of client 7, and
 //! `all 7 out 1 ("a", 3); 7 cancel 2` several at once; `leave 7`, `pays`, `snapshot`; `begin` and
-//! `step` for one in steps; and `finish 7 8`, which gives both seats back; `wait 7` waits until
+//! `step` for one in steps; `off 100` puts snapshots off, `from 100` says what the bank took when it
+//! was new; and `finish 7 8`, which gives both seats back; `wait 7` waits until
 //! client 7 has a reply, or none will come, and `mailboxes` counts. What comes of a line is written:
 //! `7 did 1` of a receipt for message 1, whether a snapshot pays, a fault in words, and then all
 //! replies that are there, session by session.
@@ -80,6 +81,8 @@ impl<S: Drop, O: Drop, H: Host<S, O>> Sessions<S, O, H> {
             "leave" => self.leave(rt, rest, came),
             "finish" => self.finish(rt, alloc, rest, came),
             "pays" => self.pays(rt, came),
+            "off" => self.put_off(rt, rest),
+            "from" => self.count_from(rt, rest),
             "mailboxes" => self.mailboxes(rt, came),
             "wait" => self.wait(rt, alloc, rest, came),
             "snapshot" => self.snapshot(rt, came),
@@ -243,6 +246,20 @@ impl<S: Drop, O: Drop, H: Host<S, O>> Sessions<S, O, H> {
     fn pays<R: Wait>(&mut self, rt: &R, came: &mut String) -> Result<(), WordsFault> {
         let answer = self.host.pays(rt);
         written(writeln!(came, "> pays {answer}"))
+    }
+
+    // Snapshots are put off for so many bytes.
+    fn put_off<R: Wait>(&mut self, rt: &R, words: &str) -> Result<(), WordsFault> {
+        let (room, _) = read_numbered(words)?;
+        self.host.put_off(rt, room as usize);
+        Ok(())
+    }
+
+    // The bank took so many bytes when it was new.
+    fn count_from<R: Wait>(&mut self, rt: &R, words: &str) -> Result<(), WordsFault> {
+        let (base, _) = read_numbered(words)?;
+        self.host.count_from(rt, base as usize);
+        Ok(())
     }
 
     fn mailboxes<R: Wait>(&mut self, rt: &R, came: &mut String) -> Result<(), WordsFault> {

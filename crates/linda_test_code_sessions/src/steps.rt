@@ -129,8 +129,8 @@ fn step_taken<S: Drop, O: Drop, H: Host<S, O>, R: Wait + Abort>(
     Ok(if is_cut { Went::CutShort } else { Went::Down })
 }
 
-// Does what is said; this comes of it.
-fn comes<S: Drop, O: Drop, H: Host<S, O>, R: Wait + Abort>(
+/// Does what is said; this comes of it.
+pub(super) fn comes<S: Drop, O: Drop, H: Host<S, O>, R: Wait + Abort>(
     rt: &R,
     alloc: Global,
     sessions: &mut Sessions<S, O, H>,

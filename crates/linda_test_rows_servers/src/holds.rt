@@ -53,6 +53,7 @@ fn show(
         "held" => tell_found(came, holds.find(read_request(which)?)),
         "client" => done(tell_held(alloc, holds, read_small_number(which)?, came)),
         "ids" => done(tell_ids(alloc, holds, came)),
+        "ages" => done(tell_oldest(alloc, holds, read_number(which)?, came)),
         _ => show_age(holds, what, which, came),
     }
 }
@@ -64,6 +65,25 @@ fn show_age(holds: &Holds, what: &str, which: &str, came: &mut String) -> Result
         "oldest" => tell_found(came, holds.oldest()),
         _ => Err(WordsFault::Unknown),
     }
+}
+
+// Writes the tuples that are held for longest, so many at most: each with its id, its request, and
+// for how many seconds it is held.
+fn tell_oldest(
+    alloc: Global,
+    holds: &Holds,
+    most: u64,
+    came: &mut String,
+) -> Result<(), AllocError> {
+    for hold in &holds.longest(alloc, most as usize)? {
+        let request = hold.request;
+        writeln!(
+            came,
+            "> {} for {} {}: {}",
+            hold.id, request.client, request.ticket, hold.seconds
+        )?;
+    }
+    Ok(())
 }
 
 // Writes how many tuples a client holds, and which.

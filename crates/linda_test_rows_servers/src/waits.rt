@@ -6,6 +6,7 @@ use linda_hold::{Asked, Request, Waits};
 use linda_test_script::{
     WordsFault, read_number, read_numbered, read_small_number, split_number, split_word,
 };
+use linda_text::push_template;
 use std::alloc::Global;
 
 /// Lets requests wait, or wait no more, or shows them, as the words say.
@@ -110,8 +111,30 @@ fn show(
         "count" => tell(came, waits.len()),
         "of" => tell(came, waits.count_of(read_small_number(which)?)),
         "oldest" => tell_found(came, waits.oldest()),
+        "ages" => tell_oldest(alloc, waits, read_number(which)?, came),
         _ => show_awaiting(alloc, waits, what, which, came),
     }
+}
+
+// Writes the requests that wait for longest, so many at most: each with what it asks, and for how
+// many seconds it waits.
+fn tell_oldest(
+    alloc: Global,
+    waits: &Waits,
+    most: u64,
+    came: &mut String,
+) -> Result<(), WordsFault> {
+    for wait in &waits.longest_of_all(alloc, most as usize)? {
+        let verb = if wait.asked.remove { "in" } else { "rd" };
+        write!(
+            came,
+            "> {} {} {verb} ",
+            wait.request.client, wait.request.ticket
+        )?;
+        push_template(came, &wait.asked.template)?;
+        writeln!(came, " {}", wait.seconds)?;
+    }
+    Ok(())
 }
 
 // Shows who waits longest for a tuple, or whether anybody does.

@@ -78,6 +78,13 @@ pub trait Host<S, O>: Drop {
     /// Whether a snapshot pays for itself.
     fn pays<R: Wait>(&self, rt: &R) -> bool;
 
+    /// Snapshots that pay are put off until there are records of so many bytes, or as many as make
+    /// one due.
+    fn put_off<R: Wait>(&self, rt: &R, room: usize);
+
+    /// Bytes are counted from so many on, which the bank in use took when it was new.
+    fn count_from<R: Wait>(&self, rt: &R, base: usize);
+
     /// The server writes a snapshot.
     fn snapshot<R: Wait>(&self, rt: &R) -> Result<(), SharedFault>;
 
@@ -162,6 +169,14 @@ impl<L: Ledger> Host<Seat<L>, Outlet<L>> for Shared<MemDisk, L> {
 
     fn pays<R: Wait>(&self, rt: &R) -> bool {
         Shared::pays(self, rt)
+    }
+
+    fn put_off<R: Wait>(&self, rt: &R, room: usize) {
+        Shared::put_off(self, rt, room)
+    }
+
+    fn count_from<R: Wait>(&self, rt: &R, base: usize) {
+        Shared::count_from(self, rt, base)
     }
 
     fn snapshot<R: Wait>(&self, rt: &R) -> Result<(), SharedFault> {

@@ -1,28 +1,36 @@
 //! A client at work over its links: what comes is told to it, and what it answers is sent and
 //! written.
 
-ghost use Rattle.std.specs.Prelude.{◌≤◌, length};
+ghost use Rattle.std.specs.Prelude.{◌≡◌, ◌≤◌, length};
+ghost use Rattle.linda_call.specs.Ring as spec;
 ghost use Rattle.linda_client.specs.declared.limits.TheConstants.{MAX_SERVERS};
 
 use super::asking::{is_answer, kept_ask};
 use super::clock::{is_late, ticks_in};
 use super::fault::CallFault;
-use super::kept::{write_kept, write_none};
+use super::kept::{write_kept, write_none, write_without_id};
+use super::manner::Manner;
 use super::party::Party;
-use linda_client::{ClientFault, Reaction};
+use super::ring::{Fate, MOST, News, Ring};
+use linda_client::{ClientFault, Outcome, Reaction};
 use linda_net_proxy::{Arrival, Inbox, Link};
 use linda_shell_text::{Request, behind_word, read_request, write_outcome, write_refusal};
 use linda_text::skip_blanks;
-use linda_wire::Message;
+use linda_tuple::Tuple;
+use linda_wire::{Message, Refusal, Reply};
 use std::alloc::Global;
 use std::io::Write;
 use std::sync::Wait;
 use std::time::{Clock, Instant};
 
-/// A client and how it stands with each server, its links, what comes by them, and when it began.
+/// A client and how it stands with each server, the tuples that are put together, its links, what
+/// comes by them, and when it began.
 #[derive(Drop)]
 pub(super) struct Caller<'a> {
     party: Party,
+    // Lines that put tuples do not wait for one another.
+    together: bool,
+    ring: Ring,
     links: &'a [Link],
     inbox: &'a Inbox,
     start: Instant,
@@ -41,17 +49,20 @@ impl<'a> Caller<'a> {
         inbox: &'a Inbox,
         links: &'a [Link],
         number: u32,
-        goes_on: bool,
+        manner: Manner,
     ) -> Result<Caller<'a>, CallFault>
         requires some { 1 ≤ length links.now }
         requires few { length links.now ≤ MAX_SERVERS }
     {
-        let party = Party::new(alloc, number, links.len() as u32, goes_on)?;
+        let servers = links.len() as u32;
+        let party = Party::new(alloc, number, servers, manner.goes_on)?;
         let Ok(start) = Instant::now(rt) else {
             return Err(CallFault::Clock);
         };
         Ok(Caller {
             party,
+            together: manner.together,
+            ring: Ring::new(alloc, number, servers),
             links,
             inbox,
             start,
@@ -86,7 +97,8 @@ impl Caller<'_> {
     }
 
     /// Does what a line asks for, waits for the outcome, and writes it. Whether the line is one of
-    /// a client.
+    /// a client. If tuples are put together, the outcome of a put is written later: at the latest
+    /// by `finish`, before a line that is no put, and once 64 are under way.
     ///
     /// # Errors
     ///
@@ -100,21 +112,189 @@ impl Caller<'_> {
     ) -> Result<bool, CallFault> {
         self.catch_up(rt, alloc, writer)?;
         if is_last(line) {
+            self.finish(rt, alloc, writer)?;
             self.tell_kept(rt, alloc, writer)?;
             return Ok(true);
         }
         match read_request(alloc, line)? {
             None => Ok(true),
-            Some(None) => Ok(false),
+            Some(None) => {
+                self.finish(rt, alloc, writer)?;
+                Ok(false)
+            }
             Some(Some(request)) => {
-                self.run(rt, alloc, request, writer)?;
+                self.begin(rt, alloc, request, writer)?;
                 Ok(true)
             }
         }
     }
 
-    // Hears what came while nothing was pending. A server that was given up meanwhile is tried
-    // again.
+    // Does what is asked for, once all puts before it are answered; or puts one more beside them.
+    fn begin<S: Wait + Clock, W: Write>(
+        &mut self,
+        rt: &S,
+        alloc: Global,
+        request: Request,
+        writer: &mut W,
+    ) -> Result<(), CallFault> {
+        if self.together && !self.party.has_left() {
+            return self.begin_beside(rt, alloc, request, writer);
+        }
+        self.run(rt, alloc, request, writer)
+    }
+
+    // Puts one more tuple beside those that are under way, or does what is asked for, once they are
+    // answered.
+    fn begin_beside<S: Wait + Clock, W: Write>(
+        &mut self,
+        rt: &S,
+        alloc: Global,
+        request: Request,
+        writer: &mut W,
+    ) -> Result<(), CallFault> {
+        match request {
+            Request::Out(tuple) => self.put(rt, alloc, tuple, writer),
+            other => {
+                self.finish(rt, alloc, writer)?;
+                self.run(rt, alloc, other, writer)
+            }
+        }
+    }
+
+    // Puts a tuple, and does not wait for its outcome. If as many as may be are under way, it waits
+    // for the first of them.
+    fn put<S: Wait + Clock, W: Write>(
+        &mut self,
+        rt: &S,
+        alloc: Global,
+        tuple: Tuple,
+        writer: &mut W,
+    ) -> Result<(), CallFault> {
+        self.make_room(rt, alloc, writer)?;
+        let server = self.ring.turn();
+        let number = self.party.puts(server);
+        self.ring.push(self.party.servers(), number, tuple)?;
+        self.send_last(rt, alloc, server)
+    }
+
+    // Waits until one more put may be under way.
+    fn make_room<S: Wait + Clock, W: Write>(
+        &mut self,
+        rt: &S,
+        alloc: Global,
+        writer: &mut W,
+    ) -> Result<(), CallFault> {
+        for _ in rt.forever() {
+            if !self.ring.is_full() {
+                return Ok(());
+            }
+            self.wait_for_news(rt, alloc, writer)?;
+        }
+        Ok(())
+    }
+
+    // Sends the last put to its server.
+    fn send_last(&self, rt: &impl Wait, alloc: Global, server: u32) -> Result<(), CallFault> {
+        match self.ring.last() {
+            Some(message) => self.send(rt, alloc, server, message),
+            None => Ok(()),
+        }
+    }
+
+    /// Waits until all puts are answered, and writes their outcomes.
+    ///
+    /// # Errors
+    ///
+    /// As those of `run_line`.
+    pub(super) fn finish<S: Wait + Clock, W: Write>(
+        &mut self,
+        rt: &S,
+        alloc: Global,
+        writer: &mut W,
+    ) -> Result<(), CallFault> {
+        for _ in rt.forever() {
+            if self.ring.is_empty() {
+                return Ok(());
+            }
+            self.wait_for_news(rt, alloc, writer)?;
+        }
+        Ok(())
+    }
+
+    // Hears what comes next, if something does within a millisecond.
+    fn wait_for_news<S: Wait + Clock, W: Write>(
+        &mut self,
+        rt: &S,
+        alloc: Global,
+        writer: &mut W,
+    ) -> Result<(), CallFault> {
+        match self.inbox.take(rt) {
+            Some((server, arrival)) => self.hear_beside(rt, alloc, server, arrival, writer),
+            None => Ok(()),
+        }
+    }
+
+    // Hears what came while the client does nothing: the puts under way hear it, and what has come
+    // of them is written. A Gap is passed over while puts wait at its server. The server refused one
+    // before, which is what is reported; or what it answers went out over a new connection before
+    // its Welcome was heard, and was sent again after that.
+    fn hear_beside<S: Wait, W: Write>(
+        &mut self,
+        rt: &S,
+        alloc: Global,
+        server: u32,
+        arrival: Arrival,
+        writer: &mut W,
+    ) -> Result<(), CallFault> {
+        if is_gap(&arrival) && self.ring.waits_at(server) {
+            return Ok(());
+        }
+        let news = news_in(server, &arrival);
+        let is_refusal = matches!(news, Some(News::Refused { .. }));
+        if !is_refusal || !self.ring.waits_at(server) {
+            self.hear(rt, alloc, server, arrival, writer)?;
+        }
+        let Some(news) = news else {
+            return Ok(());
+        };
+        self.ring.hears(news);
+        if matches!(news, News::Welcomed { .. }) {
+            self.put_again(rt, alloc, server)?;
+        }
+        self.tell_done(alloc, writer)
+    }
+
+    // Sends again what the server has not answered of the puts under way.
+    fn put_again(&self, rt: &impl Wait, alloc: Global, server: u32) -> Result<(), CallFault> {
+        for place in 0..MOST {
+            if let Some(message) = self.ring.again(server, place) {
+                self.send(rt, alloc, server, message)?;
+            }
+        }
+        Ok(())
+    }
+
+    // Writes the outcomes of the first puts, as far as they are answered.
+    fn tell_done<W: Write>(&mut self, alloc: Global, writer: &mut W) -> Result<(), CallFault> {
+        for _ in 0..MOST {
+            let Some((server, fate)) = self.ring.take() else {
+                return Ok(());
+            };
+            let client = self.party.number();
+            let line = match fate {
+                Fate::Stored(id) => write_outcome(alloc, client, &Outcome::Stored { server, id })?,
+                Fate::Refused(code, detail) => {
+                    return Err(CallFault::Refused(server, code, detail));
+                }
+                _ => write_without_id(alloc, server, client)?,
+            };
+            write_line(writer, &line)?;
+        }
+        Ok(())
+    }
+
+    // Hears what came while the client does nothing. A server that was given up meanwhile is tried
+    // again, unless puts are under way.
     fn catch_up<S: Wait + Clock, W: Write>(
         &mut self,
         rt: &S,
@@ -124,9 +304,11 @@ impl Caller<'_> {
         for _ in rt.forever() {
             match self.inbox.take_now(rt) {
                 None => return Ok(()),
-                Some((server, Arrival::NoConnection)) => self.retry(rt, server),
+                Some((server, Arrival::NoConnection)) if self.ring.is_empty() => {
+                    self.retry(rt, server);
+                }
                 Some((server, arrival)) => {
-                    self.hear(rt, alloc, server, arrival, writer)?;
+                    self.hear_beside(rt, alloc, server, arrival, writer)?;
                 }
             }
         }
@@ -321,6 +503,39 @@ impl Caller<'_> {
 // Whether the line asks for the replies that are kept.
 fn is_last(line: &[u8]) -> bool {
     matches!(behind_word(skip_blanks(line), b"last"), Some([]))
+}
+
+// Whether a server says that messages before one are missing.
+fn is_gap(arrival: &Arrival) -> bool
+    ensures { result ≡ spec.is_gap arrival.now }
+{
+    match arrival {
+        Arrival::Came(Reply::Refused { code, .. }) => *code == Refusal::Gap(0).code(),
+        _ => false,
+    }
+}
+
+// What comes of puts by what a server brings.
+fn news_in(server: u32, arrival: &Arrival) -> Option<News>
+    ensures { result ≡ spec.news_in server arrival.now }
+{
+    match arrival {
+        Arrival::Greeted(last) => Some(News::Welcomed {
+            server,
+            last: *last,
+        }),
+        Arrival::Came(Reply::Stored { n, id }) => Some(News::Stored {
+            server,
+            number: *n,
+            id: *id,
+        }),
+        Arrival::Came(Reply::Refused { code, detail }) => Some(News::Refused {
+            server,
+            code: *code,
+            detail: *detail,
+        }),
+        _ => None,
+    }
 }
 
 // Whether a server welcomed the client.

@@ -24,6 +24,14 @@ pub enum CallFault {
     /// answered: its folder was restored from a copy.
     #[error("server {0}: restored")]
     Restored(u32),
+    /// Another program uses the client's number at the server of this number: that welcomed the
+    /// client with a higher number than it was sent, or gave a reply that cannot answer the message
+    /// under its number.
+    #[error("server {0}: number in use")]
+    InUse(u32),
+    /// What listens in place of the server of this number answered the greeting as no server does.
+    #[error("server {0}: not a server")]
+    NotAServer(u32),
     /// Memory, or a thread, could not be had.
     #[error("memory")]
     Memory,
@@ -63,6 +71,8 @@ impl CallFault {
             CallFault::NoConnection(_) => REFUSED,
             CallFault::Refused(_, _, _) => REFUSED,
             CallFault::Restored(_) => REFUSED,
+            CallFault::InUse(_) => REFUSED,
+            CallFault::NotAServer(_) => REFUSED,
             CallFault::Memory => REFUSED,
             CallFault::Read => REFUSED,
             CallFault::Write => REFUSED,

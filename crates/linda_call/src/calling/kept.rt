@@ -31,6 +31,20 @@ pub(super) fn write_kept(
     Ok(Some(line))
 }
 
+/// The line of a tuple that a server stored for the client, and whose id is lost, with its line
+/// feed.
+///
+/// # Errors
+///
+/// `AllocError` where memory runs out.
+pub(super) fn write_without_id(
+    alloc: Global,
+    server: u32,
+    client: u32,
+) -> Result<String, AllocError> {
+    format!(in alloc; "{client} stored {server} none\n")
+}
+
 /// The line of a server that keeps no reply to the client, with its line feed.
 ///
 /// # Errors

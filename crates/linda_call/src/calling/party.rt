@@ -5,13 +5,15 @@ ghost use Rattle.std.specs.Prelude.{◌≡◌, ◌↔◌, ◌≤◌, [], None, S
 ghost use Rattle.std.specs.Prelude.{IfOk, IfErr, OnErr, OnOk, option_copied};
 ghost use Rattle.std.specs.List.{list_any};
 ghost use Rattle.linda_client.specs.declared.limits.TheConstants.{MAX_SERVERS};
+ghost use Rattle.linda_client.specs.Client.{has_left, servers};
 ghost use Rattle.linda_client.specs.React as calls;
 ghost use Rattle.linda_client.specs.React.{react, new_client};
 ghost use Rattle.linda_client.specs.Reaction.{Does, shown};
 ghost use Rattle.linda_call.specs.Numbers.{onward_of, homeward_of, answered_in};
 ghost use Rattle.linda_call.specs.Standings as standing;
-ghost use Rattle.linda_call.specs.Standings.{with_standing, answered, welcomed, is_restored};
-ghost use Rattle.linda_call.specs.Standings.{settled, all_unmet};
+ghost use Rattle.linda_call.specs.Standings.{with_standing, answered, welcomed, is_foreign};
+ghost use Rattle.linda_call.specs.Standings.{settled, all_unmet, meeting, sent_on};
+ghost use Rattle.linda_call.specs.declared.calling.standing.Meeting.TheVariants as meetings;
 ghost use Rattle.linda_call.specs.Party as spec;
 ghost use Rattle.linda_call.specs.Party.{Hears, accepted_after, call_for, cancelled_at};
 ghost use Rattle.linda_call.specs.Taking.{IsTaken, standings_after};
@@ -19,7 +21,7 @@ ghost use Rattle.linda_call.specs.declared.calling.fault.CallFault.TheVariants a
 
 use super::fault::CallFault;
 use super::numbers::{homeward, number_of, onward};
-use super::standing::{Standing, first_unmet, put, settle, standing_at, unmet};
+use super::standing::{Meeting, Standing, first_unmet, put, settle, standing_at, unmet};
 use linda_client::{Client, ClientFault, Reaction};
 use linda_net_proxy::Arrival;
 use linda_shell_text::Request;
@@ -76,6 +78,20 @@ impl Party {
         ensures { result ≡ self.now.client.number }
     {
         self.client.number()
+    }
+
+    /// How many servers there are.
+    pub(super) fn servers(&self) -> u32
+        ensures { result ≡ servers self.now.client }
+    {
+        self.client.servers()
+    }
+
+    /// Whether the client has left.
+    pub(super) fn has_left(&self) -> bool
+        ensures { result ≡ has_left self.now.client.task }
+    {
+        self.client.has_left()
     }
 
     /// The first server that has not welcomed the client yet.
@@ -136,8 +152,8 @@ impl Party {
     ///
     /// # Errors
     ///
-    /// `Refused` and `NoConnection` of a server that is given up; `Restored`; `Memory`. The client
-    /// is as before.
+    /// `Refused`, `NotAServer` and `NoConnection` of a server that is given up; `Restored`;
+    /// `InUse`; `Memory`. The client is as before.
     pub(super) fn take(
         &mut self,
         alloc: Global,
@@ -155,28 +171,39 @@ impl Party {
             Arrival::Came(reply) => self.hear(alloc, server, reply),
             Arrival::Greeted(last) => self.welcome(alloc, server, last),
             Arrival::Refused(code, detail) => Err(CallFault::Refused(server, code, detail)),
+            Arrival::NotAServer => Err(CallFault::NotAServer(server)),
             Arrival::NoConnection => Err(CallFault::NoConnection(server)),
             Arrival::Memory => Err(CallFault::Memory),
         }
     }
 
-    // Hears a reply of a server, which keeps it if it answers a numbered message. After an error
-    // the client is as before.
+    // Hears a reply of a server, which keeps it if it answers a numbered message. It is `InUse` if
+    // the reply cannot answer what was sent under its number. After an error the client is as
+    // before.
     fn hear(&mut self, alloc: Global, server: u32, reply: Reply) -> Result<Reaction, CallFault>
         ensures heard { IfOk result (λ told. Hears self.old.client server
             (homeward_of (standing.standing_at self.old.standings.items server).base reply)
             told self.new.client) }
         ensures standings { self.new.standings.items ≡ with_standing self.old.standings.items server
             (answered (standing.standing_at self.old.standings.items server) (answered_in reply)) }
-        ensures fault { IfErr result (λ f. f ≡ faults.Memory) }
+        ensures foreign { is_foreign (standing.standing_at self.old.standings.items server) reply
+            ≡ true
+            → result ≡ Err (faults.InUse server) }
+        ensures fault { is_foreign (standing.standing_at self.old.standings.items server) reply
+            ≡ false
+            → IfErr result (λ f. f ≡ faults.Memory) }
         ensures client { OnErr result (self.new.client ≡ self.old.client) }
         ensures rest { (self.new.goes_on ≡ self.old.goes_on)
             × (self.new.accepted ≡ self.old.accepted) }
     {
         let mut standing = standing_at(&self.standings, server);
         let base = standing.base;
+        let is_foreign = standing.is_foreign(&reply);
         standing.answers(number_of(&reply));
         put(&mut self.standings, server, standing);
+        if is_foreign {
+            return Err(CallFault::InUse(server));
+        }
         let mut reply = reply;
         if !homeward(&mut reply, base) {
             return Ok(quiet(alloc));
@@ -188,16 +215,20 @@ impl Party {
     }
 
     // A server welcomes the client with this number: what is pending there is sent again. It is
-    // `Restored`, if it keeps less than it answered.
+    // `Restored` if it keeps less than it answered, and `InUse` if it keeps more than it was sent.
     fn welcome(&mut self, alloc: Global, server: u32, last: u64) -> Result<Reaction, CallFault>
         ensures again { IfOk result (λ told. react self.old.client (calls.Reconnected server)
             ≡ Ok (shown told self.old.client)) }
         ensures client { self.new.client ≡ self.old.client }
-        ensures kept { OnOk result (is_restored last
-            (standing.standing_at self.old.standings.items server) ≡ false) }
-        ensures restored { is_restored last (standing.standing_at self.old.standings.items server)
-            ≡ true
+        ensures known { meeting last (standing.standing_at self.old.standings.items server)
+            ≡ meetings.Known
+            → IfErr result (λ f. f ≡ faults.Memory) }
+        ensures restored { meeting last (standing.standing_at self.old.standings.items server)
+            ≡ meetings.Restored
             → result ≡ Err (faults.Restored server) }
+        ensures used { meeting last (standing.standing_at self.old.standings.items server)
+            ≡ meetings.InUse
+            → result ≡ Err (faults.InUse server) }
         ensures standings { IfOk result (λ told. self.new.standings.items
             ≡ with_standing self.old.standings.items server
             (spec.asked (list_any (λ p. spec.is_ask p.1) told.packets.items)
@@ -207,8 +238,10 @@ impl Party {
             × (self.new.accepted ≡ self.old.accepted) }
     {
         let mut standing = standing_at(&self.standings, server);
-        if !standing.welcomes(last, self.goes_on) {
-            return Err(CallFault::Restored(server));
+        match standing.welcomes(last, self.goes_on) {
+            Meeting::Known => {}
+            Meeting::Restored => return Err(CallFault::Restored(server)),
+            Meeting::InUse => return Err(CallFault::InUse(server)),
         }
         let Ok(reaction) = self.client.reconnected(alloc, server) else {
             return Err(CallFault::Memory);
@@ -220,19 +253,41 @@ impl Party {
         Ok(reaction)
     }
 
-    /// Makes a message to a server what that is to see, and remembers the offer that it accepts.
+    /// Makes a message to a server what that is to see, and remembers its number, and the offer
+    /// that it accepts.
     pub(super) fn send(&mut self, server: u32, message: &mut Message)
         ensures message { message.new ≡ onward_of
             (standing.standing_at self.old.standings.items server).base message.old }
         ensures accepted { self.new.accepted ≡ accepted_after self.old.accepted server message.old }
         ensures client { self.new.client ≡ self.old.client }
-        ensures standings { self.new.standings.items ≡ self.old.standings.items }
+        ensures standings { self.new.standings.items ≡ with_standing self.old.standings.items server
+            (sent_on message.new (standing.standing_at self.old.standings.items server)) }
         ensures rest { self.new.goes_on ≡ self.old.goes_on }
     {
         if let Message::Accept { ticket, .. } = message {
             self.accepted = Some((server, *ticket));
         }
-        onward(message, standing_at(&self.standings, server).base);
+        let mut standing = standing_at(&self.standings, server);
+        onward(message, standing.base);
+        standing.sends(message);
+        put(&mut self.standings, server, standing);
+    }
+
+    /// A tuple is put at a server beside the client, which counts on after it. The number of the
+    /// message.
+    pub(super) fn puts(&mut self, server: u32) -> u64
+        ensures number { result ≡ standing.next_number
+            (standing.standing_at self.old.standings.items server) }
+        ensures standings { self.new.standings.items ≡ with_standing self.old.standings.items server
+            (standing.put_beside (standing.standing_at self.old.standings.items server)) }
+        ensures client { self.new.client ≡ self.old.client }
+        ensures rest { (self.new.goes_on ≡ self.old.goes_on)
+            × (self.new.accepted ≡ self.old.accepted) }
+    {
+        let mut standing = standing_at(&self.standings, server);
+        let number = standing.puts();
+        put(&mut self.standings, server, standing);
+        number
     }
 
     /// What was pending has ended. If its Asks were sent again to the server whose offer was

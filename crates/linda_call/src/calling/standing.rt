@@ -1,9 +1,35 @@
 //! How a client stands with each of its servers.
 
-ghost use Rattle.std.specs.Prelude.{◌≡◌, IfOk, map, not};
+ghost use Rattle.std.specs.Prelude.{◌≡◌, IfOk, map, max, true};
 ghost use Rattle.linda_call.specs.Standings as spec;
 
+use super::numbers::number_of;
+use linda_wire::{Message, Reply};
 use std::alloc::{AllocError, Global};
+
+/// What answers the last numbered message that a server was sent.
+#[derive(Clone, Copy, Debug, PartialEq, Eq)]
+pub(super) enum Wants {
+    /// Nothing is unanswered.
+    Nothing,
+    /// A tuple is stored.
+    Stored,
+    /// The tuple of this id is taken, or gone.
+    Taken(u64),
+    /// The client has left.
+    Left,
+}
+
+/// What it comes to that a server welcomes the client.
+#[derive(Clone, Copy, Debug, PartialEq, Eq)]
+pub(super) enum Meeting {
+    /// It keeps what it answered, and no more than it was sent.
+    Known,
+    /// It has lost what it answered.
+    Restored,
+    /// Another program uses the client's number there.
+    InUse,
+}
 
 /// How the client stands with one server.
 #[derive(Clone, Copy, Debug)]
@@ -14,6 +40,10 @@ pub(super) struct Standing {
     pub(super) base: u64,
     /// The last number that the server is known to keep a reply for.
     pub(super) kept: u64,
+    /// The last number that the server was sent; 0 if none was.
+    pub(super) sent: u64,
+    /// What answers that, if it is unanswered.
+    pub(super) wants: Wants,
     /// Asks were sent there again during this synchronization.
     pub(super) asked_again: bool,
 }
@@ -23,6 +53,8 @@ const UNMET: Standing = Standing {
     is_met: false,
     base: 0,
     kept: 0,
+    sent: 0,
+    wants: Wants::Nothing,
     asked_again: false,
 };
 
@@ -84,21 +116,84 @@ pub(super) fn settle(standings: &mut Vec<Standing>)
 }
 
 impl Standing {
-    /// The server welcomes the client with this number, for the first time or again. Whether it
-    /// keeps what it answered.
-    pub(super) fn welcomes(&mut self, last: u64, goes_on: bool) -> bool
+    /// The server welcomes the client with this number, for the first time or again. What that
+    /// comes to.
+    pub(super) fn welcomes(&mut self, last: u64, goes_on: bool) -> Meeting
         ensures after { self.new ≡ spec.welcomed goes_on last self.old }
-        ensures kept { result ≡ not (spec.is_restored last self.old) }
+        ensures meeting { result ≡ spec.meeting last self.old }
     {
         if self.is_met {
-            return last >= self.kept;
+            return self.meets_again(last);
         }
         self.is_met = true;
         self.kept = last;
         if goes_on {
             self.base = last;
         }
-        true
+        Meeting::Known
+    }
+
+    // What it comes to that the server, which was met before, welcomes the client with this number.
+    fn meets_again(&self, last: u64) -> Meeting
+        ensures { self.now.is_met ≡ true → result ≡ spec.meeting last self.now }
+    {
+        if last < self.kept {
+            return Meeting::Restored;
+        }
+        if last > self.kept.max(self.sent) {
+            return Meeting::InUse;
+        }
+        Meeting::Known
+    }
+
+    /// The server is sent this message, which has its own numbers.
+    pub(super) fn sends(&mut self, message: &Message)
+        ensures { self.new ≡ spec.sent_on message.now self.old }
+    {
+        match message {
+            Message::Out { n, .. } => self.waits_for(*n, Wants::Stored),
+            Message::Accept { n, id, .. } => self.waits_for(*n, Wants::Taken(*id)),
+            Message::Leave { n } => self.waits_for(*n, Wants::Left),
+            _ => {}
+        }
+    }
+
+    /// The server is sent a tuple beside the client, which counts on after it. The number of the
+    /// message.
+    pub(super) fn puts(&mut self) -> u64
+        ensures number { result ≡ spec.next_number self.old }
+        ensures after { self.new ≡ spec.put_beside self.old }
+    {
+        self.sent = self.kept.max(self.sent).saturating_add(1);
+        self.wants = Wants::Stored;
+        self.base = self.base.saturating_add(1);
+        self.sent
+    }
+
+    // The server is sent a message of this number, which is to be answered so.
+    fn waits_for(&mut self, n: u64, wants: Wants)
+        ensures { self.new ≡ record self.old { sent = max self.old.sent n; wants = wants } }
+    {
+        self.sent = self.sent.max(n);
+        self.wants = wants;
+    }
+
+    /// Whether the reply answers the number of an unanswered message, and cannot answer that: then
+    /// another program sent the server a message of this number.
+    pub(super) fn is_foreign(&self, reply: &Reply) -> bool
+        ensures { result ≡ spec.is_foreign self.now reply.now }
+    {
+        self.is_open(number_of(reply)) && !fits(self.wants, reply)
+    }
+
+    // Whether the number is that of a message that is unanswered.
+    fn is_open(&self, number: Option<u64>) -> bool
+        ensures { result ≡ spec.is_open self.now number }
+    {
+        match number {
+            Some(n) => n > self.kept && n <= self.sent,
+            None => false,
+        }
     }
 
     /// The server answered this number, if it answered one.
@@ -106,9 +201,26 @@ impl Standing {
         ensures { self.new ≡ spec.answered self.old number }
     {
         if let Some(number) = number {
-            if number > self.kept {
-                self.kept = number;
+            self.kept = self.kept.max(number);
+            if number >= self.sent {
+                self.wants = Wants::Nothing;
             }
         }
+    }
+}
+
+// Whether the reply can answer what is wanted.
+fn fits(wants: Wants, reply: &Reply) -> bool
+    ensures { result ≡ spec.fits wants reply.now }
+{
+    match wants {
+        Wants::Nothing => true,
+        Wants::Stored => matches!(reply, Reply::Stored { .. }),
+        Wants::Taken(wanted) => match reply {
+            Reply::Taken { id, .. } => *id == wanted,
+            Reply::Gone { .. } => true,
+            _ => false,
+        },
+        Wants::Left => matches!(reply, Reply::Left { .. }),
     }
 }

@@ -1,5 +1,6 @@
 //! What goes from a loop to the server next.
 
+use super::share::Share;
 use linda_shared::{Account, Group};
 use linda_wire::Message;
 use std::alloc::{AllocError, Global};
@@ -20,6 +21,8 @@ pub(super) enum Call<L: Ledger> {
 pub(super) struct Batch<L: Ledger> {
     pub(super) asking: Group<L>,
     pub(super) doing: Group<L>,
+    /// What was taken in this turn.
+    pub(super) share: Share,
 }
 
 impl<L: Ledger> Batch<L> {
@@ -27,11 +30,30 @@ impl<L: Ledger> Batch<L> {
     pub(super) fn new(alloc: Global) -> Result<Batch<L>, AllocError> {
         let asking = Group::new(alloc)?;
         let doing = Group::new(alloc)?;
-        Ok(Batch { asking, doing })
+        Ok(Batch {
+            asking,
+            doing,
+            share: Share::new(),
+        })
     }
 
     /// Whether nothing is here.
     pub(super) fn is_empty(&self) -> bool {
-        self.asking.len() == 0 && self.doing.len() == 0
+        self.len() == 0
+    }
+
+    /// How many messages are here.
+    pub(super) fn len(&self) -> usize {
+        self.asking.len().saturating_add(self.doing.len())
+    }
+
+    /// Whether there is no room for one Ask more.
+    pub(super) fn is_full_of_asks(&self) -> bool {
+        self.asking.len() >= self.share.asks() || !self.asking.has_room()
+    }
+
+    /// Whether more is taken now.
+    pub(super) fn takes_more(&self) -> bool {
+        self.share.has_left() && self.doing.has_room() && !self.is_full_of_asks()
     }
 }

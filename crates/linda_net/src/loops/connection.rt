@@ -8,9 +8,11 @@ ghost use Rattle.linda_wire.specs.Refusal.{refused};
 ghost use Rattle.linda_store.specs.Conversation.{detail_of};
 ghost use Rattle.linda_net.specs.Talk.{ended_by, last_word};
 
-use super::stream::Stream;
+use super::share::weight_after;
+use super::span::{Look, Span};
 use crate::marks::Marks;
 use linda_disk::Disk;
+use linda_net_http::Stream;
 use linda_shared::{Account, Shared, SharedFault};
 use linda_wire::{Feed, FrameFault, Message, Refusal, Reply, encode_reply};
 use std::alloc::Global;
@@ -26,6 +28,9 @@ const MOST_SPARE: usize = 1_024;
 
 /// How many bytes of room are made first for what is written to a connection.
 const FIRST_ROOM: usize = 64;
+
+/// For how many seconds a connection that is over may take nothing of what is written to it.
+const MOST_REFUSAL: u32 = 5;
 
 /// How often a connection is read at most before others are looked at.
 const MOST_READS: u32 = 16;
@@ -63,8 +68,13 @@ pub(super) struct Connection<L: Ledger> {
     may_read: bool,
     // What was read may have a whole message at its front.
     may_have: bool,
-    // How many times it grew silent since its last message, while it holds a tuple.
-    silent: u32,
+    // How many bytes were read since this was asked last, and how many a reply has by estimate.
+    read: u64,
+    weight: u64,
+    // Since when its client holds a tuple and says nothing.
+    silence: Span,
+    // Since when it is over and takes nothing of what is to be written.
+    refusal: Span,
     // The peer sends no more: what is there is read to its end.
     is_shut: bool,
     // Nothing more is read from it, and it ends once all is answered and written.
@@ -93,7 +103,10 @@ impl<L: Ledger> Connection<L> {
             sent: 0,
             may_read: true,
             may_have: false,
-            silent: 0,
+            read: 0,
+            weight: 0,
+            silence: Span::new(),
+            refusal: Span::new(),
             is_shut: false,
             is_ending: false,
             last: None,
@@ -144,18 +157,39 @@ impl<L: Ledger> Connection<L> {
         self.may_give() && (self.held.is_some() || self.may_read || self.may_have)
     }
 
-    /// A second went by. How many there were since its last message, of those in which nothing of
-    /// it was on its way or may be there to be read.
-    pub(super) fn grow_silent(&mut self) -> u32 {
-        if !self.is_ending && !self.is_waiting() && !self.has_more() {
-            self.silent = self.silent.saturating_add(1);
+    /// Its client is seen to hold a tuple, or none. Returns whether it is late: it holds one, and for
+    /// so many seconds it said nothing, and nothing of it was on its way.
+    pub(super) fn is_late(&mut self, look: Look, seconds: u32, holds_any: bool) -> bool {
+        if !holds_any || self.is_waiting() {
+            self.silence.end();
+            return false;
         }
-        self.silent
+        !self.is_ending && !self.has_more() && self.silence.grow(look, seconds)
     }
 
-    /// A second went by in which it holds nothing: none of them counts.
-    pub(super) fn rest(&mut self) {
-        self.silent = 0;
+    /// What is to be written is given up if its peer sends no more, or nothing more is taken from
+    /// it, and it took nothing for some seconds. Returns whether that is so.
+    pub(super) fn gives_up(&mut self, look: Look) -> bool {
+        let is_over = self.is_ending || self.is_shut;
+        if !is_over || !self.has_unsent() {
+            self.refusal.end();
+            return false;
+        }
+        if !self.refusal.grow(look, MOST_REFUSAL) {
+            return false;
+        }
+        self.fail();
+        true
+    }
+
+    /// How many bytes were read since this was asked last.
+    pub(super) fn take_read(&mut self) -> u64 {
+        std::mem::replace(&mut self.read, 0)
+    }
+
+    /// How many bytes its next message is answered with, by estimate.
+    pub(super) fn weight(&self) -> u64 {
+        self.weight
     }
 
     // Whether anything is taken from it now.
@@ -174,7 +208,7 @@ impl<L: Ledger> Connection<L> {
         for _ in 0..MOST_READS {
             match self.feed.next(self.alloc) {
                 Ok(Some(message)) => {
-                    self.silent = 0;
+                    self.silence.end();
                     return Next::Message(message);
                 }
                 Ok(None) => self.may_have = false,
@@ -205,6 +239,7 @@ impl<L: Ledger> Connection<L> {
             Ok(len) => {
                 self.may_read = self.is_shut || len == buffer.len();
                 self.may_have = true;
+                self.read = self.read.saturating_add(len as u64);
                 if self.feed.feed(&buffer[..len]).is_err() {
                     self.end_with(None);
                 }
@@ -222,19 +257,25 @@ impl<L: Ledger> Connection<L> {
         self.held = Some(message);
     }
 
-    /// It is told this, after all that came before, which is counted.
-    pub(super) fn tell(&mut self, marks: &Marks, reply: &Reply) {
+    /// It is told this, after all that came before, which is counted. Returns how many bytes that
+    /// has.
+    pub(super) fn tell(&mut self, marks: &Marks, reply: &Reply) -> u64 {
         if self.is_broken {
-            return;
+            return 0;
         }
         marks.sends(reply);
         if self.out.capacity() == 0 {
             // If there is no memory for so much, the reply may still find some.
             let _ = self.out.reserve(FIRST_ROOM);
         }
+        let before = self.out.len();
         if encode_reply(&mut self.out, reply).is_err() {
             self.fail();
+            return 0;
         }
+        let bytes = self.out.len().saturating_sub(before) as u64;
+        self.weight = weight_after(self.weight, bytes);
+        bytes
     }
 
     /// Nothing more is taken from it. It ends once what is on its way came back, with this word, if
@@ -264,7 +305,7 @@ impl<L: Ledger> Connection<L> {
     pub(super) fn flush(&mut self, marks: &Marks) {
         if self.is_ending && !self.is_waiting() {
             if let Some(word) = self.last.take() {
-                self.tell(marks, &word.reply());
+                let _ = self.tell(marks, &word.reply());
             }
         }
         for _ in 0..self.out.len() {
@@ -280,6 +321,7 @@ impl<L: Ledger> Connection<L> {
         match self.stream.write(&self.out[self.sent..]) {
             Ok(0) => self.fail(),
             Ok(len) => {
+                self.refusal.end();
                 self.sent += len;
                 return true;
             }

@@ -1,9 +1,9 @@
 //! Where connections come in.
 
 use super::relays::Relays;
-use super::stream::Stream;
 use crate::coming::one_less;
 use crate::listeners::Listeners;
+use linda_net_http::Stream;
 use mio::net::{TcpListener, UnixListener};
 use mio::{Interest, Registry, Token};
 use std::io;
@@ -28,7 +28,7 @@ pub(super) struct Door {
     may_accept: bool,
     // The last one could not be had.
     has_missed: bool,
-    // A connection came after the server went down.
+    // The server went down: no other is let in.
     is_refused: bool,
     // It was said that no connection comes any more.
     is_closed: bool,
@@ -82,13 +82,14 @@ impl Door {
         self.left == Some(0) || self.is_refused
     }
 
-    /// Lets in those that wait, each to a loop. Those that come when the server is down are closed,
-    /// and none comes any more.
+    /// Lets in those that wait, each to a loop. If the server is down none is, and none comes any
+    /// more.
     pub(super) fn accept<R: Wait>(&mut self, rt: &R, relays: &Relays, is_down: bool) {
         self.has_missed = false;
         if self.may_accept {
             self.accept_some(rt, relays, is_down);
         }
+        self.is_refused = self.is_refused || is_down;
         if self.is_over() && !self.is_closed {
             self.is_closed = true;
             relays.close_all(rt);

@@ -35,16 +35,17 @@ pub(super) fn place<L: Ledger>(
             connection.hold(message);
             return false;
         }
-        connection.tell(marks, &Refusal::Busy.reply());
+        let _ = connection.tell(marks, &Refusal::Busy.reply());
         return true;
     }
     let only_asks = makes_no_deed(&message) && !is_doing;
+    let is_full = only_asks && batch.is_full_of_asks();
     let group = if only_asks {
         &mut batch.asking
     } else {
         &mut batch.doing
     };
-    if account.asked() >= MOST_ASKED || !group.has_room() {
+    if is_full || account.asked() >= MOST_ASKED || !group.has_room() {
         connection.hold(message);
         return false;
     }

@@ -5,21 +5,29 @@ use super::sessions::Sessions;
 use linda_shared::{Post, Sent};
 use std::sync::Wait;
 use std::sync::ledger::Ledger;
+use std::time::{Clock, Instant};
 
 /// A loop that serves a group. What is for its own clients is written to their connections, after
 /// what other loops handed to it before; all else is handed to the loop that serves the client.
 /// That is done under the server's lock, so what is sent to a client stays in order.
 #[derive(Drop)]
-pub(super) struct Posting<'s, 'r, L: Ledger> {
+pub(super) struct Posting<'s, 'r, L: Ledger, C: Clock> {
+    pub(super) clock: &'r C,
     pub(super) sessions: &'s mut Sessions<L>,
     pub(super) relays: &'r Relays,
     // What other loops handed to this one before is taken.
     pub(super) has_taken: bool,
     // Something was handed to another loop.
     pub(super) has_handed: bool,
+    // When the server was locked for the group.
+    pub(super) begin: Option<Instant>,
 }
 
-impl<L: Ledger> Post for Posting<'_, '_, L> {
+impl<L: Ledger, C: Clock> Post for Posting<'_, '_, L, C> {
+    fn begin(&mut self) {
+        self.begin = Instant::now(self.clock).ok();
+    }
+
     fn post<R: Wait>(&mut self, rt: &R, sent: Sent) {
         if !self.sessions.has(sent.client()) {
             self.relays.post(rt, sent);

@@ -1,6 +1,6 @@
 //! What others hand to a loop.
 
-use super::stream::Stream;
+use linda_net_http::Stream;
 use linda_shared::Sent;
 use mio::Waker;
 use std::alloc::Global;

@@ -4,8 +4,8 @@ ghost use Rattle.std.specs.Prelude.{◌≡◌};
 ghost use Rattle.linda_net.specs.Placing.{lighter};
 
 use super::relay::Relay;
-use super::stream::Stream;
 use crate::marks::Marks;
+use linda_net_http::Stream;
 use linda_shared::Sent;
 use std::alloc::{AllocError, Global};
 use std::collections::BTreeMap;
@@ -30,7 +30,7 @@ impl Relays {
     /// Loops with these relays. Nobody was greeted, and nothing is counted.
     pub(super) fn new(alloc: Global, relays: Vec<Relay>) -> Relays {
         Relays {
-            marks: Marks::new(),
+            marks: Marks::new(alloc),
             relays,
             routes: Mutex::new(BTreeMap::new(alloc)),
         }

@@ -2,12 +2,13 @@
 
 use super::batch::{Batch, Call};
 use super::connection::{Connection, Next};
-use super::lease::Lease;
 use super::place::place;
 use super::relays::Relays;
-use super::stream::Stream;
+use super::share::is_much;
+use super::span::Look;
 use crate::marks::Marks;
 use linda_disk::Disk;
+use linda_net_http::Stream;
 use linda_shared::{
     Account, Answered, Group, MOST_ASKED, Sender, Sent, Shared, SharedFault, hear_answer,
 };
@@ -47,6 +48,8 @@ pub(super) struct Sessions<L: Ledger> {
     pub(super) calls: VecDeque<Call<L>>,
     // Where replies are put that other loops handed to this one.
     handed: Vec<Sent>,
+    // How many bytes clients were told since this was asked last.
+    told: u64,
     buffer: Vec<u8>,
 }
 
@@ -63,6 +66,7 @@ impl<L: Ledger> Sessions<L> {
             touched: Vec::new(alloc),
             calls: VecDeque::new(alloc),
             handed: Vec::new(alloc),
+            told: 0,
             buffer,
         })
     }
@@ -157,11 +161,11 @@ impl<L: Ledger> Sessions<L> {
         }
     }
 
-    /// Takes what ready connections have, as far as there is room in the batch. One that has more
-    /// stays ready, behind the others.
+    /// Takes what ready connections have, as far as there is room in the batch, and of each no more
+    /// than its share. One that has more stays ready, behind the others.
     pub(super) fn gather(&mut self, batch: &mut Batch<L>, marks: &Marks) {
         for _ in 0..self.ready.len() {
-            if !batch.doing.has_room() || !batch.asking.has_room() {
+            if !batch.takes_more() {
                 return;
             }
             let Some(key) = self.ready.pop_front() else {
@@ -183,11 +187,21 @@ impl<L: Ledger> Sessions<L> {
         let Some(connection) = self.connections.get_mut(key) else {
             return false;
         };
+        let mut bytes: u64 = 0;
         for _ in 0..=MOST_ASKED {
-            match connection.next(&mut self.buffer) {
+            let next = connection.next(&mut self.buffer);
+            let read = connection.take_read();
+            batch.share.read(read);
+            match next {
                 Next::Message(message) => {
                     if !place(connection, key, message, &mut self.calls, batch, marks) {
                         return !connection.is_waiting();
+                    }
+                    let weight = connection.weight();
+                    batch.share.plan(weight);
+                    bytes = bytes.saturating_add(read).saturating_add(weight);
+                    if is_much(bytes) {
+                        return true;
                     }
                 }
                 Next::Later => return true,
@@ -234,7 +248,7 @@ impl<L: Ledger> Sessions<L> {
             return;
         };
         connection.account = Some(account);
-        connection.tell(&relays.marks, &Reply::Welcome { last });
+        let _ = connection.tell(&relays.marks, &Reply::Welcome { last });
         if !is_kept {
             connection.fail();
         }
@@ -243,7 +257,7 @@ impl<L: Ledger> Sessions<L> {
     // The client is refused. It may greet again.
     fn refuse(&mut self, marks: &Marks, key: usize, code: u8, detail: u64) {
         if let Some(connection) = self.connections.get_mut(key) {
-            connection.tell(marks, &Reply::Refused { code, detail });
+            let _ = connection.tell(marks, &Reply::Refused { code, detail });
         }
     }
 
@@ -285,6 +299,12 @@ impl<L: Ledger> Sessions<L> {
             connection.end_by(fault);
         }
         self.touch(key);
+        self.make_ready(key);
+    }
+
+    /// How many bytes clients were told since this was asked last.
+    pub(super) fn take_told(&mut self) -> u64 {
+        std::mem::replace(&mut self.told, 0)
     }
 
     /// Takes what other loops handed to this one.
@@ -308,7 +328,7 @@ impl<L: Ledger> Sessions<L> {
         };
         if let Some(connection) = self.connections.get_mut(key) {
             for reply in sent.into_replies() {
-                connection.tell(marks, &reply);
+                self.told = self.told.saturating_add(connection.tell(marks, &reply));
             }
         }
         self.touch(key);
@@ -351,21 +371,32 @@ impl<L: Ledger> Sessions<L> {
         self.make_ready(key);
     }
 
-    /// A second went by. The connection of each client ends that holds a tuple and is late. Seconds
-    /// in which it held nothing are not counted: so one that waited long has all of the lease for
+    /// Gives up what ended connections do not take.
+    pub(super) fn give_up(&mut self, look: Look) {
+        for key in 0..self.connections.capacity() {
+            if let Some(connection) = self.connections.get_mut(key) {
+                if connection.gives_up(look) {
+                    self.touch(key);
+                }
+            }
+        }
+    }
+
+    /// The connection of each client ends that holds a tuple and said nothing for so many seconds.
+    /// Those in which it held nothing do not count: so one that waited long has all of the lease for
     /// what it is offered.
     pub(super) fn end_late<D: Disk, R: Wait>(
         &mut self,
         rt: &R,
         shared: &Shared<D, L>,
         marks: &Marks,
-        lease: &Lease,
+        look: Look,
+        seconds: u32,
     ) {
         for key in 0..self.connections.capacity() {
             if let Some(connection) = self.connections.get_mut(key) {
-                if !connection.holds_any(rt, shared) {
-                    connection.rest();
-                } else if lease.has_run_out(connection.grow_silent()) {
+                let holds_any = connection.holds_any(rt, shared);
+                if connection.is_late(look, seconds, holds_any) {
                     connection.end_with(None);
                     marks.lapses();
                     self.touch(key);

@@ -2,15 +2,15 @@
 
 use super::batch::{Batch, Call};
 use super::door::{DOOR, Door};
-use super::lease::Lease;
 use super::posting::Posting;
 use super::relay::Relay;
 use super::relays::Relays;
 use super::sessions::Sessions;
-use super::stream::Stream;
+use super::time::Time;
 use super::took::micros_since;
 use crate::coming::REST;
 use linda_disk::Disk;
+use linda_net_http::Stream;
 use linda_shared::{Group, Shared, SharedFault};
 use mio::{Events, Poll, Token, Waker};
 use std::alloc::Global;
@@ -31,7 +31,7 @@ const EVENTS: usize = 1_024;
 const QUIET: u64 = 1_000;
 
 /// How often messages of which no deed comes are served before the others.
-const MOST_ROUNDS: u32 = 16;
+const MOST_ROUNDS: u32 = 128;
 
 /// How often a loop goes round at most once the server is down, before connections are closed that
 /// take nothing.
@@ -57,8 +57,9 @@ pub(super) struct Loop<L: Ledger> {
     is_ending: bool,
     // How often it goes round before connections are closed that take nothing.
     patience: u32,
-    // For how long clients may hold a tuple and say nothing, if that is limited.
-    lease: Option<Lease>,
+    time: Time,
+    // For how many seconds clients may hold a tuple and say nothing, if that is limited.
+    lease: Option<u32>,
 }
 
 /// The loop of this number, and its relay.
@@ -86,6 +87,7 @@ pub(super) fn begin_loop<L: Ledger, R: Net>(
         is_closed: false,
         is_ending: false,
         patience: MOST_ENDING,
+        time: Time::new(),
         lease: None,
     };
     Ok((made, Relay::new(alloc, bell)))
@@ -106,20 +108,30 @@ impl<L: Ledger> Loop<L> {
 
     /// For so many seconds clients may hold a tuple and say nothing.
     pub(super) fn limit(&mut self, seconds: u32) {
-        self.lease = Some(Lease::new(seconds));
+        self.lease = Some(seconds);
     }
 
-    // Once a second: ends connections whose clients hold a tuple and are late.
+    // A turn begins: nothing was taken in it.
+    fn begin_turn<R: Clock>(&mut self, rt: &R) {
+        self.time.begin_turn(rt);
+        self.batch.share.begin_turn();
+    }
+
+    // Once a second: ends connections whose clients hold a tuple and are late, and gives up what
+    // ended ones do not take.
     fn end_late<D: Disk, R: Wait + Clock>(
         &mut self,
         rt: &R,
         shared: &Shared<D, L>,
         relays: &Relays,
     ) {
-        if let Some(lease) = &mut self.lease {
-            if lease.is_due(rt) {
-                self.sessions.end_late(rt, shared, &relays.marks, lease);
-            }
+        let Some(look) = self.time.look(rt) else {
+            return;
+        };
+        self.sessions.give_up(look);
+        if let Some(seconds) = self.lease {
+            self.sessions
+                .end_late(rt, shared, &relays.marks, look, seconds);
         }
     }
 
@@ -133,6 +145,11 @@ impl<L: Ledger> Loop<L> {
         if self.sessions.has_ready() || !self.batch.is_empty() || !self.sessions.calls.is_empty() {
             return 0;
         }
+        let quiet = if self.is_ending {
+            QUIET
+        } else {
+            self.time.left()
+        };
         match &self.door {
             Some(door) => {
                 if door.has_more() {
@@ -140,10 +157,10 @@ impl<L: Ledger> Loop<L> {
                 } else if door.has_missed() {
                     REST
                 } else {
-                    QUIET
+                    quiet
                 }
             }
-            None => QUIET,
+            None => quiet,
         }
     }
 
@@ -229,7 +246,7 @@ impl<L: Ledger> Loop<L> {
         for _ in 0..MOST_LOOKS {
             let count = self.batch.doing.len();
             let is_all = count == 0 || count >= self.sessions.len();
-            if is_all || !self.batch.doing.has_room() || !self.look(0) {
+            if is_all || !self.batch.takes_more() || !self.look(0) {
                 break;
             }
             is_up = self.serve_asks(rt, shared, relays) && is_up;
@@ -240,8 +257,8 @@ impl<L: Ledger> Loop<L> {
         self.serve_deeds(rt, shared, relays) && is_up
     }
 
-    // Takes what is ready, and serves what makes no deed, and clients that come and go. Says
-    // whether the server is up.
+    // Takes what is ready, as far as the turn has some left, and serves what makes no deed, and
+    // clients that come and go. Says whether the server is up.
     fn serve_asks<D: Disk, R: Wait + Clock>(
         &mut self,
         rt: &R,
@@ -255,19 +272,26 @@ impl<L: Ledger> Loop<L> {
         } = self;
         let mut is_up = true;
         for _ in 0..MOST_ROUNDS {
+            let before = batch.len();
             sessions.gather(batch, &relays.marks);
-            sessions.flush(rt, relays);
+            let is_full = batch.is_full_of_asks();
+            let is_last = !is_full && (batch.len() == before || !sessions.has_ready());
+            if !is_full {
+                sessions.flush(rt, relays);
+            }
             is_up = serve_calls(rt, shared, relays, sessions) && is_up;
-            let is_full = !batch.asking.has_room();
             if batch.asking.len() > 0 {
                 let asking = &mut batch.asking;
-                is_up = serve(rt, shared, relays, sessions, asking, false) && is_up;
+                let (is_still_up, micros) = serve(rt, shared, relays, sessions, asking, false);
+                is_up = is_still_up && is_up;
+                batch.share.end_asks(micros);
+                batch.share.tell(sessions.take_told());
             }
-            sessions.flush(rt, relays);
-            if !is_full {
+            if is_last || !batch.share.has_left() {
                 break;
             }
         }
+        sessions.flush(rt, relays);
         is_up
     }
 
@@ -286,12 +310,14 @@ impl<L: Ledger> Loop<L> {
         if batch.doing.len() == 0 {
             return true;
         }
-        serve(rt, shared, relays, sessions, &mut batch.doing, true)
+        let (is_up, _) = serve(rt, shared, relays, sessions, &mut batch.doing, true);
+        let _ = sessions.take_told();
+        is_up
     }
 }
 
 // Serves clients that come and go. Says whether the server is up.
-fn serve_calls<D: Disk, L: Ledger, R: Wait>(
+fn serve_calls<D: Disk, L: Ledger, R: Wait + Clock>(
     rt: &R,
     shared: &Shared<D, L>,
     relays: &Relays,
@@ -305,11 +331,14 @@ fn serve_calls<D: Disk, L: Ledger, R: Wait>(
         match call {
             Call::Greet(key, message) => {
                 let greeting = shared.admit(rt, &message);
+                if let Ok(Err((code, _))) = &greeting {
+                    relays.marks.turns_away(rt, &message, *code);
+                }
                 is_up = !is_down(&greeting) && is_up;
                 sessions.greet(rt, relays, key, greeting);
             }
             Call::Leave(account) => {
-                let mut posting = posting(sessions, relays);
+                let mut posting = posting(rt, sessions, relays);
                 is_up = shared.depart(rt, account, &mut posting) && is_up;
                 ring(rt, &posting);
             }
@@ -318,7 +347,8 @@ fn serve_calls<D: Disk, L: Ledger, R: Wait>(
     is_up
 }
 
-// Serves a group of the sessions. Says whether the server is up.
+// Serves a group of the sessions. Says whether the server is up, and for how many microseconds it
+// was locked.
 fn serve<D: Disk, L: Ledger, R: Wait + Clock>(
     rt: &R,
     shared: &Shared<D, L>,
@@ -326,15 +356,16 @@ fn serve<D: Disk, L: Ledger, R: Wait + Clock>(
     sessions: &mut Sessions<L>,
     group: &mut Group<L>,
     are_deeds: bool,
-) -> bool {
-    let mut posting = posting(sessions, relays);
+) -> (bool, u64) {
+    let mut posting = posting(rt, sessions, relays);
     relays.marks.serves(group.len());
     let begin = Instant::now(rt).ok();
     let is_up = shared.serve_group(rt, group, &mut posting);
+    let locked = micros_since(rt, posting.begin);
     relays.marks.spends(micros_since(rt, begin));
     ring(rt, &posting);
     sessions.hear_all(group, are_deeds);
-    is_up
+    (is_up, locked)
 }
 
 // Whether the server that answers so is down.
@@ -343,20 +374,23 @@ fn is_down<T>(answer: &Result<T, SharedFault>) -> bool {
 }
 
 // Who takes what is sent while the loop has the server.
-fn posting<'s, 'r, L: Ledger>(
+fn posting<'s, 'r, L: Ledger, R: Clock>(
+    rt: &'r R,
     sessions: &'s mut Sessions<L>,
     relays: &'r Relays,
-) -> Posting<'s, 'r, L> {
+) -> Posting<'s, 'r, L, R> {
     Posting {
+        clock: rt,
         sessions,
         relays,
         has_taken: false,
         has_handed: false,
+        begin: None,
     }
 }
 
 // Wakes the loops that something was handed to.
-fn ring<L: Ledger, R: Wait>(rt: &R, posting: &Posting<'_, '_, L>) {
+fn ring<L: Ledger, C: Clock, R: Wait>(rt: &R, posting: &Posting<'_, '_, L, C>) {
     if posting.has_handed {
         posting.relays.ring_all(rt);
     }
@@ -373,6 +407,7 @@ pub(super) fn turn<D: Disk, L: Ledger, R: Wait + Clock>(
         return;
     };
     for _ in rt.forever() {
+        it.begin_turn(rt);
         let rest = it.rest();
         let is_quiet = it.wait(rt, relay, rest);
         it.end_soon(is_quiet);

@@ -58,7 +58,7 @@ struct ByTeller<'a, D: Disk, L: Ledger, A: Teller> {
 }
 
 impl<'a, D: Disk, L: Ledger, A: Teller> Pages for ByTeller<'a, D, L, A> {
-    fn spell<R: Wait>(
+    fn spell<R: Wait + Clock>(
         &self,
         rt: &R,
         asked: Asked<'_>,

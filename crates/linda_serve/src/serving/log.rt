@@ -1,5 +1,6 @@
 //! The log of a server: a line for what happens, `TIME EVENT key value key value ..`.
 
+use super::banks::Banks;
 use super::minutes::{Counted, connected};
 use super::stamp::stamp_now;
 use linda_disk::FileTrouble;
@@ -30,6 +31,8 @@ pub struct Log<'a, W: Write> {
     sink: Option<&'a mut W>,
     text: String,
     before: Counted,
+    banks: Option<Banks>,
+    is_removed: bool,
 }
 
 impl<'a, W: Write> Log<'a, W> {
@@ -40,7 +43,25 @@ impl<'a, W: Write> Log<'a, W> {
             sink,
             text,
             before: Counted::none(),
+            banks: None,
+            is_removed: false,
         })
+    }
+
+    /// It is looked once a minute whether these are still in a folder.
+    pub(super) fn watch(&mut self, banks: Banks) {
+        self.banks = Some(banks);
+    }
+
+    /// Whether it was seen that the file of a bank is in no folder any more.
+    pub(super) fn is_removed(&self) -> bool {
+        self.is_removed
+    }
+
+    /// Another server has the folder open, and from now on this one waits.
+    pub fn tell_waiting<C: Clock>(&mut self, clock: &C) {
+        let told = self.begin(clock, "waiting");
+        self.send(told);
     }
 
     /// The server was opened, and listens on this port, at this path, or on both.
@@ -56,6 +77,12 @@ impl<'a, W: Write> Log<'a, W> {
         self.send(told);
     }
 
+    /// A snapshot was taken before it served, in so many milliseconds.
+    pub fn tell_snapshot<C: Clock>(&mut self, clock: &C, millis: u64, gauge: &Gauge) {
+        let told = self.spell_snapshot(clock, "taken", millis, gauge);
+        self.send(told);
+    }
+
     /// A call of the system on the file of a bank failed.
     pub fn tell_failed<C: Clock>(&mut self, clock: &C, bank: &str, trouble: &FileTrouble) {
         let told = self.spell_failed(clock, bank, trouble);
@@ -68,7 +95,18 @@ impl<'a, W: Write> Log<'a, W> {
         self.send(told);
     }
 
+    // The file of a bank is in no folder any more.
+    fn tell_removed<C: Clock>(&mut self, clock: &C, bank: &str) {
+        let told = self.spell_removed(clock, bank);
+        self.send(told);
+    }
+
     // Each line is spelled whole before it goes out.
+
+    fn spell_removed<C: Clock>(&mut self, clock: &C, bank: &str) -> Result<(), AllocError> {
+        self.begin(clock, "removed")?;
+        self.word("bank", bank)
+    }
 
     // A path is the last of its line: it may have blanks.
     fn spell_opened<C: Clock>(
@@ -272,6 +310,18 @@ impl<W: Write> Watcher for Log<'_, W> {
     fn tell<C: Clock>(&mut self, clock: &C, notice: Notice, gauge: &Gauge, tally: &Tally) {
         let told = self.spell(clock, notice, gauge, tally);
         self.send(told);
+    }
+
+    fn is_kept<C: Clock>(&mut self, clock: &C) -> bool {
+        let Some(banks) = &self.banks else {
+            return true;
+        };
+        let Some(bank) = banks.removed() else {
+            return true;
+        };
+        self.is_removed = true;
+        self.tell_removed(clock, bank);
+        false
     }
 }
 

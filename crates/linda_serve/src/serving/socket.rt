@@ -7,7 +7,7 @@ use std::fs;
 use std::fs::{DirBuilder, Files, Permissions};
 use std::io::ErrorKind;
 use std::net::Net;
-use std::os::unix::fs::{DirBuilderExt, FileTypeExt, PermissionsExt};
+use std::os::unix::fs::{DirBuilderExt, FileTypeExt, MetadataExt, PermissionsExt};
 use std::os::unix::net::UnixListener;
 
 /// How many names are tried for the folder in which a socket is made.
@@ -47,9 +47,28 @@ pub(super) fn listen_at<R: Files + Net>(
     listener
 }
 
-/// Removes the file of a socket that a server listens on no more.
-pub(super) fn remove<R: Files>(rt: &R, socket: Place<'_>) {
-    let _ = fs::remove_file(rt, socket.path).is_err();
+/// A file, by which it is known again: its device, and its number there.
+#[derive(Clone, Copy, PartialEq, Eq)]
+pub(super) struct OwnFile {
+    device: u64,
+    number: u64,
+}
+
+/// The file at a path, if there is one.
+pub(super) fn file_at<R: Files>(rt: &R, path: &str) -> Option<OwnFile> {
+    let found = fs::symlink_metadata(rt, path).ok()?;
+    Some(OwnFile {
+        device: found.dev(),
+        number: found.ino(),
+    })
+}
+
+/// Removes the file of a socket that a server listens on no more, if it is still its own: another
+/// server may have one there by now.
+pub(super) fn remove<R: Files>(rt: &R, path: &str, own: Option<OwnFile>) {
+    if own.is_some() && file_at(rt, path) == own {
+        let _ = fs::remove_file(rt, path).is_err();
+    }
 }
 
 // Listens on a socket of this name, and gives it its mode, and then its path.

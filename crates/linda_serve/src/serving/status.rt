@@ -3,26 +3,35 @@
 ghost use Rattle.std.specs.Prelude.{◌≡◌};
 ghost use Rattle.linda_serve.specs.Status.{form_at};
 
+mod about;
+mod absent;
 mod figure;
 mod json;
 mod listed;
 mod lists;
+mod longest;
 mod metrics;
 mod page;
 mod part;
 mod row;
 mod seconds;
+mod tagged;
 mod tags;
 
+pub(crate) use about::About;
+use absent::taken_by_absent;
 use json::spell_json;
 use linda_disk::Disk;
 use linda_net::{Asked, Shared, Tally, Teller, Told};
 use lists::{spell_clients, spell_tuples};
+use longest::spell_longest;
 use metrics::spell_metrics;
 use page::PAGE;
 use std::alloc::{AllocError, Global};
 use std::sync::Wait;
 use std::sync::ledger::Ledger;
+use std::time::{Clock, Instant};
+use tagged::spell_tagged;
 use tags::spell_tags;
 
 /// The kind of an object of JSON.
@@ -43,16 +52,23 @@ enum Form {
     Clients,
     /// How many tuples there are of each tag, in one object of JSON.
     Tags,
+    /// What waits and what is held for longest, in one object of JSON.
+    Longest,
 }
 
 /// Has the pages of a server.
 #[derive(Clone, Copy)]
-pub(super) struct Numbers {
+pub(super) struct Numbers<'a> {
     pub(super) alloc: Global,
+    pub(super) about: About<'a>,
+    /// The tags whose tuples are counted.
+    pub(super) metrics: &'a [String],
+    /// When it began to serve, if the clock could be read.
+    pub(super) begin: Option<Instant>,
 }
 
-impl Teller for Numbers {
-    fn spell<D: Disk, L: Ledger, R: Wait>(
+impl<'a> Teller for Numbers<'a> {
+    fn spell<D: Disk, L: Ledger, R: Wait + Clock>(
         &self,
         rt: &R,
         shared: &Shared<D, L>,
@@ -65,14 +81,30 @@ impl Teller for Numbers {
         };
         match form {
             Form::Page => page.push_str(PAGE)?,
-            Form::Metrics => spell_metrics(page, &shared.gauge(rt), tally)?,
-            Form::Json => spell_json(page, &shared.gauge(rt), tally)?,
+            Form::Metrics => {
+                let absent = taken_by_absent(rt, shared);
+                spell_metrics(page, &shared.gauge(rt), tally, absent)?;
+                spell_tagged(rt, self.alloc, shared, self.metrics, page)?;
+            }
+            Form::Json => {
+                let absent = taken_by_absent(rt, shared);
+                let uptime = seconds_since(rt, self.begin);
+                let gauge = shared.gauge(rt);
+                spell_json(self.alloc, page, &self.about, uptime, &gauge, tally, absent)?;
+            }
             Form::Tuples => return spell_tuples(rt, self.alloc, shared, asked.query, page),
             Form::Clients => return spell_clients(rt, self.alloc, shared, asked.query, page),
             Form::Tags => return spell_tags(rt, self.alloc, shared, asked.query, page),
+            Form::Longest => return spell_longest(rt, self.alloc, shared, asked.query, page),
         }
         Ok(Told::Page(kind_of(form)))
     }
+}
+
+// How many seconds have gone by since then, if that is known.
+fn seconds_since<R: Clock>(rt: &R, begin: Option<Instant>) -> Option<u64> {
+    let passed = begin?.elapsed(rt).ok()?;
+    Some(passed.as_secs())
 }
 
 // What is at this path, if anything is.
@@ -91,6 +123,8 @@ fn form_at(path: &[u8]) -> Option<Form>
         Some(Form::Clients)
     } else if path == b"/tags".as_slice() {
         Some(Form::Tags)
+    } else if path == b"/longest".as_slice() {
+        Some(Form::Longest)
     } else {
         None
     }
@@ -105,5 +139,6 @@ fn kind_of(form: Form) -> &'static str {
         Form::Tuples => JSON,
         Form::Clients => JSON,
         Form::Tags => JSON,
+        Form::Longest => JSON,
     }
 }

@@ -14,6 +14,9 @@ use std::sync::ledger::Ledger;
 
 /// Who takes what is sent to clients.
 pub trait Post {
+    /// The server is locked from now on.
+    fn begin(&mut self) {}
+
     /// These go to their client, after all that went to it before. The server is locked meanwhile.
     fn post<R: Wait>(&mut self, rt: &R, sent: Sent);
 }
@@ -46,8 +49,9 @@ impl<D: Disk, L: Ledger> Shared<D, L> {
     }
 
     /// Serves the messages of a group, one after the other in one call of the server, and posts
-    /// what is sent, once it is on the disks. Says whether the server is up. If answers of before
-    /// wait to be heard nothing of the group is served.
+    /// what is sent, once it is on the disks; it says before that the server is locked. Returns
+    /// whether the server is up. If answers of before wait to be heard nothing of the group is
+    /// served.
     pub fn serve_group<R: Wait, P: Post>(&self, rt: &R, group: &mut Group<L>, posts: &mut P) -> bool
         ensures each { group.new.asked + group.new.answered
             ≡ group.old.asked + group.old.answered }
@@ -56,6 +60,7 @@ impl<D: Disk, L: Ledger> Shared<D, L> {
     {
         let mut guard = self.locked.lock(rt);
         let locked = &mut *guard;
+        posts.begin();
         group.serve(self.alloc, &mut locked.held);
         locked.post_all(rt, self.alloc, posts);
         let is_down = locked.held.is_down();

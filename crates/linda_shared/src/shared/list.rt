@@ -2,7 +2,7 @@
 
 use super::Shared;
 use linda_disk::Disk;
-use linda_shared_listing::{ClientPage, TuplePage, TupleQuery};
+use linda_shared_listing::{ClientPage, TakenCount, TuplePage, TupleQuery};
 use std::alloc::AllocError;
 use std::sync::Wait;
 use std::sync::ledger::Ledger;
@@ -45,5 +45,15 @@ impl<D: Disk, L: Ledger> Shared<D, L> {
         }
         let page = guard.held.list_clients(self.alloc, from, limit)?;
         Ok(Some(page))
+    }
+
+    /// How many clients are away and took a tuple by their last message, of those from this one on,
+    /// as they are at one moment, as `Held::count_taken` counts them; nothing if the server is down.
+    pub fn count_taken<R: Wait>(&self, rt: &R, from: u32) -> Option<TakenCount> {
+        let guard = self.locked.lock(rt);
+        if guard.held.is_down() {
+            return None;
+        }
+        Some(guard.held.count_taken(from))
     }
 }

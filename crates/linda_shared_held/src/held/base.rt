@@ -73,13 +73,14 @@ impl<D: Disk, L: Ledger> Held<D, L> {
     /// Whether a snapshot pays for itself: there are 1,024 records since the last one or they have
     /// 32 MiB, and they have at least as many bytes as that one left in the bank, or half of the
     /// limit is taken; or the bank in use is not in the form of new banks. After one that was
-    /// refused, once there are 1,024 records more. Or a deed was refused for room since the last
-    /// one or since one was last tried, and there is a record that this one did not find. A server
-    /// that was opened counts records from an empty bank on, and bytes from what the bank has.
+    /// refused, once there are 1,024 records more, or 32 MiB of them. Or a deed was refused for room
+    /// since the last one or since one was last tried, and there is a record that this one did not
+    /// find. A server that was opened counts bytes from what the bank has, unless `count_from` says
+    /// otherwise.
     pub fn pays(&self) -> bool
         ensures is { result ≡ is_due (is_old (form_in_use self.now.server.disks)) self.now.pace.base
-            self.now.pace.start self.now.pace.not_before self.now.pace.tried
-            self.now.pace.lacks_room
+            self.now.pace.start self.now.pace.not_before self.now.pace.not_below
+            self.now.pace.tried self.now.pace.lacks_room
             (records_in_use self.now.server.disks) (end_in_use self.now.server.disks)
             self.now.server.limit }
     {
@@ -92,11 +93,12 @@ impl<D: Disk, L: Ledger> Held<D, L> {
         )
     }
 
-    /// No snapshot that pays is tried before there are 1,024 records more; one that a refused deed
-    /// asks for is. Nothing else changes.
-    pub fn put_off(&mut self)
+    /// No snapshot that pays is tried before there are 1,024 records more, or records of `room`
+    /// bytes, 32 MiB at most, whichever come first; one that a refused deed asks for is. Nothing
+    /// else changes.
+    pub fn put_off(&mut self, room: usize)
         ensures pace { self.new.pace ≡ put_off_at (records_in_use self.old.server.disks)
-            self.old.pace }
+            (end_in_use self.old.server.disks) room self.old.pace }
         ensures same { (self.new.opening.value ≡ self.old.opening.value)
             × (self.new.base.value ≡ self.old.base.value)
             × (self.new.receipts.items ≡ self.old.receipts.items)
@@ -105,7 +107,23 @@ impl<D: Disk, L: Ledger> Held<D, L> {
             × (self.new.boxes ≡ self.old.boxes)
             × (self.new.recall ≡ self.old.recall) }
     {
-        self.pace.puts_off(self.server.records());
+        self.pace
+            .puts_off(self.server.records(), self.server.used(), room);
+    }
+
+    /// The bank in use took `base` bytes when it was new: its bytes are counted from there on. What
+    /// was put off is so no more. Nothing else changes.
+    pub fn count_from(&mut self, base: usize)
+        ensures pace { self.new.pace ≡ pace_from base base }
+        ensures same { (self.new.opening.value ≡ self.old.opening.value)
+            × (self.new.base.value ≡ self.old.base.value)
+            × (self.new.receipts.items ≡ self.old.receipts.items)
+            × (self.new.count ≡ self.old.count)
+            × (self.new.accounts ≡ self.old.accounts) × (self.new.server ≡ self.old.server)
+            × (self.new.boxes ≡ self.old.boxes)
+            × (self.new.recall ≡ self.old.recall) }
+    {
+        self.pace = Pace::new(base, base);
     }
 
     /// Takes a snapshot, from which on the receipts begin anew. It alone moves the base. No receipt
@@ -135,9 +153,10 @@ impl<D: Disk, L: Ledger> Held<D, L> {
         ensures pace { OnOk result (self.new.pace ≡ pace_from (end_in_use self.new.server.disks)
             (end_in_use self.new.server.disks)) }
         ensures tried { OnErr result (self.new.pace
-            ≡ tried_at (records_in_use self.old.server.disks) self.old.pace) }
+            ≡ tried_at (records_in_use self.old.server.disks) (end_in_use self.old.server.disks)
+            self.old.pace) }
     {
-        self.pace.tries(self.server.records());
+        self.pace.tries(self.server.records(), self.server.used());
         take_snapshot(&mut self.server, alloc)?;
         self.move_base(alloc);
         self.pace = new_pace(&self.server);

@@ -4,10 +4,13 @@ ghost use Rattle.std.specs.Prelude.{IfOk};
 ghost use Rattle.linda_shared_outbox.specs.Waiting.{waits_for};
 ghost use Rattle.linda_shared_listing.specs.Listing.{IsPage};
 ghost use Rattle.linda_shared_listing.specs.Clients.{IsClientPage};
+ghost use Rattle.linda_shared_listing.specs.Taken.{IsTakenCount};
 
 use super::Held;
 use linda_disk::Disk;
-use linda_shared_listing::{ClientPage, TuplePage, TupleQuery, list_clients, list_tuples};
+use linda_shared_listing::{
+    ClientPage, TakenCount, TuplePage, TupleQuery, count_taken, list_clients, list_tuples,
+};
 use std::alloc::{AllocError, Global};
 use std::sync::ledger::Ledger;
 
@@ -26,9 +29,10 @@ impl<D: Disk, L: Ledger> Held<D, L> {
         list_tuples(alloc, server.state(), server.holds(), query)
     }
 
-    /// The first clients from this one on, as many as are asked for at most, as
-    /// `linda_shared_listing` bounds them: each with its last number, whether it has a connection,
-    /// how many tuples are held for it, and how many of its asks wait. Nothing changes.
+    /// The first clients from this one on that have an outbox or for which a reply is kept, as many
+    /// as are asked for, as `linda_shared_listing` bounds them: each with its last number and reply,
+    /// whether it has an outbox, how many tuples are held for it, and how many of its asks wait.
+    /// Nothing changes.
     ///
     /// # Errors
     ///
@@ -40,8 +44,8 @@ impl<D: Disk, L: Ledger> Held<D, L> {
         limit: usize,
     ) -> Result<ClientPage, AllocError>
         ensures { IfOk result (IsClientPage self.now.server.store.state.book
-            self.now.server.store.soft.holds self.now.server.store.soft.waits
-            (waits_for self.now.boxes) from limit) }
+            (waits_for self.now.boxes) self.now.server.store.soft.holds
+            self.now.server.store.soft.waits from limit) }
     {
         let server = &self.server;
         let book = &server.state().book;
@@ -54,5 +58,16 @@ impl<D: Disk, L: Ledger> Held<D, L> {
             from,
             limit,
         )
+    }
+
+    /// How many clients have no outbox and a kept reply that is a Taken, of those from this one on;
+    /// as `linda_shared_listing` bounds how many are looked at. Nothing changes.
+    pub fn count_taken(&self, from: u32) -> TakenCount
+        ensures { IsTakenCount self.now.server.store.state.book (waits_for self.now.boxes) from
+            result }
+    {
+        let server = &self.server;
+        let book = &server.state().book;
+        count_taken(book, &self.boxes, from)
     }
 }

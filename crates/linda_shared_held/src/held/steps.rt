@@ -3,7 +3,7 @@
 
 ghost use Rattle.std.specs.Prelude.{◌≡◌, ◌≢◌, ◌⊎◌, [], IfOk, OnErr, IsErrOf};
 ghost use Rattle.linda_server.specs.Handled.{HasNoNextBank};
-ghost use Rattle.linda_server.specs.Server.{records_in_use};
+ghost use Rattle.linda_server.specs.Server.{end_in_use, records_in_use};
 ghost use Rattle.linda_shared_held.specs.Pace.{tried_at};
 ghost use Rattle.linda_shared_held.specs.Snapshot.{TakesStep};
 
@@ -35,9 +35,10 @@ impl<D: Disk, L: Ledger> Held<D, L> {
             × (self.new.boxes ≡ self.old.boxes)
             × (self.new.recall ≡ self.old.recall) }
         ensures tried { self.new.pace
-            ≡ tried_at (records_in_use self.old.server.disks) self.old.pace }
+            ≡ tried_at (records_in_use self.old.server.disks) (end_in_use self.old.server.disks)
+            self.old.pace }
     {
-        self.pace.tries(self.server.records());
+        self.pace.tries(self.server.records(), self.server.used());
         begin_steps(&mut self.server, alloc)
     }
 

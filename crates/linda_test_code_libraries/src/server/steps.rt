@@ -1,8 +1,10 @@
 //! A snapshot in steps, with deeds between them: a stop inside each device call, with each way to
 //! crash, leaves the state of now.
 //!
-//! A tuple with its id has 22 bytes in a snapshot, and a step of 40 bytes has two. The records since
-//! it was begun have 32 bytes for a put, 26 for a take and 18 for a leave.
+//! A tuple with its id has 22 bytes in a snapshot, and a step of 40 bytes has two. Client 1 has 21
+//! there, and one whose last reply is Gone has 13; their count has 4 before them: so the first step
+//! with clients has clients 1, 3 and 4, and the second one 5 and 6. The records since it was begun
+//! have 32 bytes for a put, 26 for a take, and 18 for a leave and for a Gone.
 
 use crate::messages::{ask, put};
 use linda_bag::{Bag, IndexBag};
@@ -15,14 +17,15 @@ use std::alloc::{AllocError, Global};
 const LIMIT: usize = 100_000;
 
 /// What came of a snapshot: whether it came to its end, whether its bank is in use then, and what
-/// the bank in use has: which tuples, the next id, the numbers of clients 1 and 2, and its records.
+/// the bank in use has: which tuples, the next id, the numbers of clients 1, 2 and 5, and its
+/// records.
 #[derive(Debug, PartialEq, Clone, Copy)]
 struct Left {
     is_whole: bool,
     is_new: bool,
     tuples: [bool; 10],
     next: u64,
-    numbers: (u64, u64),
+    numbers: (u64, u64, u64),
     records: usize,
 }
 
@@ -48,6 +51,14 @@ fn put_six(alloc: Global, server: &mut Durable<MemDisk>) -> Result<(), AllocErro
     Ok(())
 }
 
+/// Clients 3 to 6 accept what they were not offered.
+fn miss_four(alloc: Global, server: &mut Durable<MemDisk>) -> Result<(), AllocError> {
+    for client in 3..=6 {
+        serve(alloc, server, client, &accept(1, 9, 9))?;
+    }
+    Ok(())
+}
+
 /// Client 1 is offered the first five of them, in order.
 fn offer_five(alloc: Global, server: &mut Durable<MemDisk>) -> Result<(), AllocError> {
     for ticket in 1..=5 {
@@ -57,14 +68,15 @@ fn offer_five(alloc: Global, server: &mut Durable<MemDisk>) -> Result<(), AllocE
     Ok(())
 }
 
-/// A server with six tuples of client 1, of which it is offered the first five in order. Its right
-/// disk stops inside the call of this number.
+/// A server with six tuples of client 1, of which it is offered the first five in order, and four
+/// clients whose last reply is Gone. Its right disk stops inside the call of this number.
 fn with_six(alloc: Global, at: u64) -> Result<Durable<MemDisk>, AllocError> {
     let made = Durable::create(alloc, MemDisk::new(alloc), MemDisk::new(alloc), LIMIT);
     let Ok(mut server) = made else {
         return Err(AllocError);
     };
     put_six(alloc, &mut server)?;
+    miss_four(alloc, &mut server)?;
     let (left, mut right) = server.into_disks();
     // (an opening syncs the disk once)
     right.fuse(at.saturating_add(1));
@@ -81,8 +93,8 @@ fn accept(n: u64, ticket: u64, id: u64) -> Message {
 }
 
 /// What is done before the step of this number: takes of a tuple that is not written yet, of one
-/// that is, and of the last one that is; a put; a put by a new client, and its leave; and puts while
-/// records are written.
+/// that is, and of the last one that is; a put; a put by a new client, and its leave; another reply
+/// to a client that is not written yet; and puts while records are written.
 fn goes_on(alloc: Global, server: &mut Durable<MemDisk>, step: u32) -> Result<(), AllocError> {
     match step {
         2 => {
@@ -97,8 +109,9 @@ fn goes_on(alloc: Global, server: &mut Durable<MemDisk>, step: u32) -> Result<()
             serve(alloc, server, 2, &Message::Leave { n: 2 })?;
             serve(alloc, server, 1, &accept(10, 4, 4))
         }
-        5 => serve(alloc, server, 1, &put(alloc, 11, 90)?),
-        7 => serve(alloc, server, 1, &put(alloc, 12, 100)?),
+        5 => serve(alloc, server, 5, &accept(2, 9, 9)),
+        6 => serve(alloc, server, 1, &put(alloc, 11, 90)?),
+        8 => serve(alloc, server, 1, &put(alloc, 12, 100)?),
         _ => Ok(()),
     }
 }
@@ -108,11 +121,11 @@ fn snapshot(alloc: Global, server: &mut Durable<MemDisk>) -> Result<bool, AllocE
     if server.begin_steps(alloc).is_err() {
         return Ok(false);
     }
-    for step in 1..=10 {
+    for step in 1..=12 {
         goes_on(alloc, server, step)?;
         match server.step(alloc, 40) {
             Err(_) => return Ok(false),
-            Ok(Progress::Done) => return Ok(step == 10),
+            Ok(Progress::Done) => return Ok(step == 12),
             Ok(Progress::Going) => {}
             Ok(Progress::Idle) => return Err(AllocError),
         }
@@ -158,7 +171,7 @@ fn told(server: &Durable<MemDisk>, is_whole: bool) -> Left {
         is_new,
         tuples: ids_of(&state.bag),
         next: state.next,
-        numbers: (state.book.last(1), state.book.last(2)),
+        numbers: (state.book.last(1), state.book.last(2), state.book.last(5)),
         records: server.records(),
     }
 }
@@ -201,12 +214,13 @@ const ALL: [bool; 10] = [
 /// What the bank in use has after so many deeds; the one of the snapshot has their records only.
 fn want(is_whole: bool, is_new: bool, deeds: usize) -> Left {
     let (tuples, next, numbers) = match deeds {
-        0 => (SIX, 7, (6, 0)),
-        2 => (TAKEN, 7, (8, 0)),
-        4 => (PUT, 9, (9, 1)),
-        6 => (LEFT, 9, (10, 2)),
-        7 => (MORE, 10, (11, 2)),
-        _ => (ALL, 11, (12, 2)),
+        0 => (SIX, 7, (6, 0, 1)),
+        2 => (TAKEN, 7, (8, 0, 1)),
+        4 => (PUT, 9, (9, 1, 1)),
+        6 => (LEFT, 9, (10, 2, 1)),
+        7 => (LEFT, 9, (10, 2, 2)),
+        8 => (MORE, 10, (11, 2, 2)),
+        _ => (ALL, 11, (12, 2, 2)),
     };
     Left {
         is_whole,
@@ -217,7 +231,7 @@ fn want(is_whole: bool, is_new: bool, deeds: usize) -> Left {
         records: if is_new {
             deeds
         } else {
-            usize::saturating_add(deeds, 6)
+            usize::saturating_add(deeds, 10)
         },
     }
 }
@@ -232,32 +246,34 @@ fn deeds_by(at: u64) -> usize {
         4
     } else if at < 12 {
         6
-    } else if at < 16 {
+    } else if at < 14 {
         7
-    } else {
+    } else if at < 18 {
         8
+    } else {
+        9
     }
 }
 
-/// A snapshot makes 26 calls: a write and a sync that close the gate, two for its head, two for
-/// each of three steps with tuples, two for its clients, two for each of five steps with records,
-/// two for the last ones, and two that open the gate.
+/// A snapshot makes 30 calls: a write and a sync that close the gate, two for its head, two for
+/// each of three steps with tuples, of two with clients and of six with records, two for the last
+/// ones, and two that open the gate.
 #[test]
 fn a_stop_inside_a_snapshot_in_steps_leaves_the_state_of_now(
     rt: HostRuntime,
 ) -> Result<(), AllocError> {
     for torn in TORN {
         let opens = matches!(torn, Torn::Kept | Torn::Filled(1));
-        for at in 0..26 {
+        for at in 0..30 {
             let left = left_by(rt.alloc(), at, torn)?;
             assert_eq!(rt;
                 left,
-                want(false, at >= 24 && opens, deeds_by(at)),
+                want(false, at >= 28 && opens, deeds_by(at)),
                 "{at} {torn:?}"
             );
         }
-        let left = left_by(rt.alloc(), 26, torn)?;
-        assert_eq!(rt; left, want(true, true, 8), "{torn:?}");
+        let left = left_by(rt.alloc(), 30, torn)?;
+        assert_eq!(rt; left, want(true, true, 9), "{torn:?}");
     }
     Ok(())
 }

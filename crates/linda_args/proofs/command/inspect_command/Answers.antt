@@ -6,4 +6,5 @@ returns c =
     let first = if_with_arg _ _ _ c.arg-first.result _ c.bare_command.ensures c.word-folder.ensures.rule c.word-folder.ensures.own c.arg-first.ensures in
     let second = c.with_arg-second.ensures _ _ first c.flag.ensures.rule c.flag.ensures.own in
     let third = c.with_arg-third.ensures _ _ second c.flag-2.ensures.rule c.flag-2.ensures.own in
-    c.with_arg.ensures _ _ third c.flag-3.ensures.rule c.flag-3.ensures.own
+    let fourth = c.with_arg-fourth.ensures _ _ third c.flag-3.ensures.rule c.flag-3.ensures.own in
+    c.with_arg.ensures _ _ fourth c.flag-4.ensures.rule c.flag-4.ensures.own

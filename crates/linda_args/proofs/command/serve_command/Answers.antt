@@ -10,5 +10,8 @@ returns c =
     let fifth = c.with_arg-fifth.ensures _ _ fourth c.lease_option.ensures.rule c.lease_option.ensures.own in
     let sixth = c.with_arg-sixth.ensures _ _ fifth c.flag-2.ensures.rule c.flag-2.ensures.own in
     let seventh = c.with_arg-seventh.ensures _ _ sixth c.status_option.ensures.rule c.status_option.ensures.own in
-    let eighth = c.with_arg-eighth.ensures _ _ seventh c.option.ensures.rule c.option.ensures.own in
-    c.with_arg.ensures _ _ eighth c.option-2.ensures.rule c.option-2.ensures.own
+    let eighth = c.with_arg-eighth.ensures _ _ seventh c.metric_option.ensures.rule c.metric_option.ensures.own in
+    let ninth = c.with_arg-ninth.ensures _ _ eighth c.option.ensures.rule c.option.ensures.own in
+    let tenth = c.with_arg-tenth.ensures _ _ ninth c.option-2.ensures.rule c.option-2.ensures.own in
+    let eleventh = c.with_arg-eleventh.ensures _ _ tenth c.flag-3.ensures.rule c.flag-3.ensures.own in
+    c.with_arg.ensures _ _ eleventh c.flag-4.ensures.rule c.flag-4.ensures.own

@@ -19,6 +19,8 @@ pub(super) enum Figure {
     /// Seconds.
     OldestHold,
     Clients,
+    /// Clients that are away and took a tuple by their last message.
+    TakenByAbsent,
     Connections,
     /// How many connections came.
     Came,
@@ -46,9 +48,9 @@ impl Figure {
         matches!(self, Figure::Took)
     }
 
-    /// What it comes to.
-    pub(super) fn value(self, gauge: &Gauge, tally: &Tally) -> u64
-        ensures { result ≡ value_of self gauge.now tally.now }
+    /// What it comes to; `absent` clients are away and took a tuple by their last message.
+    pub(super) fn value(self, gauge: &Gauge, tally: &Tally, absent: u64) -> u64
+        ensures { result ≡ value_of self gauge.now tally.now absent }
     {
         match self {
             Figure::Up => u64::from(!gauge.is_down),
@@ -58,6 +60,7 @@ impl Figure {
             Figure::Holds => gauge.holds as u64,
             Figure::OldestHold => gauge.oldest_hold,
             Figure::Clients => gauge.clients as u64,
+            Figure::TakenByAbsent => absent,
             Figure::Connections => connected(tally),
             Figure::Came => tally.came,
             Figure::Deeds => gauge.deeds,

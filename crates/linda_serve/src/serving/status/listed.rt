@@ -5,6 +5,7 @@ ghost use Rattle.std.specs.List.{flat_map};
 ghost use Rattle.linda_inspect.specs.Json.{IsPushed};
 ghost use Rattle.linda_serve.specs.Listed.{json_begun, json_client, json_client_page};
 ghost use Rattle.linda_serve.specs.Listed.{json_clients, json_connected, json_counts, json_held};
+ghost use Rattle.linda_serve.specs.Listed.{json_kept, json_reply};
 ghost use Rattle.linda_serve.specs.Listed.{json_later_client, json_later_row, json_named};
 ghost use Rattle.linda_serve.specs.Listed.{json_next};
 ghost use Rattle.linda_serve.specs.Listed.{json_placed, json_row, json_rows, json_text};
@@ -15,7 +16,7 @@ ghost use Rattle.linda_serve.specs.Listed.{json_tuple_page};
 
 use linda_hold::Request;
 use linda_inspect::{push_json_member, push_json_string, push_json_tuple};
-use linda_net::{ClientPage, ListedClient, ListedTuple, TuplePage};
+use linda_net::{ClientPage, ListedClient, ListedReply, ListedTuple, TuplePage};
 use linda_text::write_tuple;
 use linda_tuple::Tuple;
 use std::alloc::{AllocError, Global};
@@ -80,9 +81,13 @@ fn push_next(out: &mut Vec<u8>, next: Option<u64>) -> Result<(), AllocError>
     }
 }
 
-// Each tuple, and the end of the object.
+/// Appends each tuple, and the end of the object.
+///
+/// # Errors
+///
+/// `AllocError` if memory runs out; a part of it may then be there.
 #[tactic(auto, unfolding(crate::specs::Listed::json_rows_to_end))]
-fn push_rows_to_end(
+pub(super) fn push_rows_to_end(
     alloc: Global,
     out: &mut Vec<u8>,
     rows: &[ListedTuple],
@@ -266,9 +271,41 @@ fn push_later_client(out: &mut Vec<u8>, row: &ListedClient) -> Result<(), AllocE
 fn push_client(out: &mut Vec<u8>, row: &ListedClient) -> Result<(), AllocError>
     ensures { OnOk result (IsPushed out.old out.new (json_client row.now)) }
 {
-    push_named(out, row.client, row.number)?;
+    push_kept(out, row.client, row.number, row.reply)?;
     push_connection(out, row.is_connected, row.connected_for)?;
     push_counts(out, row.holds, row.waits)
+}
+
+// A client with its last number and the reply to that.
+#[tactic(auto, unfolding(crate::specs::Listed::json_kept))]
+fn push_kept(
+    out: &mut Vec<u8>,
+    client: u32,
+    number: u64,
+    reply: Option<ListedReply>,
+) -> Result<(), AllocError>
+    ensures { OnOk result (IsPushed out.old out.new (json_kept client number reply)) }
+{
+    push_named(out, client, number)?;
+    push_reply(out, reply)
+}
+
+// The reply that is kept for a client, and the id of the tuple that it speaks of.
+#[tactic(auto, unfolding(crate::specs::Listed::json_reply))]
+fn push_reply(out: &mut Vec<u8>, reply: Option<ListedReply>) -> Result<(), AllocError>
+    ensures { OnOk result (IsPushed out.old out.new (json_reply reply)) }
+{
+    match reply {
+        None => out.extend_from_slice(b",\"reply\":null,\"id\":null"),
+        Some(ListedReply::Stored(id)) => {
+            push_json_member(out, b",\"reply\":\"stored\",\"id\":", id)
+        }
+        Some(ListedReply::Taken(id)) => {
+            push_json_member(out, b",\"reply\":\"taken\",\"id\":", id)
+        }
+        Some(ListedReply::Gone) => out.extend_from_slice(b",\"reply\":\"gone\",\"id\":null"),
+        Some(ListedReply::Left) => out.extend_from_slice(b",\"reply\":\"left\",\"id\":null"),
+    }
 }
 
 // A client with its last number.

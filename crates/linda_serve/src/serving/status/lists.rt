@@ -97,9 +97,14 @@ pub(super) fn spell_wrong(wrong: Wrong, page: &mut String) -> Result<Told, Alloc
 
 /// Writes the bytes of an object of JSON, which are UTF-8.
 pub(super) fn spell_bytes(bytes: &[u8], page: &mut String) -> Result<Told, AllocError> {
+    spell_text(bytes, page)?;
+    Ok(Told::Page(JSON))
+}
+
+/// Writes bytes of JSON, which are UTF-8.
+pub(super) fn spell_text(bytes: &[u8], page: &mut String) -> Result<(), AllocError> {
     let Ok(text) = std::str::from_utf8(bytes) else {
         return Err(AllocError);
     };
-    page.push_str(text)?;
-    Ok(Told::Page(JSON))
+    page.push_str(text)
 }

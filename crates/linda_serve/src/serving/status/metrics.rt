@@ -9,17 +9,19 @@ use super::seconds::push_seconds;
 use linda_net::{Gauge, Tally};
 use std::alloc::AllocError;
 
-/// Writes all numbers behind what is there.
+/// Writes all numbers behind what is there; `absent` clients are away and took a tuple by their last
+/// message.
 pub(super) fn spell_metrics(
     page: &mut String,
     gauge: &Gauge,
     tally: &Tally,
+    absent: u64,
 ) -> Result<(), AllocError> {
     for row in ROWS {
         if !row.help.is_empty() {
             spell_head(page, &row)?;
         }
-        let value = row.figure.value(gauge, tally);
+        let value = row.figure.value(gauge, tally, absent);
         if row.figure.is_time() {
             spell_time(page, row.metric, row.label, value)?;
         } else {

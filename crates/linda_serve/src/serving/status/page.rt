@@ -1,8 +1,9 @@
 //! The page that people read.
 
-/// It asks for the numbers once a second, shows them, and draws the last minutes of some. It shows
-/// the ten tags of which there are most tuples, for which it asks every five seconds. Nothing of it
-/// comes from elsewhere.
+/// It asks for the numbers once a second, shows them, and draws the last minutes of some. Its heading
+/// and its title say which server it is. It shows the ten tags of which there are most tuples, and the
+/// ten clients that wait or hold a tuple for longest, for which it asks every five seconds, and leads
+/// to all lists. Nothing of it comes from elsewhere.
 pub(super) const PAGE: &str = r##"<!DOCTYPE html>
 <html lang="en">
 <head>
@@ -22,7 +23,10 @@ body { margin: 0; background: var(--back); color: var(--text);
 main { max-width: 68rem; margin: 0 auto; padding: 1.25rem 1rem 2rem; }
 header { display: flex; flex-wrap: wrap; align-items: baseline; gap: .25rem .75rem;
   margin-bottom: 1rem; }
-h1 { font-size: 1.3rem; margin: 0; }
+h1 { font-size: 1.3rem; margin: 0; overflow-wrap: anywhere; }
+#about, nav { color: var(--soft); font-variant-numeric: tabular-nums; }
+nav { display: flex; flex-wrap: wrap; gap: .25rem 1rem; margin-top: 1rem; }
+a { color: var(--line); }
 h2 { font-size: .85rem; font-weight: 600; margin: 0; color: var(--soft); }
 #state { font-weight: 600; color: var(--soft); }
 #state.up { color: var(--good); }
@@ -45,9 +49,13 @@ section { margin-top: .75rem; }
 </head>
 <body>
 <main>
-<header><h1>linda serve</h1><span id="state" role="status">asking</span></header>
+<header><h1 id="name">linda serve</h1><span id="state" role="status">asking</span>
+<span id="about"></span></header>
 <section class="grid" id="charts"></section>
 <section class="grid" id="lists"></section>
+<nav><a href="/tuples">Tuples</a><a href="/clients">Clients</a><a href="/tags">Tags</a>
+<a href="/longest">Longest</a>
+<a href="/metrics">Metrics</a><a href="/status.json">Numbers</a></nav>
 </main>
 <script>
 "use strict";
@@ -55,8 +63,8 @@ const MOST = 300;
 const CHARTS = [["rate", "Deeds a second"], ["tuples", "Tuples"], ["waits", "Asks that wait"],
   ["holds", "Tuples held"]];
 const LISTS = [
-  ["Clients", { clients: "Clients known", connections: "Connections open",
-    connections_total: "Connections that came", unserved_total: "Connections not served",
+  ["Clients", { clients: "Clients known", taken_by_absent: "Away, took a tuple last",
+    connections: "Connections open", connections_total: "Connections that came", unserved_total: "Connections not served",
     late_total: "Leases run out", oldest_hold_seconds: "Oldest hold, seconds",
     oldest_wait_seconds: "Oldest wait, seconds" }],
   ["Store", { deeds_total: "Deeds", records: "Records", next_id: "Next id",
@@ -106,19 +114,59 @@ for (const [title, rows] of LISTS) {
   }
 }
 
-const card = add(byId("lists"), "div");
-card.className = "card";
-add(card, "h2", "Most tuples, by tag and number of fields");
-const tags = add(card, "dl");
+function addList(title) {
+  const card = add(byId("lists"), "div");
+  card.className = "card";
+  add(card, "h2", title);
+  return add(card, "dl");
+}
+const tags = addList("Most tuples, by tag and number of fields");
+const longest = addList("Wait or hold for longest");
+const short = (word) => word.length > 40 ? word.slice(0, 40) + "…" : word;
 
 function showTags(found) {
   tags.replaceChildren();
   for (const row of found.tags) {
-    const tag = JSON.stringify(row.tag);
-    add(tags, "dt", (tag.length > 40 ? tag.slice(0, 40) + "…" : tag) + ", " + row.fields);
+    add(tags, "dt", short(JSON.stringify(row.tag)) + ", " + row.fields);
     add(tags, "dd", text(row.tuples));
   }
   if (!found.whole) add(tags, "dt", "and others");
+}
+
+function showLongest(found) {
+  const rows = found.waits.map((row) => [row.client, "waits for " + row.text, row.seconds]);
+  for (const row of found.holds) {
+    if (row.held) rows.push([row.held.client, "holds " + row.text, row.held_seconds]);
+  }
+  rows.sort((one, other) => other[2] - one[2]);
+  longest.replaceChildren();
+  for (const [client, what, seconds] of rows.slice(0, 10)) {
+    add(longest, "dt", "Client " + client + " " + short(what));
+    add(longest, "dd", span(seconds));
+  }
+  if (rows.length === 0) add(longest, "dt", "Nobody");
+}
+
+const UNITS = [[86400, "d"], [3600, "h"], [60, "min"], [1, "s"]];
+function span(seconds) {
+  const first = UNITS.findIndex(([size]) => seconds >= size || size === 1);
+  let rest = seconds;
+  return UNITS.slice(first, first + 2).map(([size, unit]) => {
+    const count = Math.floor(rest / size);
+    rest -= count * size;
+    return count + " " + unit;
+  }).join(" ");
+}
+
+function showAbout(now) {
+  const places = [];
+  if (now.port !== null) places.push("port " + now.port);
+  if (now.socket !== null) places.push("socket " + now.socket);
+  const name = now.folder + ", " + places.join(", ");
+  byId("name").textContent = name;
+  document.title = name + " – linda serve";
+  byId("about").textContent = "linda " + now.version
+    + (now.uptime_seconds === null ? "" : ", began " + span(now.uptime_seconds) + " ago");
 }
 
 async function get(path) {
@@ -149,6 +197,7 @@ function show(now) {
   now.rate = before ? Math.max(now.deeds_total - before.deeds, 0) * 1000 / (at - before.at) : 0;
   now.size = now.groups_total ? now.group_messages_total / now.groups_total : 0;
   before = { at, deeds: now.deeds_total };
+  showAbout(now);
   for (const chart of charts) draw(chart, now[chart.key]);
   for (const key in values) values[key].textContent = text(now[key]);
 }
@@ -164,7 +213,10 @@ async function ask() {
     show(now);
     if (now.up) say("up", "up");
     else say("down", "down");
-    if (turn++ % 5 === 0) showTags(await get("/tags?limit=10"));
+    if (turn++ % 5 === 0) {
+      showTags(await get("/tags?limit=10"));
+      showLongest(await get("/longest?limit=10"));
+    }
   } catch {
     before = null;
     say("no answer", "down");

@@ -23,7 +23,7 @@ pub(super) struct Row {
 }
 
 /// All of them, in their order.
-pub(super) const ROWS: [Row; 24] = [
+pub(super) const ROWS: [Row; 25] = [
     Row {
         figure: Figure::Up,
         metric: "linda_up",
@@ -79,6 +79,14 @@ pub(super) const ROWS: [Row; 24] = [
         key: "clients",
         kind: GAUGE,
         help: "Clients for which a reply is kept.",
+    },
+    Row {
+        figure: Figure::TakenByAbsent,
+        metric: "linda_taken_by_absent",
+        label: "",
+        key: "taken_by_absent",
+        kind: GAUGE,
+        help: "Clients without a connection whose last message took a tuple.",
     },
     Row {
         figure: Figure::Connections,

@@ -1,7 +1,10 @@
-use Rattle.std.proofs.Common.{Some, true, false, is_some, Result, Ok, Err, sym, ap, subst, ◌∙◌}
+use Rattle.std.proofs.Common.{Some, true, false, is_some, nat_cmp, Result, Ok, Err, sym, ap, subst, ◌∙◌}
+use Rattle.std.specs.BTreeMap.{is_at}
+use Rattle.std.specs.List.{list_any}
 use Rattle.std.specs.Result.{OnErr}
 use Rattle.std.specs.Option.{option_copied}
 use Rattle.linda_bag.specs.Filing.{HasIds}
+use Rattle.linda_bag.specs.Firsts.{HasFirsts}
 use Rattle.linda_bag.proofs.FilingLaws.{same_rows}
 use Rattle.linda_hold.specs.Group.{if_unkeyed, unkeyed_of}
 use Rattle.linda_bag.proofs.FirstLaws.{unfiled}
@@ -17,6 +20,12 @@ pub returns-in_err-put-in-Some-clause-err : goal.returns-in_err-put-in-Some-clau
 returns-in_err-put-in-Some-clause-err c = on_err_there c.from_residual.result (λ rows there known. (
   c.in_err-put-in-Some.ensures.err rows there known.0,
   subst (λ rs. HasIds c.args.self.now.unkeyed (unkeyed_of rs)) (sym (same_rows rows c.args.id _ there)) known.1,
+))
+
+pub returns-in_err-insert-in-None-clause-err : goal.returns-in_err-insert-in-None-clause-err
+returns-in_err-insert-in-None-clause-err c = on_err_there c.from_residual-in_err-insert-in-None.result (λ rows there known. (
+  subst (HasFirsts first_of c.args.self.now.firsts) (sym (same_rows rows c.args.id _ there)) known.0,
+  subst (λ rs. HasIds c.insert.new.self (unkeyed_of rs)) (sym (same_rows rows c.args.id _ there)) (λ q. ap (λ ks. list_any (is_at (nat_cmp q)) ks) c.in_err-insert-in-None.ensures.err ∙ known.1 q),
 ))
 
 pub returns-in_ok-put-in-Some-clause-ok : goal.returns-in_ok-put-in-Some-clause-ok

@@ -1,8 +1,5 @@
-use Rattle.linda_snap.proofs.DraftLaws.{all_written, all_fit}
+use Rattle.linda_snap.proofs.DraftLaws.{all_tuples}
 use Rattle.linda_snap.proofs.draft.Draft.into_book.Goals as goal
 
-pub returns-clause-spelled : goal.returns-clause-spelled
-returns-clause-spelled c begun bytes now owes through = all_written begun c.args.self bytes now owes through
-
-pub returns-clause-fits : goal.returns-clause-fits
-returns-clause-fits c begun bytes now owes through short = all_fit begun c.args.self bytes now owes through short
+pub returns-clause-tuples : goal.returns-clause-tuples
+returns-clause-tuples c begun bytes now owes through short = all_tuples begun c.args.self bytes now owes through short

@@ -1,4 +1,4 @@
-use Rattle.std.proofs.Common.{Some, refl, ◌≡◌, ◌++◌, ◌∙◌, ap, arith, length}
+use Rattle.std.proofs.Common.{Some, None, refl, ◌≡◌, ◌++◌, ◌∙◌, ap, arith, length}
 use Rattle.linda_store_state.specs.DeedFormat.{written}
 use Rattle.linda_snap.specs.Snapshot.{spell_state}
 use Rattle.linda_snap.specs.Successor.{heading}
@@ -12,5 +12,5 @@ returns-in-Ok-spell_start-clause-follows g c =
     let front : c.in-Ok-spell_start.bytes.items ≡ heading n (length (spell_state written st)) ++ c.in-Ok.first.items =
     c.in-Ok-spell_start.ensures ∙ ap (λ l. heading n l ++ c.deref.result.now) (c.len-len.ensures ∙ c.in-Ok.ensures.len) ∙ ap (λ b. heading n (length (spell_state written st)) ++ b) c.deref.ensures.value
     in
-    begins record { generation = n; limit = c.args.limit; len = c.len-len.result; draft = Some c.in-Ok.draft; since = c.new.result; records = 0 } c.in-Ok.draft c.in-Ok.first.items c.in-Ok-spell_start.bytes.items st c.requires.ranges refl
+    begins record { generation = n; limit = c.args.limit; len = c.len-len.result; draft = Some c.in-Ok.draft; clients = None; since = c.new.result; records = 0 } c.in-Ok.draft c.in-Ok.first.items c.in-Ok-spell_start.bytes.items st c.requires.ranges refl
     c.in-Ok.ensures.begun c.in-Ok.ensures.next (omega (arith, c.in-Ok.ensures.room, c.requires.short)) c.requires.low (omega (arith, c.ranges.generation.fits)) c.new.ensures.0 c.new.ensures.1 front

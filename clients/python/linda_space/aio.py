@@ -1,0 +1,590 @@
+"""Spaces for asyncio: `Space` and `Pool` with the calls of `linda_space`, as coroutines.
+
+    from linda_space import INT
+    from linda_space.aio import Pool, Space
+
+    async with Space([7000], client=7) as space:
+        await space.out("job", 1)
+        async with space.hold("job", INT) as offer:
+            await offer.accept()
+
+The calls of one `Space` are done one after another, in the order in which they were made; a `Pool` does several at once. A call that is cancelled loses nothing:
+a tuple that was just being taken is what the next take that it fits gets, and an `out` that was sent is finished by the next call (`settled`). No thread is used,
+but for `hold(.., keep=)`. A `Space` belongs to the loop in which it was opened.
+"""
+
+from __future__ import annotations
+
+import asyncio
+import math
+import time
+from collections import deque
+from contextlib import asynccontextmanager
+from types import TracebackType
+from typing import (
+    Any, AsyncContextManager, AsyncIterator, Awaitable, Callable, Deque, Dict, Generic, Iterable, List, Optional, Sequence, Tuple, Type, TypeVar, Union, cast,
+    overload)
+
+from . import offers, space as threads, working
+from .errors import Closed, Forked, Gone, NoConnection, NoNumber, OutOfRange, Refused, SpaceError, TimedOut
+from .events import Alarm, Choose, Event, In, Rd, as_event
+from .limits import NUMBER_LIMIT, RENEWAL, SHORTEST_PAUSE
+from .links import Port
+from .machine import Ended, Settled
+from .numbers import Client
+from .pool import FINISH, MOST_MEMBERS
+from .results import Kept, Outcome, Stored
+from .space import Course
+from .together import ManyStored, ManyTaken
+from .values import Pattern, Value, Values, as_seconds, as_tuple, within
+
+Got = TypeVar("Got")
+Held = TypeVar("Held", covariant=True)
+
+
+class Offer:
+    """A tuple that is held for this client and not taken, as `linda_space.Offer`; `accept` is a coroutine."""
+
+    def __init__(self, space: Space, offer: offers.Offer) -> None:
+        self._owner, self._offer = space, offer
+        self.server, self.id, self.tuple, self.binds = offer.server, offer.id, offer.tuple, offer.binds
+
+    def __repr__(self) -> str:
+        return repr(self._offer)
+
+    @property
+    def is_taken(self) -> bool:
+        return self._offer.is_taken
+
+    @property
+    def is_held(self) -> bool:
+        """Whether it is held still, as far as is known now."""
+        return self._offer.is_held
+
+    async def accept(self, timeout: Optional[float] = None) -> Values:
+        """Takes the tuple, and returns it; raises as `linda_space.Offer.accept`."""
+        return await self._owner._accept(self._offer, timeout)
+
+    def renew(self) -> None:
+        """Says that this client is still at work; raises Gone if the hold is lost."""
+        self._offer.renew()
+
+    def release(self) -> None:
+        """Gives the tuple free again, if it is held and was not accepted."""
+        self._offer.release()
+
+
+class Hold(Generic[Held]):
+    """What `Space.hold` returns, for an `async with`: as `linda_space.Hold`."""
+
+    def __init__(self, space: Space, event: In, timeout: Optional[float], keep: Optional[float]) -> None:
+        self._space, self._event, self._timeout, self._keep = space, event, timeout, keep
+        self._offer: Optional[offers.Offer] = None
+
+    async def __aenter__(self) -> Held:
+        self._offer = await self._space._hold(self._event, self._timeout, self._keep)
+        return cast(Held, None if self._offer is None else Offer(self._space, self._offer))
+
+    async def __aexit__(self, kind: Optional[Type[BaseException]], fault: Optional[BaseException], trace: Optional[TracebackType]) -> None:
+        offer = self._offer
+        if offer is not None and not offer.is_taken:
+            is_lost = self._space._inner._is_lost(offer)
+            offer.release()
+            if is_lost and kind is None:
+                raise Gone((offer,))
+
+
+class Space:
+    """A client of servers, as `linda_space.Space`. Use it in an `async with`, or `await` its `open` first and call `close` at the end."""
+
+    def __init__(self, ports: Sequence[Port], client: Client = None, **how: Any) -> None:
+        """The arguments are those of `linda_space.Space`; nothing is greeted before `open`."""
+        self._inner = object.__new__(threads.Space)
+        self._greetings: Optional[Course[None]] = self._inner._prepare(ports, client, **how)
+        self._turn: Optional[asyncio.Lock] = None
+        self._waiter: Optional[asyncio.Future[None]] = None
+
+    async def open(self) -> None:
+        """Greets each server. Raises as `linda_space.Space` does."""
+        greetings, self._greetings = self._greetings, None
+        if greetings is None:
+            return
+        self._turn = asyncio.Lock()
+        try:
+            await self._drive(greetings)
+        except BaseException:
+            self.close()
+            raise
+
+    async def __aenter__(self) -> Space:
+        await self.open()
+        return self
+
+    async def __aexit__(self, kind: Optional[Type[BaseException]], fault: Optional[BaseException], trace: Optional[TracebackType]) -> None:
+        self.close()
+
+    def close(self) -> None:
+        """Ends all connections, and waits for nothing. A call that waits raises Closed."""
+        if self._waiter is None:
+            self._inner.close()
+            return
+        self._inner._is_closed = True
+        if not self._waiter.done():
+            self._waiter.set_result(None)
+
+    # ---- what one asks for
+
+    @property
+    def client(self) -> int:
+        """The number of this client."""
+        return self._inner.client
+
+    @property
+    def pending(self) -> Optional[str]:
+        """What is pending after an error."""
+        return self._inner.pending
+
+    @property
+    def settled(self) -> Settled:
+        """How a call ended that was cancelled, if the next call finished it."""
+        return self._inner.settled
+
+    def after(self, seconds: float) -> Alarm:
+        """An alarm that is ready so many seconds from now."""
+        return self._inner.after(seconds)
+
+    def clock(self) -> int:
+        """The time by the clock of the space, in milliseconds since it began."""
+        return self._inner.clock()
+
+    async def out(self, tag: Value, *fields: Value, timeout: Optional[float] = None) -> Tuple[int, int]:
+        """As `linda_space.Space.out`."""
+        values = as_tuple((tag, *fields))
+        ended = await self._call(lambda: self._inner._machine.out(values), timeout)
+        assert isinstance(ended, Stored)
+        return ended.server, ended.id
+
+    async def out_many(self, tuples: Iterable[Sequence[Value]], timeout: Optional[float] = None) -> List[Optional[Tuple[int, Optional[int]]]]:
+        """As `linda_space.Space.out_many`."""
+        many = [as_tuple(values) for values in tuples]
+        if not many:
+            return []
+        ended = await self._call(lambda: self._inner._machine.out_many(many), timeout)
+        assert isinstance(ended, ManyStored)
+        return ended.places
+
+    @overload
+    async def take(self, tag: Value, *patterns: Pattern, timeout: None = None) -> Values: ...
+
+    @overload
+    async def take(self, tag: Value, *patterns: Pattern, timeout: Optional[float]) -> Optional[Values]: ...
+
+    async def take(self, tag: Value, *patterns: Pattern, timeout: Optional[float] = None) -> Optional[Values]:
+        """As `linda_space.Space.take`."""
+        return cast(Optional[Values], (await self.choose(In(tag, *patterns), timeout=timeout)).tuple)
+
+    async def take_many(self, tag: Value, *patterns: Pattern, count: int, timeout: Optional[float] = None) -> List[Values]:
+        """As `linda_space.Space.take_many`."""
+        event, most = In(tag, *patterns), within("a count", count, 0, NUMBER_LIMIT)
+        ended = await self._call(lambda: self._inner._machine.take_many(event, most, False), timeout)
+        assert isinstance(ended, ManyTaken)
+        return ended.tuples
+
+    async def purge(self, tag: Value, *patterns: Pattern, timeout: Optional[float] = None) -> int:
+        """As `linda_space.Space.purge`."""
+        event = In(tag, *patterns)
+        ended = await self._call(lambda: self._inner._machine.take_many(event, None, True), timeout)
+        assert isinstance(ended, ManyTaken)
+        return ended.count
+
+    @overload
+    async def read(self, tag: Value, *patterns: Pattern, timeout: None = None) -> Values: ...
+
+    @overload
+    async def read(self, tag: Value, *patterns: Pattern, timeout: Optional[float]) -> Optional[Values]: ...
+
+    async def read(self, tag: Value, *patterns: Pattern, timeout: Optional[float] = None) -> Optional[Values]:
+        """As `linda_space.Space.read`."""
+        return cast(Optional[Values], (await self.choose(Rd(tag, *patterns), timeout=timeout)).tuple)
+
+    async def look(self, tag: Value, *patterns: Pattern, timeout: Optional[float] = None) -> Optional[Values]:
+        """As `linda_space.Space.look`."""
+        rd = Rd(tag, *patterns)
+        return cast(Optional[Values], (await self._sync(lambda: Choose(rd, self.after(0)), True, True, timeout)).tuple)
+
+    async def choose(self, *branches: Event, timeout: Optional[float] = None) -> Outcome:
+        """As `linda_space.Space.choose`."""
+        events = [as_event(branch) for branch in branches]
+        if timeout is None:
+            return await self.sync(Choose(*events))
+        alarm = self.after(timeout)
+        return await self._sync(lambda: Choose(*events, alarm), True, timeout == 0)
+
+    async def sync(self, event: Event) -> Outcome:
+        """As `linda_space.Space.sync`."""
+        whole = as_event(event)
+        return await self._sync(lambda: whole)
+
+    @overload
+    def hold(self, tag: Value, *patterns: Pattern, timeout: None = None, keep: Optional[float] = None) -> Hold[Offer]: ...
+
+    @overload
+    def hold(self, tag: Value, *patterns: Pattern, timeout: Optional[float], keep: Optional[float] = None) -> Hold[Optional[Offer]]: ...
+
+    def hold(self, tag: Value, *patterns: Pattern, timeout: Optional[float] = None, keep: Optional[float] = None) -> Any:
+        """For an `async with`: as `linda_space.Space.hold`."""
+        return Hold(self, In(tag, *patterns), None if timeout is None else as_seconds("a timeout", timeout),
+                    None if keep is None else as_seconds("the time between renewals", keep, SHORTEST_PAUSE))
+
+    async def work(self, template: working.Template, function: Callable[[Values], Any], *, tries: Optional[int] = None, delay: float = 1.0,
+                   dead: Value = "dead", stop: working.Stop = None, keep: float = RENEWAL, timeout: Optional[float] = None) -> int:
+        """Does one job after another, as `linda_space.Space.work`; the function may be a coroutine function. While it runs, other calls of the space may be made."""
+        plan = working.Plan(template, tries, delay, dead, stop, keep, timeout)
+        steps = working.Worker(self._inner, _Calls(self), plan, function).steps()
+        try:
+            step = next(steps)
+            while True:
+                try:
+                    value = step()
+                    if isinstance(value, Awaitable):
+                        value = await value
+                except BaseException as fault:
+                    step = steps.throw(fault)
+                else:
+                    step = steps.send(value)
+        except StopIteration as ended:
+            return cast(int, ended.value)
+
+    async def last_reply(self, server: int = 0, timeout: Optional[float] = None) -> Optional[Kept]:
+        """As `linda_space.Space.last_reply`."""
+        place = within("a server", server, 0, len(self._inner._links) - 1)
+        ended = await self._call(lambda: self._inner._machine.repeat(place), timeout)
+        assert ended is None or isinstance(ended, Kept)
+        return ended
+
+    async def leave(self, timeout: Optional[float] = None) -> None:
+        """As `linda_space.Space.leave`."""
+        await self._call(self._inner._machine.leave, timeout)
+
+    async def again(self, timeout: Optional[float] = None) -> Settled:
+        """As `linda_space.Space.again`."""
+        inner = self._inner
+        inner._has_pending()
+        ended = await self._call(inner._machine.go_on, timeout, is_again=True) if not inner._machine.in_hand else None
+        return inner._again_as(ended)
+
+    def abandon(self) -> Tuple[int, ...]:
+        """As `linda_space.Space.abandon`."""
+        return self._inner.abandon()
+
+    # ---- how it goes on
+
+    async def _sync(self, event: Callable[[], Event], has_limit: bool = False, is_poll: bool = False, timeout: Optional[float] = None) -> Outcome:
+        def begin() -> None:
+            self._inner._machine.tick(self._inner._now())
+            self._inner._machine.sync(event(), has_limit, is_poll)
+
+        ended = await self._call(begin, timeout)
+        assert isinstance(ended, Outcome)
+        return ended
+
+    async def _hold(self, event: In, timeout: Optional[float], keep: Optional[float]) -> Optional[offers.Offer]:
+        alarms = [] if timeout is None else [self.after(timeout)]
+        ended = await self._hold_or(Choose(event, *alarms), timeout is not None, timeout == 0)
+        if not isinstance(ended, offers.Offer):
+            return None
+        if keep is not None:
+            self._inner._keeper.keep(ended, keep)
+        return ended
+
+    async def _hold_or(self, event: Event, has_limit: bool = False, is_poll: bool = False,
+                       is_over: Optional[Callable[[], bool]] = None) -> Union[offers.Offer, Outcome, None]:
+        def begin() -> None:
+            self._inner._machine.tick(self._inner._now())
+            self._inner._machine.sync(event, has_limit, is_poll, True)
+
+        ended = await self._call(begin, is_over=is_over)
+        if isinstance(ended, offers.Offer):
+            ended._space = self._inner
+        assert ended is None or isinstance(ended, (offers.Offer, Outcome))
+        return ended
+
+    async def _accept(self, offer: offers.Offer, timeout: Optional[float] = None) -> Values:
+        if not offer.is_taken:
+            ended = await self._call(lambda: self._inner._machine.take_held(offer), timeout, offer=offer)
+            if isinstance(ended, Gone):
+                raise ended
+        return offer.tuple
+
+    async def _pass_over(self, server: int) -> None:
+        await self._call(lambda: self._inner._machine.pass_over(server))
+
+    async def _call(self, begin: Callable[[], None], timeout: Optional[float] = None, is_again: bool = False, offer: Optional[offers.Offer] = None,
+                    is_over: Optional[Callable[[], bool]] = None) -> Optional[Ended]:
+        """One call, once those before it have ended."""
+        self._inner._be_mine()
+        if self._turn is None:
+            raise Closed("the space is not open yet: use it in an async with, or await its open()")
+        async with self._turn:
+            return await self._drive(self._inner._course(begin, timeout, is_again, offer, is_over))
+
+    async def _drive(self, course: Course[Got]) -> Got:
+        """Runs a call, and lets other tasks run while it waits."""
+        inner, loop = self._inner, asyncio.get_running_loop()
+        with inner._gate:
+            inner._enter(threads.TASK)
+        has_reader = False
+        try:
+            with inner._gate:
+                wake = next(course)
+            while True:
+                fault: Optional[BaseException] = None
+                try:
+                    if not has_reader:
+                        loop.add_reader(inner._selector.fileno(), self._wake)       # type: ignore[attr-defined]
+                        has_reader = True
+                    await self._pause(loop, wake)
+                except asyncio.CancelledError as cancelled:
+                    with inner._gate:
+                        try:
+                            course.throw(threads.Interrupted())
+                        except (threads.Interrupted, StopIteration):
+                            pass
+                    raise cancelled
+                with inner._gate:
+                    try:
+                        inner._serve(inner._selector.select(0))
+                    except BaseException as other:
+                        fault = other
+                    wake = next(course) if fault is None else course.throw(fault)
+        except StopIteration as ended:
+            return cast(Got, ended.value)
+        finally:
+            if has_reader:
+                loop.remove_reader(inner._selector.fileno())        # type: ignore[attr-defined]
+            with inner._gate:
+                inner._leave_call()
+
+    def _wake(self) -> None:
+        if self._waiter is not None and not self._waiter.done():
+            self._waiter.set_result(None)
+
+    async def _pause(self, loop: asyncio.AbstractEventLoop, wake: float) -> None:
+        """Waits until something comes, or until this time."""
+        self._waiter = loop.create_future()
+        timer = None if wake == math.inf else loop.call_later(max(0.0, wake - time.monotonic()), self._wake)
+        try:
+            await self._waiter
+        finally:
+            self._waiter = None
+            if timer is not None:
+                timer.cancel()
+
+
+class _Calls:
+    """The calls of a worker in a task."""
+
+    def __init__(self, space: Space) -> None:
+        self.out, self.again = space.out, space.again
+        self.hold_or, self.accept, self.pass_over, self.sleep = space._hold_or, space._accept, space._pass_over, asyncio.sleep
+
+
+class Pool:
+    """Several spaces, as `linda_space.Pool`: any task makes calls at any time. Use it in an `async with`."""
+
+    def __init__(self, ports: Sequence[Port], client: Client = None, *, size: int = 16, **how: Any) -> None:
+        """The arguments are those of `linda_space.Pool`; members are made when they are needed."""
+        if isinstance(client, int):
+            raise OutOfRange(f"a pool needs several client numbers: {client!r}")
+        self._make: Callable[[], Space] = lambda: Space(ports, client, **how)
+        self._size = within("a size", size, 1, MOST_MEMBERS)
+        self._members: List[Space] = []
+        self._free: Deque[Space] = deque()
+        self._owed: Dict[Space, Deque[Values]] = {}
+        self._making = 0
+        self._is_closed = False
+        self._changed: Optional[asyncio.Condition] = None
+
+    async def __aenter__(self) -> Pool:
+        return self
+
+    async def __aexit__(self, kind: Optional[Type[BaseException]], fault: Optional[BaseException], trace: Optional[TracebackType]) -> None:
+        self.close()
+
+    def close(self) -> None:
+        """Closes all members: calls that wait raise Closed."""
+        self._is_closed = True
+        for member in self._members:
+            member.close()
+        self._members.clear()
+        self._free.clear()
+
+    # ---- members
+
+    async def _lend(self) -> Space:
+        """A member that is not in use, and has nothing pending."""
+        member = await self._next_member()
+        try:
+            await self._finish(member)
+        except (NoConnection, TimedOut, Refused) as fault:
+            await self._give_back(member, is_last=True)
+            fault.pending = None                            # that is of an earlier call
+            raise
+        except asyncio.CancelledError:
+            await self._give_back(member)
+            raise
+        except BaseException:
+            await self._drop(member)
+            raise
+        return member
+
+    async def _next_member(self) -> Space:
+        if self._changed is None:
+            self._changed = asyncio.Condition()
+        while True:
+            async with self._changed:
+                while True:
+                    if self._is_closed:
+                        raise Closed("the pool was closed")
+                    if self._free:
+                        return self._free.popleft()
+                    if len(self._members) + self._making < self._size:
+                        self._making += 1
+                        break
+                    await self._changed.wait()
+            member = self._make()
+            try:
+                await member.open()
+            except NoNumber:
+                if not self._members:
+                    raise
+                self._size = len(self._members)
+                continue
+            finally:
+                self._making -= 1
+            if self._is_closed:
+                member.close()
+                raise Closed("the pool was closed")
+            self._members.append(member)
+            return member
+
+    async def _finish(self, member: Space) -> None:
+        """Finishes what an error or a cancelled task left at a member. What was taken for a call that ended so is put back."""
+        owed = self._owed.setdefault(member, deque())
+        while True:
+            what = member.pending
+            if what is not None:
+                result = await member.again(timeout=FINISH)
+                if what == "sync" and isinstance(result, Outcome):
+                    owed.append(result.tuple)
+                elif what == "take_many" and isinstance(result, list):
+                    owed.extend(values for values in result if values is not None)
+            elif owed:
+                values = owed.popleft()
+                try:
+                    await member.out(*values, timeout=FINISH)
+                except SpaceError:
+                    if member.pending is None:
+                        owed.appendleft(values)
+                    raise
+            else:
+                del self._owed[member]
+                return
+
+    async def _give_back(self, member: Space, is_last: bool = False) -> None:
+        if self._is_closed:
+            return
+        if is_last:
+            self._free.append(member)
+        else:
+            self._free.appendleft(member)
+        await self._notify()
+
+    async def _drop(self, member: Space) -> None:
+        """A member that is of no use any more."""
+        if member in self._members:
+            self._members.remove(member)
+        member.close()
+        await self._notify()
+
+    async def _notify(self) -> None:
+        assert self._changed is not None
+        async with self._changed:
+            self._changed.notify()
+
+    @asynccontextmanager
+    async def _lent(self) -> AsyncIterator[Space]:
+        member = await self._lend()
+        is_last = is_useless = False
+        try:
+            yield member
+        except SpaceError as fault:
+            is_last, is_useless = isinstance(fault, (NoConnection, TimedOut)), member._inner._over is not None
+            raise
+        finally:
+            await asyncio.shield(self._drop(member) if is_useless else self._give_back(member, is_last))
+
+    async def _do(self, call: Callable[[Space], Awaitable[Got]]) -> Got:
+        async with self._lent() as member:
+            return await call(member)
+
+    # ---- calls, as those of Space
+
+    async def out(self, tag: Value, *fields: Value, timeout: Optional[float] = None) -> Tuple[int, int]:
+        """As `Space.out`."""
+        return await self._do(lambda space: space.out(tag, *fields, timeout=timeout))
+
+    async def out_many(self, tuples: Iterable[Sequence[Value]], timeout: Optional[float] = None) -> List[Optional[Tuple[int, Optional[int]]]]:
+        """As `Space.out_many`."""
+        return await self._do(lambda space: space.out_many(tuples, timeout))
+
+    @overload
+    async def take(self, tag: Value, *patterns: Pattern, timeout: None = None) -> Values: ...
+
+    @overload
+    async def take(self, tag: Value, *patterns: Pattern, timeout: Optional[float]) -> Optional[Values]: ...
+
+    async def take(self, tag: Value, *patterns: Pattern, timeout: Optional[float] = None) -> Optional[Values]:
+        """As `Space.take`. A tuple that was just being taken when the task was cancelled is put back."""
+        return await self._do(lambda space: space.take(tag, *patterns, timeout=timeout))
+
+    async def take_many(self, tag: Value, *patterns: Pattern, count: int, timeout: Optional[float] = None) -> List[Values]:
+        """As `Space.take_many`."""
+        return await self._do(lambda space: space.take_many(tag, *patterns, count=count, timeout=timeout))
+
+    async def purge(self, tag: Value, *patterns: Pattern, timeout: Optional[float] = None) -> int:
+        """As `Space.purge`."""
+        return await self._do(lambda space: space.purge(tag, *patterns, timeout=timeout))
+
+    @overload
+    async def read(self, tag: Value, *patterns: Pattern, timeout: None = None) -> Values: ...
+
+    @overload
+    async def read(self, tag: Value, *patterns: Pattern, timeout: Optional[float]) -> Optional[Values]: ...
+
+    async def read(self, tag: Value, *patterns: Pattern, timeout: Optional[float] = None) -> Optional[Values]:
+        """As `Space.read`."""
+        return await self._do(lambda space: space.read(tag, *patterns, timeout=timeout))
+
+    async def look(self, tag: Value, *patterns: Pattern, timeout: Optional[float] = None) -> Optional[Values]:
+        """As `Space.look`."""
+        return await self._do(lambda space: space.look(tag, *patterns, timeout=timeout))
+
+    async def choose(self, *branches: Event, timeout: Optional[float] = None) -> Outcome:
+        """As `Space.choose`."""
+        return await self._do(lambda space: space.choose(*branches, timeout=timeout))
+
+    @overload
+    def hold(self, tag: Value, *patterns: Pattern, timeout: None = None, keep: Optional[float] = None) -> AsyncContextManager[Offer]: ...
+
+    @overload
+    def hold(self, tag: Value, *patterns: Pattern, timeout: Optional[float], keep: Optional[float] = None) -> AsyncContextManager[Optional[Offer]]: ...
+
+    def hold(self, tag: Value, *patterns: Pattern, timeout: Optional[float] = None, keep: Optional[float] = None) -> AsyncContextManager[Any]:
+        """As `Space.hold`: the member is in use until the end of the block."""
+        return self._hold(tag, patterns, timeout, keep)
+
+    @asynccontextmanager
+    async def _hold(self, tag: Value, patterns: Tuple[Pattern, ...], timeout: Optional[float], keep: Optional[float]) -> AsyncIterator[Optional[Offer]]:
+        async with self._lent() as member, member.hold(tag, *patterns, timeout=timeout, keep=keep) as offer:
+            yield offer

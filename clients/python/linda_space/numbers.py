@@ -1,0 +1,165 @@
+"""Which client number a space takes: one that is given, one of several, or one that a program keeps in a file of its own.
+
+The file of a program has a number a line. It is in the folder `$LINDA_STATE`, else `$XDG_STATE_HOME/linda`, else `~/.local/state/linda`, and its name is the
+program's, with the first 12 digits of the SHA-256 of the program's whole path: `square-1f0c9b3a7d52.numbers`. The server says which of them are in use, so
+several copies of a program may run at once.
+"""
+
+from __future__ import annotations
+
+import hashlib
+import os
+import random
+import sys
+import time
+from pathlib import Path
+from typing import TYPE_CHECKING, Generator, List, Optional, Sequence, Tuple, Union, cast
+
+from .errors import NoNumber, OutOfRange, Refused
+from .limits import BUSY_PATIENCE, LONGEST_PAUSE, MOST_CLIENT
+from .results import Kept
+from .values import within
+
+if TYPE_CHECKING:
+    from .links import Link
+    from .machine import Machine
+    from .space import Space
+
+LEAST_DRAWN = 1 << 31                   # new numbers of files are from here on
+MOST_DRAWS = 64
+
+Client = Union[int, Sequence[int], "os.PathLike[str]", str, None]
+Course = Generator[float, None, None]
+
+
+def program_file() -> Path:
+    """The file in which this program keeps its numbers."""
+    program = os.path.realpath(sys.argv[0]) if sys.argv and sys.argv[0] else sys.executable
+    folder = os.environ.get("LINDA_STATE") or os.path.join(os.environ.get("XDG_STATE_HOME") or os.path.expanduser("~/.local/state"), "linda")
+    return Path(folder) / f"{Path(program).stem}-{hashlib.sha256(os.fsencode(program)).hexdigest()[:12]}.numbers"
+
+
+class Numbers:
+    """The numbers that a space may take: `several`, or those of the file at `path`, or only `first`."""
+
+    def __init__(self, client: Client) -> None:
+        self.path: Optional[Path] = None
+        self.several: Optional[List[int]] = None
+        self.first = 0
+        if client is None or isinstance(client, os.PathLike) or isinstance(client, str) and "/" in client:
+            self.path = program_file() if client is None else Path(client)
+        elif isinstance(client, Sequence) and not isinstance(client, (str, bytes)):
+            self.several = [within("a client", number, 0, MOST_CLIENT) for number in client]
+            if not self.several:
+                raise OutOfRange("there is no client number")
+            self.first = self.several[0]
+        else:
+            self.first = within("a client", client, 0, MOST_CLIENT)
+
+    def read(self) -> List[int]:
+        """The numbers of the file, each once; none if it is not there yet. Raises NoNumber if it cannot be read, or has something else."""
+        assert self.path is not None
+        try:
+            lines = self.path.read_text(encoding="ascii").split()
+            return list(dict.fromkeys(within("a client", int(line), 0, MOST_CLIENT) for line in lines))
+        except FileNotFoundError:
+            return []
+        except (OSError, ValueError) as fault:
+            raise NoNumber(f"the file of client numbers {self.path}: {fault}") from fault
+
+    def add(self, number: int) -> None:
+        """Adds a number to the file, in one write. Raises NoNumber if that cannot be done."""
+        assert self.path is not None
+        try:
+            self.path.parent.mkdir(parents=True, exist_ok=True)
+            file = os.open(self.path, os.O_WRONLY | os.O_APPEND | os.O_CREAT | os.O_CLOEXEC, 0o600)
+            try:
+                os.write(file, f"{number}\n".encode())
+                os.fsync(file)
+            finally:
+                os.close(file)
+        except OSError as fault:
+            raise NoNumber(f"the file of client numbers {self.path}: {fault}") from fault
+
+
+def choose_number(space: Space, numbers: Numbers, fresh: bool) -> Course:
+    """Greets each server under a number that is to be had."""
+    if numbers.path is not None:
+        yield from _of_file(space, numbers)
+    elif numbers.several is None:
+        yield from space._greet(numbers.first, fresh)
+    else:
+        until = time.monotonic() + min(BUSY_PATIENCE, space._patience)
+        while not (yield from _of_several(space, numbers.several, fresh, True)):
+            if fresh or time.monotonic() >= until:
+                raise NoNumber(f"none of the client numbers from {numbers.several[0]} to {numbers.several[-1]} is to be had")
+            yield from _rest()
+
+
+def _of_file(space: Space, numbers: Numbers) -> Course:
+    """Under a number of the file, or under a new one."""
+    if (yield from _of_several(space, numbers.read(), False, False)):
+        return
+    for _ in range(MOST_DRAWS):
+        number = random.SystemRandom().randint(LEAST_DRAWN, MOST_CLIENT)
+        if (yield from _try(space, number, True)) is not None:
+            numbers.add(number)
+            return
+    raise NoNumber(f"none of {MOST_DRAWS} new client numbers is to be had")
+
+
+def _of_several(space: Space, numbers: Sequence[int], fresh: bool, stops: bool) -> Generator[float, None, bool]:
+    """Under the first number whose last reply is Taken, else under the first that is to be had; if `stops` none is looked at after one that was never used.
+    Whether there was one. A number that was found is kept, with its connections, while others are looked at."""
+    found: Optional[Tuple[Machine, List[Link]]] = None
+    try:
+        for number in numbers:
+            kept = yield from _try(space, number, fresh)
+            if kept is None:
+                continue
+            if fresh or any(reply is not None and reply.kind == "taken" for reply in kept):
+                return True
+            was_used = any(reply is not None for reply in kept)
+            if found is None:
+                if not was_used and stops:
+                    return True
+                found = space._machine, space._set_aside()
+            else:
+                space._let_go_all()
+            if not was_used and stops:
+                break
+        if found is None:
+            return False
+        space._let_go_all()
+        space._take_back(*found)
+        found = None
+        return True
+    finally:
+        if found is not None:
+            for link in found[1]:
+                space._let_go(link)
+
+
+def _try(space: Space, number: int, fresh: bool) -> Generator[float, None, Optional[List[Optional[Kept]]]]:
+    """Greets each server under this number: the replies that they keep, with `fresh` only that there are none. None, and no connection, if it is in use, was given
+    up, or with `fresh` was used."""
+    try:
+        yield from space._greet(number, fresh, True)
+        kept: List[Optional[Kept]] = []
+        for server in range(0 if fresh else len(space._links)):
+            ended = yield from space._course(lambda server=server: space._machine.repeat(server), None, False, None, None)     # type: ignore[misc]
+            kept.append(cast(Optional[Kept], ended))
+        if not any(reply is not None and reply.kind == "left" for reply in kept):
+            return kept
+    except Refused as fault:
+        if fault.name not in ("Busy", "Known", "Left"):
+            raise
+    space._let_go_all()
+    return None
+
+
+def _rest() -> Generator[float, None, None]:
+    """A pause."""
+    until = time.monotonic() + LONGEST_PAUSE
+    while time.monotonic() < until:
+        yield until

@@ -1,0 +1,325 @@
+"""The loop of a worker that loses no job: `Space.work`.
+
+A job is held while it is worked on; its results are put, and it is taken last. So a worker that is killed at any moment loses nothing: its job is free again,
+and another worker gets it. At worst a job is done again whose results were put already: readers ignore a second one.
+
+    def square(job):                                    # ("job", 7)
+        return ("done", job[1], job[1] ** 2)            # a tuple that is put; a list of tuples: each of them; None: nothing
+
+    space.work(("job", INT), square)
+
+The jobs are those of a tag and patterns, as here, or of an `In`, or of several: `[In("urgent", INT), In("job", INT)]`. If jobs of several are there, one server
+gives one of the first.
+
+**Tries.** With `tries=N` the last field of a job says how often it failed, 0 at first, and the last pattern is INT. If the function raises, the job stays held
+by this worker for `delay` seconds, twice as long after each further failure, while other jobs are done; then it is put with one failure more, and the old one is
+taken. After N failures it is put as a dead letter instead, at once: its tag is `dead`, and behind the fields of the job are the count of failures and the error's
+text, of 1,000 bytes at most. A worker that is killed meanwhile gives its jobs free at once, with the old count.
+
+**The end.** `work` goes on until a tuple that fits `stop` is there, if that is a read (`Rd("stop")`); or until `stop.is_set()`, as of a threading.Event; or
+until no job has come for `timeout` seconds; or, in the main thread, until SIGTERM. The job in hand is finished first, and those that wait for their next try
+are put back. After SIGTERM the program's own handler is called; if it has none, the program exits (SystemExit, status 143). A second SIGTERM does so at once.
+
+**What goes wrong.** A server that is away, or has no room, does not end the loop: it is tried again, and what is pending is finished. If a hold is lost, its
+results are not put, since another worker gets the job. Without `tries` an exception of the function gives the job free and leaves `work`.
+"""
+
+from __future__ import annotations
+
+import heapq
+import itertools
+import logging
+import math
+import signal
+import threading
+import time
+from contextlib import contextmanager
+from types import FrameType
+from typing import TYPE_CHECKING, Any, Callable, Generator, Iterator, List, Optional, Protocol, Sequence, Tuple, Union
+
+from .errors import Gone, NoConnection, OutOfRange, Refused, SpaceError, TimedOut
+from .events import Alarm, Choose, Event, In, Rd
+from .limits import MOST_FIELDS, MOST_INTEGER, NUMBER_LIMIT, SHORTEST_PAUSE
+from .offers import Offer
+from .results import Outcome
+from .values import INT, Value, Values, as_seconds, as_value, within
+
+if TYPE_CHECKING:
+    from .space import Space
+
+MOST_RETRIES = 32           # jobs that wait for their next try in one worker
+MOST_ERROR = 1_000          # bytes of an error's text in a dead letter
+PAUSE = 0.5                 # seconds until a server that is away, or has no room, is tried again
+PASSING = ("Full", "Down", "Busy", "TooManyAsks")       # what a server may refuse now and not later
+
+log = logging.getLogger("linda_space")
+
+
+class HasIsSet(Protocol):
+    def is_set(self) -> bool: ...
+
+
+Results = Union[None, Tuple[Value, ...], List[Tuple[Value, ...]]]
+Function = Callable[[Values], Any]
+Stop = Union[None, Rd, HasIsSet]
+Template = Union[In, Sequence[Any]]     # a tag and patterns, an In, or several In
+
+
+class Plan:
+    """What one call of `work` was asked for, and the tuples that it makes of jobs."""
+
+    def __init__(self, template: Template, tries: Optional[int], delay: float, dead: Value, stop: Stop, keep: float,
+                 timeout: Optional[float]) -> None:
+        self.jobs = jobs_of(template)
+        self.tries = None if tries is None else within("a count of tries", tries, 1, NUMBER_LIMIT - 1)
+        self.delay, self.keep = as_seconds("a delay", delay), as_seconds("the time between renewals", keep, SHORTEST_PAUSE)
+        self.dead = as_value(dead)
+        self.timeout = None if timeout is None else as_seconds("a timeout", timeout)
+        self.read = stop if isinstance(stop, Rd) else None
+        self.flag = None if stop is None or isinstance(stop, Rd) else stop
+        if self.flag is not None and not callable(getattr(self.flag, "is_set", None)):
+            raise OutOfRange(f"what stops a worker is an Rd, or has is_set(): {stop!r}")
+        if self.tries is not None:
+            if any(job.template[-1] is not INT or len(job.template) < 2 for job in self.jobs):
+                raise OutOfRange("with tries the last pattern is INT: the job's last field says how often it failed")
+            if any(len(job.template) > MOST_FIELDS for job in self.jobs):
+                raise OutOfRange(f"with tries a job has at most {MOST_FIELDS - 1} fields, so that its dead letter has room for the error")
+
+    def after_failure(self, job: Values, fault: Exception) -> Tuple[Values, float]:
+        """What a job becomes that failed, and after how many seconds."""
+        assert self.tries is not None
+        failures = min(max(0, job[-1]) + 1, MOST_INTEGER)
+        if failures >= self.tries:
+            return (self.dead, *job[1:-1], failures, error_text(fault)), 0.0
+        return (*job[:-1], failures), min(self.delay * 2.0 ** min(failures - 1, 60), 86_400.0)
+
+
+def jobs_of(template: Template) -> List[In]:
+    """The inputs of which each is a job: that of a tag and patterns, or those that are given, the first of which goes first."""
+    if isinstance(template, In):
+        return [template]
+    if not isinstance(template, (tuple, list)) or not template:
+        raise OutOfRange(f"the jobs are a tag and patterns, an In, or several: {template!r}")
+    if isinstance(template[0], In):
+        if not all(isinstance(job, In) for job in template):
+            raise OutOfRange(f"the jobs are several In, or a tag and patterns: {template!r}")
+        return list(template)
+    return [In(*template)]
+
+
+def error_text(fault: Exception) -> str:
+    """The error's kind and words, of a length that a text may have."""
+    return f"{type(fault).__name__}: {fault}".encode(errors="replace")[:MOST_ERROR].decode(errors="ignore")
+
+
+def results_of(value: Any) -> List[Values]:
+    """What a function returned, as the tuples that are put."""
+    if value is None:
+        return []
+    if isinstance(value, tuple):
+        return [value]
+    if isinstance(value, list) and all(isinstance(item, tuple) for item in value):
+        return value
+    raise TypeError(f"the function of a worker returns None, a tuple, or a list of tuples: {value!r}")
+
+
+class Stopped(Exception):
+    """The end was asked for while a server was away."""
+
+
+Steps = Generator[Callable[[], Any], Any, Any]      # it yields what is to be done next, is sent what that returned, and returns how it ended
+
+
+def play(steps: Steps) -> Any:
+    """Does what these steps ask for, one after another, and returns how they ended."""
+    try:
+        step = next(steps)
+        while True:
+            try:
+                value = step()
+            except BaseException as fault:
+                step = steps.throw(fault)
+            else:
+                step = steps.send(value)
+    except StopIteration as ended:
+        return ended.value
+
+
+class Worker:
+    """One call of `work`. What waits is a step of its own, so that both a thread and a task of asyncio can play it: `calls` has `out`, `again`, `hold_or`,
+    `accept`, `pass_over` and `sleep`, which return what they come to, or something to be awaited."""
+
+    def __init__(self, space: Space, calls: Any, plan: Plan, function: Function) -> None:
+        self.space, self.calls, self.plan, self.function = space, calls, plan, function
+        self.retries: List[Tuple[float, int, Offer, Values]] = []       # a heap: when it is due, a count, what is held, and what it becomes
+        self.count = itertools.count()
+        self.done = 0
+        self.is_stopped = False
+
+    def steps(self) -> Steps:
+        with self.ended_by_a_signal():
+            try:
+                while True:
+                    offer = yield from self.next_job()
+                    if offer is None:
+                        break
+                    yield from self.do(offer)
+                for _, _, offer, again in sorted(self.retries, key=lambda retry: retry[:2]):
+                    yield from self.finish(offer, [again])
+                self.retries = []
+                yield from self.rest()
+            except Stopped:
+                log.warning("a worker ends while a server is away: what it held is free again")
+            finally:
+                for _, _, offer, _ in self.retries:
+                    offer.release()
+        return self.done
+
+    # ---- what comes next
+
+    def is_over(self) -> bool:
+        return self.is_stopped or self.plan.flag is not None and self.plan.flag.is_set()
+
+    def next_job(self) -> Steps:
+        """Waits for a job, and puts again what is due; None at the end."""
+        until = math.inf if self.plan.timeout is None else time.monotonic() + self.plan.timeout
+        while not self.is_over():
+            while self.retries and self.retries[0][0] <= time.monotonic():
+                _, _, offer, again = heapq.heappop(self.retries)
+                yield from self.finish(offer, [again])
+            wake = self.retries[0][0] if self.retries else math.inf
+            has_limit = until <= wake < math.inf or until < wake and not self.retries
+            if has_limit and self.retries and until <= time.monotonic():        # only what waits for its next try is waited for
+                has_limit = False
+            found = yield from self.guarded(lambda: self.calls.hold_or(
+                self.event(until if has_limit else wake), has_limit, has_limit and self.plan.timeout == 0, self.is_over))
+            if isinstance(found, Offer):
+                self.space._keeper.keep(found, self.plan.keep)
+                return found
+            if isinstance(found, Outcome) and found.kind == "read" or not self.retries and time.monotonic() >= until:
+                return None
+        return None
+
+    def event(self, wake: float) -> Event:
+        """The stop word, a job, and the time at which something else is due."""
+        alarms = [] if wake == math.inf else [self.space.after(max(0.0, wake - time.monotonic()))]
+        jobs = self.plan.jobs if len(self.retries) < MOST_RETRIES else []
+        return Choose(*([] if self.plan.read is None else [self.plan.read]), *jobs, *alarms)
+
+    # ---- one job
+
+    def do(self, offer: Offer) -> Steps:
+        try:
+            results = results_of((yield lambda: self.function(offer.tuple)))
+        except Gone:
+            self.holds(offer)
+            return
+        except Exception as fault:
+            if self.plan.tries is None or isinstance(fault, SpaceError):
+                offer.release()
+                raise
+            again, seconds = self.plan.after_failure(offer.tuple, fault)
+            log.warning("the job %r failed: %s", offer.tuple, error_text(fault), exc_info=fault)
+            if seconds == 0.0:
+                yield from self.finish(offer, [again])
+            else:
+                heapq.heappush(self.retries, (time.monotonic() + seconds, next(self.count), offer, again))
+            return
+        except BaseException:
+            offer.release()
+            raise
+        if (yield from self.finish(offer, results)):
+            self.done += 1
+
+    def finish(self, offer: Offer, results: List[Values]) -> Steps:
+        """Puts the results and takes the job, in this order; whether that was done. If the hold is lost another worker has the job."""
+        try:
+            for values in results:
+                if not self.holds(offer) or not (yield from self.guarded(lambda values=values: self.calls.out(*values), offer)):    # type: ignore[misc]
+                    return False
+            if (yield from self.guarded(lambda: self.calls.accept(offer), offer)):
+                return True
+            self.holds(offer)
+            return False
+        except BaseException:
+            offer.release()
+            raise
+
+    def holds(self, offer: Offer) -> bool:
+        if offer.is_held:
+            return True
+        log.warning("the hold of the job %r was lost: another worker gets it", offer.tuple)
+        offer.release()
+        return False
+
+    def rest(self) -> Steps:
+        """The servers keep no job as the last reply, so that nobody takes it for unfinished."""
+        for server in sorted(self.space._machine.last_taken):
+            yield from self.guarded(lambda server=server: self.calls.pass_over(server))     # type: ignore[misc]
+
+    # ---- servers that are away
+
+    def guarded(self, call: Callable[[], Any], offer: Optional[Offer] = None) -> Steps:
+        """Makes a call, and goes on with it until it has ended: while a server is away, has no room, or holds of jobs that wait are lost. False if that of the
+        job in hand, `offer`, is lost."""
+        is_pending = False
+        while True:
+            try:
+                result = yield self.calls.again if is_pending else call
+                return True if is_pending and isinstance(result, Outcome) else result
+            except Gone as fault:
+                self.retries = [retry for retry in self.retries if not any(retry[2] is lost for lost in fault.offers)]
+                heapq.heapify(self.retries)
+                if is_pending or any(lost is offer for lost in fault.offers):
+                    return False
+            except (NoConnection, TimedOut, Refused) as fault:
+                if isinstance(fault, Refused) and fault.name not in PASSING:
+                    raise
+                log.warning("a worker tries again: %s", fault)
+                if self.is_over():
+                    raise Stopped() from fault
+                is_pending = self.space.pending in ("out", "accept", "pass")
+                yield self.pause
+
+    def pause(self) -> Any:
+        return self.calls.sleep(PAUSE)
+
+    # ---- SIGTERM
+
+    @contextmanager
+    def ended_by_a_signal(self) -> Iterator[None]:
+        """In the main thread SIGTERM ends the loop, and then does what it did before: a handler is called, else the program exits. A second one does so at once."""
+        before = signal.getsignal(signal.SIGTERM) if threading.current_thread() is threading.main_thread() else None
+        if before is None or before is signal.SIG_IGN:  # no thread for handlers, or a handler that is not of Python, or none is wanted
+            yield
+            return
+
+        def stop(number: int, frame: Optional[FrameType]) -> None:
+            self.is_stopped = True
+            signal.signal(signal.SIGTERM, before)
+
+        signal.signal(signal.SIGTERM, stop)
+        try:
+            yield
+        finally:
+            signal.signal(signal.SIGTERM, before)
+        if self.is_stopped:
+            if callable(before):
+                before(signal.SIGTERM, None)
+            else:
+                raise SystemExit(128 + signal.SIGTERM)
+
+
+class Calls:
+    """The calls of a worker in a thread."""
+
+    def __init__(self, space: Space) -> None:
+        self.out, self.again = space.out, space.again
+        self.hold_or, self.accept = space._hold_or, Offer.accept
+        self.pass_over, self.sleep = space._pass_over, time.sleep
+
+
+def work(space: Space, plan: Plan, function: Function) -> int:
+    """Does one job after another, in this thread; how many were done."""
+    done: int = play(Worker(space, Calls(space), plan, function).steps())
+    return done

@@ -1,0 +1,651 @@
+#!/usr/bin/env python3
+"""The tests of what linda_space does several at a time: `out_many`, `take_many`, `purge`, `Pool` and `linda_space.aio`, over servers of the program and over
+servers that end a connection in the middle.
+
+    clients/python/test_together.py [TEST..]
+
+The program is the one that LINDA names, `linda` at the top of the repository if it is not set.
+"""
+
+from __future__ import annotations
+
+import asyncio
+import logging
+import socket
+import ssl
+import subprocess
+import threading
+import time
+import unittest
+from contextlib import ExitStack
+from typing import Any, Awaitable, Callable, List, Tuple
+from unittest import mock
+
+from test_linda_space import PATIENCE, Going, OverPairs, WithServers, frames, handed, refusal, stored, welcome
+import test_linda_space
+
+from linda_space import ANY, INT, TEXT, Busy, Closed, Gone, In, NoConnection, NoNumber, NumberInUse, OutOfRange, Pool, Rd, Refused, Space, TimedOut, aio
+
+
+
+def setUpModule() -> None:
+    """What is logged of failures that are wanted here is not printed."""
+    test_linda_space.setUpModule()
+    logging.disable(logging.CRITICAL)
+
+
+OFFER, TAKEN = b"\x13", b"\x15"
+FULL, GAP, OLD = 6, 5, 4
+
+
+class Many(WithServers):
+    """Over servers of the program."""
+
+    def test_outs_and_takes(self) -> None:
+        space = self.space(self.serve())
+        places = space.out_many([("job", number) for number in range(300)])
+        self.assertEqual(places, [(0, 1 + number) for number in range(300)])
+        self.assertEqual(space.take("job", 0), ("job", 0))
+        self.assertEqual(space.take_many("job", INT, count=70), [("job", number) for number in range(1, 71)])
+        self.assertEqual([space.take_many("job", 299, count=5), space.take_many("job", TEXT, count=5), space.take_many("job", INT, count=0)], [[("job", 299)], [], []])
+        self.assertEqual((space.purge("job", INT), space.purge("job", INT), space.look("job", INT), space.out_many([])), (228, 0, None, []))
+        self.assertEqual(space.out("a"), (0, 301))
+
+    def test_over_three_servers(self) -> None:
+        servers = [self.serve(name) for name in ("left", "middle", "right")]
+        space = self.space(*servers, client=8)
+        self.assertEqual(space.out_many([("job", number) for number in range(200)]), [((8 + number) % 3, 1 + number // 3) for number in range(200)])
+        self.assertEqual(space.out("job", 200), (1, 67))
+        taken = space.take_many("job", INT, count=150)
+        self.assertEqual((len(set(taken)), space.purge("job", INT)), (150, 51))
+
+    def test_what_is_held_stays(self) -> None:
+        space = self.space(self.serve())
+        space.out_many([("job", number) for number in range(100)])
+        holds = [space.hold("job", number) for number in range(10)]
+        offers = [hold.__enter__() for hold in holds]
+        self.assertEqual(space.purge("job", INT), 90)
+        self.assertEqual([offer.accept() for offer in offers], [("job", number) for number in range(10)])
+
+    def test_wrong_values(self) -> None:
+        space = self.space(self.serve())
+        for wrong in ([("a", 1.5)], [()], ["ab"], [("a", *range(33))], [7]):
+            with self.assertRaises((OutOfRange, TypeError)):
+                space.out_many([("b",), *wrong])        # type: ignore[list-item]
+        self.assertEqual(space.look("b"), None)
+        for count in (-1, 1.5, None):
+            with self.assertRaises(OutOfRange):
+                space.take_many("a", count=count)       # type: ignore[arg-type]
+
+    def test_a_store_without_room(self) -> None:
+        """Full is for the tuple that has no room and those behind it."""
+        server = self.serve()
+        space = self.space(server)
+        with self.assertRaises(OutOfRange):
+            space.out_many([("big", "x" * 4_096)])
+        text = "x" * 4_000
+        space.out_many([("big", *[text] * 32) for _ in range(100)])
+        self.assertEqual(space.purge("big", *[TEXT] * 32), 100)
+
+    def test_an_interrupt(self) -> None:
+        server = self.serve()
+        space = self.space(server)
+        server.stop()
+        putting = Going(lambda: space.out_many([("job", number) for number in range(200)], timeout=0.3))
+        with self.assertRaises(TimedOut) as caught:
+            putting.end()
+        self.assertEqual((caught.exception.pending, caught.exception.servers), ("out_many", (0,)))
+        with self.assertRaises(Busy):
+            space.out("a")
+        server.go_on()
+        self.assertEqual(space.again(), [(0, 1 + number) for number in range(200)])
+        self.assertEqual(space.purge("job", INT), 200)
+
+    def test_kills_in_the_middle(self) -> None:
+        """A server is killed again and again while many go: each tuple is there once, and what is returned is so."""
+        server = self.serve()
+        space = self.space(server)
+        for turn in range(6):
+            tuples = [("job", turn, number, "x" * 200) for number in range(3_000)]
+            putting = Going(lambda: space.out_many(tuples))
+            time.sleep(0.02 + 0.01 * turn)
+            server.kill()
+            server = self.serve("one", server.port)
+            places = putting.end()
+            self.assertTrue(all(place is not None for place in places))
+            ids = [place[1] for place in places if place[1] is not None]
+            self.assertEqual(len(set(ids)), len(ids))
+            taking = Going(lambda: space.take_many("job", turn, INT, TEXT, count=3_000))
+            time.sleep(0.02 + 0.01 * turn)
+            server.kill()
+            server = self.serve("one", server.port)
+            taken = taking.end()
+            self.assertEqual((len(taken), sorted(taken)), (3_000, tuples))
+        self.assertEqual(space.purge("job", ANY, ANY, ANY), 0)
+
+
+class Cut(OverPairs):
+    """Over servers that end the connection at a place of the script."""
+
+    def pieces(self, *connections: Tuple[int, Callable[[socket.socket], None]]) -> Space:
+        """A space, and a server that welcomes with a last number and then does a script, one for each connection."""
+        space = Space([1], 7, connect=self.connections(*connections))
+        self.addCleanup(space.close)
+        return space
+
+    def connections(self, *connections: Tuple[int, Callable[[socket.socket], None]]) -> Callable[[Any], socket.socket]:
+        """What makes these connections; none once they are made, nor before `may_connect` for all but the first."""
+        made: List[socket.socket] = []
+        self.may_connect = True
+        self.faults: List[BaseException] = []
+
+        def connect(_: Any) -> socket.socket:
+            if len(made) == len(connections) or made and not self.may_connect:
+                raise ConnectionRefusedError
+            last, script = connections[len(made)]
+            ours, theirs = socket.socketpair()
+            made.append(ours)
+            ours.settimeout(PATIENCE)
+            ours.sendall(welcome(last))
+            threading.Thread(target=self.play, args=(ours, script), daemon=True).start()
+            return theirs
+
+        return connect
+
+    def play(self, ours: socket.socket, script: Callable[[socket.socket], None]) -> None:
+        try:
+            self.expect(ours, frames.hello(7, False))
+            script(ours)
+        except BaseException as fault:
+            self.faults.append(fault)
+        ours.close()
+
+    def expect(self, ours: socket.socket, data: bytes) -> None:
+        found = b""
+        while len(found) < len(data):
+            piece = ours.recv(len(data) - len(found))
+            assert piece, f"the end, after {found.hex()}"
+            found += piece
+        assert found == data, f"found {found.hex()}, not {data.hex()}"
+
+    def outs(self, first: int, numbers: range) -> bytes:
+        return b"".join(frames.out(first + number, "a", number) for number in numbers)
+
+    def test_a_loss_at_each_place_of_outs(self) -> None:
+        """Of 5 outs `done` were done and `answered` answered when the connection ended."""
+        for done in range(6):
+            for answered in range(done + 1):
+                def first(ours: socket.socket) -> None:
+                    self.expect(ours, self.outs(1, range(5)))
+                    ours.sendall(b"".join(stored(1 + number, 10 + number) for number in range(answered)))
+                    if answered == 5:
+                        ours.recv(1)
+
+                def second(ours: socket.socket) -> None:
+                    again = range(max(answered, done - 1), 5)
+                    self.expect(ours, self.outs(1, again))
+                    ours.sendall(b"".join(stored(1 + number, 10 + number) for number in again))
+                    ours.recv(1)
+
+                with self.subTest(done=done, answered=answered):
+                    space = self.pieces((0, first), (done, second))
+                    places = space.out_many([("a", number) for number in range(5)])
+                    self.assertEqual(places, [(0, None if answered <= number < done - 1 else 10 + number) for number in range(5)])
+                    self.assertEqual(self.faults, [])
+                    space.close()
+
+    def test_another_program_in_the_middle_of_outs(self) -> None:
+        for last, error in ((6, NumberInUse), (9, NumberInUse)):
+            space = self.pieces((0, lambda ours: self.expect(ours, self.outs(1, range(5)))), (last, lambda ours: None))
+            with self.assertRaises(error):
+                space.out_many([("a", number) for number in range(5)])
+        space = self.pieces((0, lambda ours: (self.expect(ours, self.outs(1, range(5))), ours.sendall(stored(1, 10) + handed(TAKEN, 2, 3, "a")), ours.recv(1))))  # type: ignore[func-returns-value,arg-type,return-value]
+        with self.assertRaises(NumberInUse):
+            space.out_many([("a", number) for number in range(5)])
+
+    def test_a_refusal_in_the_middle_of_outs(self) -> None:
+        def script(ours: socket.socket) -> None:
+            self.expect(ours, self.outs(1, range(5)))
+            ours.sendall(stored(1, 10) + refusal(FULL, 0) + refusal(GAP, 1) * 3)
+            self.expect(ours, frames.out(2, "b"))
+            ours.sendall(stored(2, 11))
+            ours.recv(1)
+
+        space = self.pieces((0, script))
+        with self.assertRaises(Refused) as caught:
+            space.out_many([("a", number) for number in range(5)])
+        self.assertEqual((caught.exception.name, caught.exception.stored, space.pending), ("Full", [(0, 10), None, None, None, None], None))
+        self.assertEqual((space.out("b"), self.faults), ((0, 11), []))
+
+    def test_a_server_that_is_down_in_the_middle_of_outs(self) -> None:
+        def first(ours: socket.socket) -> None:
+            self.expect(ours, self.outs(1, range(5)))
+            ours.sendall(stored(1, 10) + refusal(8, 0))
+            ours.recv(1)
+
+        def second(ours: socket.socket) -> None:
+            self.expect(ours, self.outs(1, range(2, 5)))
+            ours.sendall(b"".join(stored(1 + number, 10 + number) for number in range(2, 5)))
+            ours.recv(1)
+
+        space = self.pieces((0, first), (3, second))
+        with self.assertRaises(Refused) as caught:
+            space.out_many([("a", number) for number in range(5)])
+        self.assertEqual((caught.exception.name, caught.exception.pending), ("Down", "out_many"))
+        self.assertEqual(space.again(), [(0, 10), (0, None), (0, 12), (0, 13), (0, 14)])
+        self.assertEqual(self.faults, [])
+
+    def asks(self, first: int, count: int) -> bytes:
+        return b"".join(frames.ask(first + number, True, "a", frames.INT) for number in range(count)) + frames.accept(0, 0, 0)
+
+    def test_a_loss_at_each_place_of_takes(self) -> None:
+        """Of 4 Accepts `done` were done and `answered` answered when the connection ended."""
+        for done in range(5):
+            for answered in range(done + 1):
+                def first(ours: socket.socket) -> None:
+                    self.expect(ours, self.asks(1, 4))
+                    ours.sendall(b"".join(handed(OFFER, 1 + number, 10 + number, "a", number) for number in range(4)) + refusal(OLD, 0))
+                    self.expect(ours, b"".join(frames.accept(1 + number, 1 + number, 10 + number) for number in range(4)))
+                    ours.sendall(b"".join(handed(TAKEN, 1 + number, 10 + number, "a", number) for number in range(answered)))
+                    if answered == 4:
+                        ours.recv(1)
+
+                def second(ours: socket.socket) -> None:
+                    left = 4 - done
+                    if left:
+                        self.expect(ours, self.asks(5, left))
+                        ours.sendall(b"".join(handed(OFFER, 5 + number, 20 + number, "a", 9 + number) for number in range(left)) + refusal(OLD, 0))
+                        self.expect(ours, b"".join(frames.accept(done + 1 + number, 5 + number, 20 + number) for number in range(left)))
+                        ours.sendall(b"".join(handed(TAKEN, done + 1 + number, 20 + number, "a", 9 + number) for number in range(left)))
+                    ours.recv(1)
+
+                with self.subTest(done=done, answered=answered):
+                    space = self.pieces((0, first), (done, second))
+                    taken = space.take_many("a", INT, count=4)
+                    self.assertEqual(taken, [("a", number) for number in range(done)] + [("a", 9 + number) for number in range(4 - done)])
+                    self.assertEqual(self.faults, [])
+                    space.close()
+
+    def test_an_error_in_the_middle_of_takes(self) -> None:
+        """What was taken is what `again` returns."""
+        def first(ours: socket.socket) -> None:
+            self.expect(ours, self.asks(1, 3))
+            ours.sendall(b"".join(handed(OFFER, 1 + number, 10 + number, "a", number) for number in range(3)) + refusal(OLD, 0))
+            self.expect(ours, b"".join(frames.accept(1 + number, 1 + number, 10 + number) for number in range(3)))
+            ours.sendall(handed(TAKEN, 1, 10, "a", 0))
+            time.sleep(0.4)
+
+        def second(ours: socket.socket) -> None:
+            self.expect(ours, frames.out(3, "b"))
+            ours.sendall(stored(3, 30))
+            ours.recv(1)
+
+        space = self.pieces((0, first), (2, second))
+        with self.assertRaises(TimedOut) as caught:
+            space.take_many("a", INT, count=3, timeout=0.2)
+        self.assertEqual(caught.exception.pending, "take_many")
+        with self.assertRaises(Busy):
+            space.out("b")
+        self.assertEqual((space.again(), space.pending, space.out("b"), self.faults), ([("a", 0), ("a", 1)], None, (0, 30), []))
+
+    def test_nothing_is_pending_if_nothing_was_taken(self) -> None:
+        space = self.pieces((0, lambda ours: time.sleep(0.4)), (0, lambda ours: ours.recv(1) and None))
+        with self.assertRaises(TimedOut) as caught:
+            space.purge("a", INT, timeout=0.1)
+        self.assertEqual((caught.exception.pending, space.pending), (None, None))
+
+
+    def test_what_was_taken_by_a_call_that_raised_is_put_back(self) -> None:
+        """Of a pool's member."""
+        def first(ours: socket.socket) -> None:
+            self.expect(ours, frames.ask(1, True, "job", frames.INT))
+            ours.sendall(handed(OFFER, 1, 5, "job", 9))
+            self.expect(ours, frames.accept(1, 1, 5))
+
+        def second(ours: socket.socket) -> None:
+            self.expect(ours, frames.accept(1, 1, 5))
+            ours.sendall(handed(TAKEN, 1, 5, "job", 9))
+            self.expect(ours, frames.out(2, "job", 9))
+            ours.sendall(stored(2, 6))
+            self.expect(ours, frames.out(3, "b"))
+            ours.sendall(stored(3, 7))
+            ours.recv(1)
+
+        connect = self.connections((0, first), (1, second))
+        self.may_connect = False
+        with Pool([1], [7], size=1, connect=connect, patience=0.3) as pool:
+            with self.assertRaises(NoConnection) as caught:
+                pool.take("job", INT)
+            self.assertEqual(caught.exception.pending, "sync")
+            self.may_connect = True
+            self.assertEqual((pool.out("b"), self.faults), ((0, 7), []))
+
+
+class Pools(WithServers):
+    def pool(self, server: Any, numbers: Any = range(100, 132), **how: Any) -> Pool:
+        pool = Pool([server.port], numbers, **how)
+        self.addCleanup(pool.close)
+        return pool
+
+    def test_many_threads(self) -> None:
+        server = self.serve()
+        pool = self.pool(server, size=8)
+        calls = [Going(lambda number=number: pool.out("job", number)) for number in range(200)]     # type: ignore[misc]
+        self.assertEqual(sorted(call.end()[1] for call in calls), list(range(1, 201)))
+        takes = [Going(lambda: pool.take("job", INT)) for _ in range(200)]
+        self.assertEqual(sorted(call.end()[1] for call in takes), list(range(200)))
+        with Space([server.port], range(100, 132)) as space:
+            self.assertLessEqual(space.client, 108)                 # the pool made no more than 8
+
+    def test_as_many_members_as_are_in_use(self) -> None:
+        server = self.serve()
+        pool = self.pool(server, size=8)
+        pool.out_many([("job", number) for number in range(9)])
+        with ExitStack() as held:
+            for _ in range(8):
+                held.enter_context(pool.hold("job", INT))
+            with Space([server.port], range(100, 132)) as space:
+                self.assertEqual(space.client, 108)
+            late = Going(lambda: pool.take("job", INT))
+            time.sleep(0.1)
+            self.assertTrue(late.ends.empty())                      # there is no ninth
+        self.assertEqual(late.end()[0], "job")
+
+    def test_a_hold_has_a_member(self) -> None:
+        pool = self.pool(self.serve(), size=2)
+        pool.out("job", 1)
+        with pool.hold("job", INT) as offer:
+            self.assertIsNone(pool.take("job", INT, timeout=0.05))
+            waiting = Going(lambda: pool.take("never", timeout=0.5))
+            time.sleep(0.1)
+            late = Going(lambda: pool.out("late"))                  # there is no third member
+            time.sleep(0.1)
+            self.assertTrue(late.ends.empty())
+            self.assertIsNone(waiting.end())
+            self.assertEqual(late.end(), (0, 2))
+            self.assertEqual(offer.accept(), ("job", 1))
+        with pool.hold("job", INT, timeout=0) as none:
+            self.assertIsNone(none)
+        self.assertEqual([pool.look("late"), pool.read("late"), pool.choose(Rd("late").wrap(3)).labels, pool.purge("late"), pool.take_many("late", count=3)],
+                         [("late",), ("late",), (3,), 1, []])
+        self.assertEqual(pool.out_many([("m", 1), ("m", 2)]), [(0, 3), (0, 4)])
+
+    def test_fewer_numbers_than_members(self) -> None:
+        server = self.serve()
+        pool = self.pool(server, range(100, 103), size=16, patience=1.0)
+        calls = [Going(lambda number=number: pool.out("job", number)) for number in range(50)]      # type: ignore[misc]
+        self.assertEqual(len({call.end()[1] for call in calls}), 50)
+        with ExitStack() as held:
+            for _ in range(3):                                      # all three numbers are in use
+                held.enter_context(pool.hold("job", INT))
+            with self.assertRaises(NoNumber):
+                self.pool(server, range(100, 103), patience=0.3)
+        with self.assertRaises(OutOfRange):
+            Pool([server.port], 7)
+
+    def test_nothing_is_put_twice_while_a_server_is_away(self) -> None:
+        server = self.serve()
+        pool = self.pool(server, size=4, patience=1.0)
+        for number in range(8):
+            pool.out("warm", number)
+        server.kill()
+        answered: List[int] = []
+        for number in range(6):
+            try:
+                pool.out("job", number)
+                answered.append(number)
+            except (NoConnection, TimedOut) as fault:
+                self.assertIn(fault.pending, ("out", None))
+        self.assertEqual(answered, [])
+        server = self.serve("one", server.port)
+        until, late = time.monotonic() + PATIENCE, 0
+        while late < 8:                                             # all members are used, and finish what they had
+            try:
+                pool.out("late", late)
+                late += 1
+            except (NoConnection, TimedOut, Refused):
+                self.assertLess(time.monotonic(), until)
+        there = [one[1] for one in pool.take_many("job", INT, count=100)]
+        self.assertEqual(len(there), len(set(there)))
+
+    def test_close(self) -> None:
+        pool = self.pool(self.serve(), size=2)
+        waiting = [Going(lambda: pool.take("never")) for _ in range(4)]
+        time.sleep(0.3)
+        pool.close()
+        for call in waiting:
+            with self.assertRaises(Closed):
+                call.end()
+        with self.assertRaises(Closed):
+            pool.out("a")
+        pool.close()
+
+
+class Encrypted(WithServers):
+    """Over TLS: a proxy with a certificate of its own, which forwards to a server in pieces."""
+
+    def proxy(self, port: int) -> int:
+        key, certificate = self.folder / "key", self.folder / "certificate"
+        subprocess.run(["openssl", "req", "-x509", "-newkey", "rsa:2048", "-nodes", "-subj", "/CN=linda", "-keyout", str(key), "-out", str(certificate)], check=True,
+                       stdin=subprocess.DEVNULL, stdout=subprocess.DEVNULL, stderr=subprocess.DEVNULL)
+        context = ssl.SSLContext(ssl.PROTOCOL_TLS_SERVER)
+        context.load_cert_chain(certificate, key)
+        listener = socket.create_server(("127.0.0.1", 0))
+        self.addCleanup(listener.close)
+        threading.Thread(target=self.accept, args=(listener, context, port), daemon=True).start()
+        self.trusted = ssl.create_default_context(cafile=str(certificate))
+        self.trusted.check_hostname = False
+        return int(listener.getsockname()[1])
+
+    def accept(self, listener: socket.socket, context: ssl.SSLContext, port: int) -> None:
+        while True:
+            try:
+                stream = listener.accept()[0]
+            except OSError:
+                return
+            try:
+                client, server = context.wrap_socket(stream, server_side=True), socket.create_connection(("127.0.0.1", port))
+            except OSError:
+                continue
+            for source, sink in ((client, server), (server, client)):
+                threading.Thread(target=self.forward, args=(source, sink), daemon=True).start()
+
+    @staticmethod
+    def forward(source: socket.socket, sink: socket.socket) -> None:
+        try:
+            while piece := source.recv(200_000):
+                sink.sendall(piece)
+        except OSError:
+            pass
+        for stream in (source, sink):
+            try:
+                stream.shutdown(socket.SHUT_RDWR)
+            except OSError:
+                pass
+
+    def connect(self, port: Any) -> socket.socket:
+        return self.trusted.wrap_socket(socket.create_connection(("127.0.0.1", port), timeout=5))
+
+    def test_calls(self) -> None:
+        port = self.proxy(self.serve().port)
+        with Space([port], 7, connect=self.connect) as space, Space([port], 8, connect=self.connect) as other:
+            big = ("big", *["x" * 4_000] * 30)                      # several records of TLS, of which a part waits in the library of TLS
+            for number in range(20):
+                space.out(*big, number)
+                self.assertEqual(other.take("big", *[TEXT] * 30, INT), (*big, number))
+            self.assertEqual(space.out_many([(*big, number) for number in range(40)]), [(0, 21 + number) for number in range(40)])
+            self.assertEqual(len(other.take_many("big", *[TEXT] * 30, INT, count=40)), 40)
+            taking = Going(lambda: other.take("late", timeout=PATIENCE))
+            time.sleep(0.2)
+            space.out("late")
+            self.assertEqual(taking.end(), ("late",))
+
+
+def run(course: Callable[[], Awaitable[Any]]) -> Any:
+    async def whole() -> Any:
+        return await asyncio.wait_for(course(), 60)
+    return asyncio.run(whole())
+
+
+class Async(WithServers):
+    def test_calls(self) -> None:
+        port = self.serve().port
+
+        async def course() -> None:
+            async with aio.Space([port], 7) as space:
+                self.assertEqual((await space.out("job", 1), space.client), ((0, 1), 7))
+                self.assertEqual([await space.look("job", INT), await space.read("job", INT), await space.take("job", INT)], [("job", 1)] * 3)
+                self.assertIsNone(await space.take("job", INT, timeout=0.05))
+                won = await space.choose(In("job", INT).wrap(5), Rd("stop").nack(9), timeout=0.05)
+                self.assertEqual((won.kind, won.raised), ("alarm", (9,)))
+                self.assertEqual((await space.sync(space.after(0))).kind, "alarm")
+                self.assertEqual(await space.out_many([("m", number) for number in range(100)]), [(0, 2 + number) for number in range(100)])
+                self.assertEqual((await space.take_many("m", INT, count=3), await space.purge("m", INT)), ([("m", 0), ("m", 1), ("m", 2)], 97))
+                kept = await space.last_reply()
+                assert kept is not None
+                self.assertEqual(kept.kind, "taken")
+                await space.out("job", 2)
+                async with space.hold("job", INT) as offer:
+                    self.assertEqual((offer.tuple, offer.is_held, await offer.accept(), offer.is_taken), (("job", 2), True, ("job", 2), True))
+                await space.out("job", 3)
+                async with space.hold("job", INT, timeout=1) as other:
+                    assert other is not None
+                    other.renew()
+                async with space.hold("none", timeout=0) as none:
+                    self.assertIsNone(none)
+                self.assertEqual(await space.take("job", INT), ("job", 3))
+                await space.leave()
+        run(course)
+
+    def test_calls_of_a_space_wait_for_each_other(self) -> None:
+        port = self.serve().port
+
+        async def course() -> None:
+            async with aio.Space([port], 7) as space:
+                places = await asyncio.gather(*(space.out("job", number) for number in range(50)))
+                self.assertEqual(places, [(0, 1 + number) for number in range(50)])
+        run(course)
+
+    def test_a_cancelled_take_loses_nothing(self) -> None:
+        server = self.serve()
+        other = self.space(server, client=8)
+
+        async def course() -> None:
+            async with aio.Space([server.port], 7) as space:
+                for number in range(60):
+                    task = asyncio.create_task(space.take("job", INT))
+                    await asyncio.sleep(0.001 * (number % 7))
+                    putting = asyncio.get_running_loop().run_in_executor(None, other.out, "job", number)
+                    await asyncio.sleep(0.0002 * (number % 9))
+                    task.cancel()
+                    await putting
+                    try:
+                        self.assertEqual(await task, ("job", number))
+                    except asyncio.CancelledError:
+                        self.assertEqual(await space.take("job", INT, timeout=PATIENCE), ("job", number))
+        run(course)
+
+    def test_a_cancelled_out_is_finished_by_the_next_call(self) -> None:
+        server = self.serve()
+
+        async def course() -> None:
+            async with aio.Space([server.port], 7) as space:
+                server.stop()
+                task = asyncio.create_task(space.out("job", 1))
+                await asyncio.sleep(0.1)
+                task.cancel()
+                with self.assertRaises(asyncio.CancelledError):
+                    await task
+                server.go_on()
+                self.assertEqual(space.pending, "out")
+                self.assertEqual((await space.out("job", 2), await space.purge("job", INT)), ((0, 2), 2))
+        run(course)
+
+    def test_a_loss_is_told_once(self) -> None:
+        server = self.serve()
+
+        async def course() -> None:
+            async with aio.Space([server.port], 7) as space:
+                await space.out("lock", 1)
+                with self.assertRaises(Gone):
+                    async with space.hold("lock", INT):
+                        server.kill()
+                        self.serve("one", server.port)
+                self.assertEqual(await space.take("lock", INT, timeout=PATIENCE), ("lock", 1))
+        run(course)
+
+    def test_work(self) -> None:
+        server = self.serve()
+        other = self.space(server, client=8)
+        other.out_many([("job", number, 0) for number in range(20)])
+
+        async def function(job: Any) -> Any:
+            await asyncio.sleep(0.01)
+            if job[1] == 3:
+                raise ValueError("three")
+            return "done", job[1]
+
+        async def course() -> int:
+            async with aio.Space([server.port], 7) as space:
+                return await space.work(("job", INT, INT), function, tries=2, delay=0.1, timeout=0.5)
+
+        self.assertEqual(run(course), 19)
+        self.assertEqual(({one[1] for one in other.take_many("done", INT, count=50)}, other.take("dead", 3, 2, TEXT, timeout=0)),
+                         (set(range(20)) - {3}, ("dead", 3, 2, "ValueError: three")))
+
+    def test_a_pool(self) -> None:
+        server = self.serve()
+        other = self.space(server, client=8)
+
+        async def course() -> None:
+            async with aio.Pool([server.port], range(100, 120), size=6) as pool:
+                places = await asyncio.gather(*(pool.out("job", number) for number in range(200)))
+                self.assertEqual(len({place[1] for place in places}), 200)
+                taken = await asyncio.gather(*(pool.take("job", INT) for number in range(200)))
+                self.assertEqual(sorted(one[1] for one in taken), list(range(200)))
+                tasks = [asyncio.create_task(pool.take("job", INT)) for _ in range(6)]
+                await asyncio.sleep(0.2)
+                for number in range(6):
+                    other.out("job", number)
+                for task in tasks:
+                    task.cancel()
+                ended = await asyncio.gather(*tasks, return_exceptions=True)
+                had = [one for one in ended if isinstance(one, tuple)]
+                rest = [await pool.take("job", INT, timeout=5) for _ in range(6 - len(had))]
+                self.assertEqual(sorted([*had, *rest]), [("job", number) for number in range(6)])
+                async with pool.hold("none", timeout=0) as none:
+                    self.assertIsNone(none)
+                waiting = asyncio.create_task(pool.take("never"))
+                await asyncio.sleep(0.1)
+                pool.close()
+                with self.assertRaises(Closed):
+                    await waiting
+        run(course)
+
+    def test_close_wakes_who_waits(self) -> None:
+        port = self.serve().port
+
+        async def course() -> None:
+            space = aio.Space([port], 7)
+            with self.assertRaises(Closed):
+                await space.out("a")
+            await space.open()
+            task = asyncio.create_task(space.take("never"))
+            await asyncio.sleep(0.2)
+            space.close()
+            with self.assertRaises(Closed):
+                await task
+            with self.assertRaises(Closed):
+                await space.out("a")
+        run(course)
+
+    def test_no_number_is_used_by_a_space_that_is_not_opened(self) -> None:
+        with self.assertRaises(OutOfRange):
+            aio.Pool([7000], 7)
+        with self.assertRaises(NoConnection):
+            run(aio.Space([1], 7, patience=0.2).open)
+
+
+if __name__ == "__main__":
+    del OverPairs
+    unittest.main()

@@ -1,0 +1,643 @@
+#!/usr/bin/env python3
+"""The tests of what workers need of linda_space: holds that are lost, forks, threads, numbers of their own, and `work`, over servers of the program.
+
+    clients/python/test_workers.py [TEST..]
+
+The program is the one that LINDA names, `linda` at the top of the repository if it is not set.
+"""
+
+from __future__ import annotations
+
+import logging
+import multiprocessing
+import os
+import pickle
+import random
+import signal
+import subprocess
+import sys
+import textwrap
+import threading
+import time
+import unittest
+from pathlib import Path
+from typing import Any, Callable, List
+from unittest import mock
+
+import test_linda_space
+from test_linda_space import PATIENCE, Going, Peer, WithServers, frames
+
+from linda_space import (
+    ANY, INT, TEXT, Busy, Choose, Closed, Forked, Gone, In, NoNumber, NumberInUse, Offer, OutOfRange, Rd, Refused, Restored, Space, SpaceError, TimedOut)
+
+HERE = Path(__file__).resolve().parent
+
+
+def setUpModule() -> None:
+    """What workers log of failures that are wanted here is not printed."""
+    test_linda_space.setUpModule()
+    logging.disable(logging.CRITICAL)
+
+
+def in_a_child(call: Callable[[], Any]) -> str:
+    """What the call came to in a forked process: its value, or the error, as words."""
+    ours, theirs = os.pipe()
+    child = os.fork()
+    if child == 0:
+        try:
+            words = repr(call())
+        except BaseException as fault:
+            words = type(fault).__name__
+        os.write(theirs, words.encode())
+        os._exit(0)
+    os.close(theirs)
+    with os.fdopen(ours) as read:
+        words = read.read()
+    os.waitpid(child, 0)
+    return words
+
+
+class Holds(WithServers):
+    """What is lost is told once."""
+
+    def restart(self, server: Any, *words: str) -> Any:
+        server.kill()
+        return self.serve("one", server.port, *words)
+
+    def test_the_end_of_a_block_tells_of_a_loss(self) -> None:
+        server = self.serve()
+        space, other = self.space(server), self.space(server, client=8)
+        space.out("lock", 1)
+        with self.assertRaises(Gone) as caught, space.hold("lock", INT) as offer:
+            self.assertTrue(offer.is_held)
+            self.restart(server)
+            with other.hold("lock", INT, timeout=PATIENCE) as same:
+                assert same is not None
+                self.assertEqual(same.tuple, ("lock", 1))
+        self.assertEqual([lost.tuple for lost in caught.exception.offers], [("lock", 1)])
+        self.assertIs(caught.exception.offer, offer)
+        self.assertIn("('lock', 1)", str(caught.exception))
+        self.assertEqual((offer.is_held, space.take("lock", INT, timeout=PATIENCE)), (False, ("lock", 1)))
+
+    def test_the_next_call_tells_of_a_loss_and_sends_nothing(self) -> None:
+        calls: List[Callable[[Space], Any]] = [
+            lambda space: space.out("done", 1), lambda space: space.take("a"), lambda space: space.look("a"), lambda space: space.choose(In("a"), timeout=0),
+            lambda space: space.last_reply(), lambda space: space.leave(), lambda space: space.out_many([("done", 1)]),
+            lambda space: space.take_many("lock", INT, count=2), lambda space: space.purge("lock", INT), lambda space: space.hold("a").__enter__()]
+        server = self.serve()
+        space, other = self.space(server), self.space(server, client=8)
+        for call in calls:
+            space.out("lock", 1)
+            with space.hold("lock", INT) as offer:
+                server = self.restart(server)
+                with self.assertRaises(Gone) as caught:
+                    call(space)
+                self.assertEqual((caught.exception.offers, space.pending, offer.is_held), ((offer,), None, False))
+                self.assertEqual(space.out("after"), (0, mock.ANY))         # it was told once, and so the block ends in order
+            self.assertEqual([other.take("lock", INT, timeout=PATIENCE), other.look("done", INT), other.take("after")], [("lock", 1), None, ("after",)])
+
+    def test_accept_tells_of_its_own_loss_only(self) -> None:
+        left, right = self.serve("left"), self.serve("right")
+        space, other = self.space(left, right), self.space(left, right, client=8)
+        stored = [other.out("job", 0), other.out("job", 1)]
+        with self.assertRaises(Gone) as caught:
+            with space.hold("job", dict(stored)[0] - 1 if stored[0][0] else 0) as kept, space.hold("job", 1) as lost:
+                pair = {offer.server: offer for offer in (kept, lost)}
+                left.kill()
+                self.serve("left", left.port)
+                self.assertEqual(pair[1].accept()[0], "job")
+                self.assertFalse(pair[0].is_held)
+                space.look("nothing")
+        self.assertEqual(caught.exception.offers, (pair[0],))
+
+    def test_a_call_that_waits_ends_with_the_loss(self) -> None:
+        server = self.serve()
+        space = self.space(server)
+        space.out("lock", 1)
+        with space.hold("lock", INT):
+            taking = Going(lambda: space.take("never", timeout=PATIENCE))
+            time.sleep(0.3)
+            self.restart(server)
+            began = time.monotonic()
+            with self.assertRaises(Gone):
+                taking.end()
+            self.assertLess(time.monotonic() - began, 5)
+        self.assertEqual(space.take("lock", INT, timeout=PATIENCE), ("lock", 1))
+
+    def test_an_out_under_way_goes_on(self) -> None:
+        server = self.serve()
+        space = self.space(server)
+        space.out("lock", 1)
+        with space.hold("lock", INT):
+            server.stop()
+            putting = Going(lambda: space.out("done", 1))
+            time.sleep(0.3)
+            server.go_on()
+            self.assertEqual(putting.end(), (0, 2))
+            self.restart(server)
+            with self.assertRaises(Gone):
+                space.out("done", 2)
+        self.assertIsNone(space.look("done", 2))
+
+    def test_another_error_of_the_block_goes_first(self) -> None:
+        server = self.serve()
+        space = self.space(server)
+        space.out("lock", 1)
+        with self.assertRaises(ZeroDivisionError), space.hold("lock", INT):
+            self.restart(server)
+            raise ZeroDivisionError
+        self.assertEqual(space.take("lock", INT, timeout=PATIENCE), ("lock", 1))
+
+    def test_what_was_released_is_not_told(self) -> None:
+        server = self.serve()
+        space = self.space(server)
+        space.out("lock", 1)
+        with space.hold("lock", INT) as offer:
+            self.restart(server)
+            offer.release()
+            self.assertFalse(offer.is_held)
+        self.assertEqual(space.take("lock", INT, timeout=PATIENCE), ("lock", 1))
+
+    def test_renew_looks_first(self) -> None:
+        server = self.serve("one", 0, "--lease", "1")
+        space, other = self.space(server), self.space(server, client=8)
+        space.out("lock", 1)
+        with space.hold("lock", INT) as offer:
+            self.assertEqual(other.take("lock", INT, timeout=PATIENCE), ("lock", 1))        # the lease ran out
+            with self.assertRaises(Gone) as caught:
+                offer.renew()
+            self.assertEqual(caught.exception.offers, (offer,))
+
+    def test_a_call_that_waits_renews(self) -> None:
+        server = self.serve("one", 0, "--lease", "2")
+        space, other = self.space(server), self.space(server, client=8)
+        space.out("lock", 1)
+        with space.hold("lock", INT) as offer:
+            taking = Going(lambda: other.take("lock", INT, timeout=7))
+            self.assertIsNone(space.take("never", timeout=6))
+            self.assertEqual(offer.accept(), ("lock", 1))
+        self.assertIsNone(taking.end())
+
+    def test_keep(self) -> None:
+        server = self.serve("one", 0, "--lease", "2")
+        space, other = self.space(server), self.space(server, client=8)
+        space.out("lock", 1)
+        space.out("lock", 2)
+        with space.hold("lock", 1, keep=0.3) as offer, space.hold("lock", 2) as lost:
+            self.assertIsNone(other.take("lock", 1, timeout=6))                              # a renewal is for all that the server holds
+            self.assertTrue(offer.is_held and lost.is_held)
+            self.assertEqual(offer.accept(), ("lock", 1))
+            self.assertEqual(other.take("lock", 2, timeout=PATIENCE), ("lock", 2))          # nothing is kept any more
+            with self.assertRaises(Gone):
+                lost.renew()
+        self.assertEqual([thread for thread in threading.enumerate() if "keeper" in thread.name and thread.is_alive()], [])
+
+    def test_threads_may_renew_release_and_close(self) -> None:
+        server = self.serve("one", 0, "--lease", "2")
+        space = self.space(server)
+        space.out("lock", 1)
+        over = threading.Event()
+        faults: List[BaseException] = []
+
+        def beat(offer: Offer) -> None:
+            while not over.is_set():
+                try:
+                    offer.renew()
+                except BaseException as fault:
+                    faults.append(fault)
+                time.sleep(0.002)
+
+        with space.hold("lock", INT) as offer:
+            threads = [threading.Thread(target=beat, args=(offer,)) for _ in range(3)]
+            for thread in threads:
+                thread.start()
+            for number in range(400):
+                space.out("a", number)
+                self.assertEqual(space.take("a", number), ("a", number))
+            over.set()
+            for thread in threads:
+                thread.join()
+            self.assertEqual(offer.accept(), ("lock", 1))
+        self.assertEqual(faults, [])
+
+    def test_close_wakes_who_waits(self) -> None:
+        server = self.serve()
+        for call in (lambda space: space.take("never"), lambda space: space.sync(Choose(Rd("never"), space.after(60)))):
+            space = self.space(server)
+            taking = Going(lambda: call(space))
+            time.sleep(0.3)
+            began = time.monotonic()
+            space.close()
+            with self.assertRaises(Closed):
+                taking.end()
+            self.assertLess(time.monotonic() - began, 1)
+            with self.assertRaises(Closed):
+                space.out("a")
+        space = self.space(server)
+        server.kill()
+        taking = Going(lambda: space.take("never"))
+        time.sleep(0.3)
+        space.close()
+        with self.assertRaises(Closed):
+            taking.end()
+
+
+class Forks(WithServers):
+    """A space belongs to the process that made it."""
+
+    def test_a_child_raises_and_touches_nothing(self) -> None:
+        space = self.space(self.serve())
+        space.out("job", 1)
+        space.out("job", 2)
+        with space.hold("job", 1) as offer:
+            for call in (lambda: space.out("a", 1), lambda: space.take("job", INT), lambda: space.last_reply(), lambda: space.again(), lambda: space.leave(),
+                         offer.accept, offer.renew, lambda: space.hold("job", INT).__enter__(), lambda: space.purge("job", INT), space.abandon):
+                self.assertIn(in_a_child(call), ("Forked", "Idle"))
+            self.assertEqual([in_a_child(lambda: (offer.release(), space.close(), offer.is_held))], ["(None, None, False)"])
+            self.assertTrue(offer.is_held)
+            self.assertEqual((space.out("parent", 2), offer.accept()), ((0, 3), ("job", 1)))
+        self.assertEqual([space.look("parent", INT), space.look("a", INT), space.take("job", INT)], [("parent", 2), None, ("job", 2)])
+
+    def test_a_pool_of_processes_gets_the_error(self) -> None:
+        space = self.space(self.serve())
+        with multiprocessing.get_context("fork").Pool(2) as pool:
+            faults = [pool.apply_async(space_out, (number,)) for number in range(10)]
+            global _space
+            _space = space
+            for result in faults:
+                with self.assertRaises((Forked, NameError)):
+                    result.get(PATIENCE)
+        _space = space
+        with multiprocessing.get_context("fork").Pool(2) as pool:
+            for result in [pool.apply_async(space_out, (number,)) for number in range(10)]:
+                with self.assertRaises(Forked):
+                    result.get(PATIENCE)
+        self.assertIsNone(space.look("pooled", INT))
+
+    def test_a_connection_ends_with_the_process_that_uses_it(self) -> None:
+        """A child that lives on keeps nothing of its parent's."""
+        server = self.serve()
+        other = self.space(server, client=8)
+        other.out("job", 1)
+        program = f"""
+            import os, sys, time
+            from linda_space import INT, Space
+            space = Space([{server.port}], 7)
+            with space.hold("job", INT):
+                if os.fork() == 0:
+                    time.sleep(30)
+                    os._exit(0)
+                print("held", flush=True)
+                time.sleep(60)
+        """
+        process = subprocess.Popen([sys.executable, "-c", textwrap.dedent(program)], stdout=subprocess.PIPE, env={**os.environ, "PYTHONPATH": str(HERE)},
+                                   universal_newlines=True, start_new_session=True)
+        assert process.stdout
+        self.addCleanup(process.stdout.close)
+        self.assertEqual(process.stdout.readline(), "held\n")
+        process.kill()
+        process.wait()
+        self.assertEqual(other.take("job", INT, timeout=5), ("job", 1))
+        os.killpg(process.pid, signal.SIGKILL)
+
+    def test_errors_and_spaces_in_pickles(self) -> None:
+        server = self.serve()
+        space = self.space(server)
+        space.out("job", 1)
+        with space.hold("job", INT) as offer:
+            pass
+        for fault in (Gone((offer,)), Forked(), Refused(0, 6, 0, 7), Restored(0, 1, 2), NumberInUse(0, 3, 1, 7), TimedOut([1]), Busy("b"), OutOfRange("o")):
+            fault.pending = "out"
+            same = pickle.loads(pickle.dumps(fault))
+            self.assertEqual((type(same), str(same), same.pending), (type(fault), str(fault), "out"))
+        with self.assertRaisesRegex(TypeError, "each process makes its own"):
+            pickle.dumps(space)
+
+
+_space: Any = None
+
+
+def space_out(number: int) -> Any:
+    if _space is None:
+        raise NameError
+    return _space.out("pooled", number, timeout=3)
+
+
+class Numbers(WithServers):
+    """Who a program is."""
+
+    def kept(self, server: Any, client: int, *what: bytes) -> None:
+        peer = Peer(server.port)
+        last = peer.greet(client)
+        for make in what:
+            last += 1
+            peer.ask(frames.frame(make[:1] + frames.spell_number(last) + make[1:]))
+        peer.close()
+
+    def test_an_unfinished_job_first(self) -> None:
+        server = self.serve()
+        numbers = range(100, 110)
+        out = b"\x02" + frames.spell_items("job", [1])
+        self.kept(server, 100, out)
+        self.kept(server, 101, out, out)
+        with Space([server.port], 101) as space:
+            self.assertEqual(space.take("job", INT), ("job", 1))
+        self.kept(server, 102, out)
+        self.assertEqual(self.free(lambda: Space([server.port], numbers)), (101, ("job", 1)))
+        with Space([server.port], 101) as space:
+            space.out("done", 1)
+            self.assertEqual(self.free(lambda: Space([server.port], numbers)), (100, None))          # 101 is in use
+        self.assertEqual(self.free(lambda: Space([server.port], numbers)), (100, None))
+        with self.free_space(lambda: Space([server.port], numbers)) as one, self.free_space(lambda: Space([server.port], numbers)) as two:
+            self.assertEqual([one.client, two.client, one.out("a")[0], two.out("a")[0]], [100, 101, 0, 0])
+
+    def free_space(self, make: Callable[[], Space]) -> Space:
+        time.sleep(0.05)                                        # the server sees that the connections before have ended
+        return make()
+
+    def free(self, make: Callable[[], Space]) -> Any:
+        with self.free_space(make) as space:
+            last = space.last_reply()
+            return space.client, last.tuple if last and last.kind == "taken" else None
+
+    def test_none_is_looked_at_after_one_that_was_never_used(self) -> None:
+        server = self.serve()
+        self.kept(server, 102, b"\x02" + frames.spell_items("job", [1]))
+        with Space([server.port], 102) as space:
+            space.take("job", INT)
+        self.assertEqual(self.free(lambda: Space([server.port], range(100, 110))), (100, None))
+
+    def test_as_many_programs_as_numbers(self) -> None:
+        """All begin at once, and none is left without a number by the looks of the others."""
+        server = self.serve()
+        for _ in range(3):
+            begun = [Going(lambda: Space([server.port], range(200, 212))) for _ in range(12)]
+            spaces = [going.end() for going in begun]
+            self.assertEqual(sorted(space.client for space in spaces), list(range(200, 212)))
+            for space in spaces:
+                space.out("a")
+                space.close()
+
+    def test_a_file_of_numbers(self) -> None:
+        server = self.serve()
+        folder = self.folder / "state"
+        folder.mkdir()
+        with mock.patch.dict(os.environ, {"LINDA_STATE": str(folder / "of" / "linda")}), mock.patch.object(sys, "argv", ["/some/where/square.py"]):
+            with Space([server.port]) as one, Space([server.port]) as two:
+                first, second = one.client, two.client
+                one.out("job", 1)
+                self.assertEqual(one.take("job", INT), ("job", 1))
+            self.assertNotEqual(first, second)
+            self.assertTrue(all(1 << 31 <= number < 1 << 32 for number in (first, second)))
+            (file,) = (folder / "of" / "linda").iterdir()
+            self.assertRegex(file.name, r"^square-[0-9a-f]{12}\.numbers$")
+            self.assertEqual((file.read_text(), file.stat().st_mode & 0o777), (f"{first}\n{second}\n", 0o600))
+            self.assertEqual(self.free(lambda: Space([server.port])), (first, ("job", 1)))
+            with mock.patch.object(sys, "argv", ["/some/where/else.py"]), Space([server.port]) as other:
+                self.assertNotIn(other.client, (first, second))
+        own = folder / "numbers"
+        own.write_text("77\n78\n")
+        self.assertEqual(self.free(lambda: Space([server.port], own))[0], 77)
+        for text in ("77\nx\n", f"{1 << 32}\n", "-1\n"):
+            own.write_text(text)
+            with self.assertRaisesRegex(NoNumber, "numbers"):
+                Space([server.port], own)
+        with self.assertRaisesRegex(NoNumber, "Not a directory|File exists"):
+            Space([server.port], own / "in" / "a" / "file")
+
+    def test_ports_by_name(self) -> None:
+        server = self.serve()
+        for place, name in enumerate(("localhost", "127.0.0.1")):
+            with Space([f"{name}:{server.port}"], 20 + place) as space:
+                self.assertEqual(space.out("a")[0], 0)
+        for port in ("localhost", "localhost:", "localhost:0", "example.org:7000", ":7000", "7000", "localhost:7000x"):
+            with self.assertRaises(OutOfRange):
+                Space([port], 1)
+
+
+class Work(WithServers):
+    """`work` loses no job."""
+
+    def worked(self, space: Space, function: Callable[[Any], Any], template: Any = ("job", INT), **how: Any) -> int:
+        return space.work(template, function, **{"timeout": 0.3, **how})
+
+    def tuples(self, space: Space, tag: str, count: int) -> list:
+        found: list = []
+        for fields in range(count + 1):
+            while (one := space.take(tag, *[ANY] * fields, timeout=0)) is not None:
+                found.append(one)
+        return sorted(found)
+
+    def test_results(self) -> None:
+        space = self.space(self.serve())
+        for number in range(4):
+            space.out("job", number)
+
+        def function(job: Any) -> Any:
+            return [None, ("done", 1), [("done", 2), ("log", "x")], []][job[1]]
+
+        self.assertEqual(self.worked(space, function), 4)
+        self.assertEqual([self.tuples(space, tag, 2) for tag in ("job", "done", "log")], [[], [("done", 1), ("done", 2)], [("log", "x")]])
+
+    def test_nothing_looks_unfinished_at_the_end(self) -> None:
+        server = self.serve()
+        space = self.space(server)
+        space.out("job", 1)
+        self.assertEqual(self.worked(space, lambda job: None), 1)
+        kept = space.last_reply()
+        assert kept is not None
+        self.assertEqual((kept.kind, kept.number), ("gone", 3))
+
+    def test_the_first_of_several_goes_first(self) -> None:
+        space = self.space(self.serve())
+        space.out_many([(tag, number) for number in range(3) for tag in ("low", "high")])
+        seen: list = []
+        self.assertEqual(self.worked(space, lambda job: seen.append(job), [In("high", INT), In("low", INT)]), 6)
+        self.assertEqual(seen, [*(("high", number) for number in range(3)), *(("low", number) for number in range(3))])
+
+    def test_a_wrong_result_and_an_error(self) -> None:
+        space = self.space(self.serve())
+        space.out("job", 1)
+        for value in (7, "text", [("a",), 7], {}):
+            with self.assertRaises(TypeError):
+                self.worked(space, lambda job: value)
+        with self.assertRaises(ZeroDivisionError):
+            self.worked(space, lambda job: 1 // 0)
+        self.assertEqual(space.take("job", INT, timeout=0), ("job", 1))
+
+    def test_tries(self) -> None:
+        server = self.serve("one", 0, "--lease", "2")
+        space, other = self.space(server), self.space(server, client=8)
+        for number in (1, 2, 3):
+            space.out("job", number, 0)
+        seen: list = []
+
+        def function(job: Any) -> Any:
+            seen.append((job[1], job[2], time.monotonic()))
+            if job[1] == 3 or job[1] == 2 and job[2] == 0:
+                raise ValueError("é" * 1_000)
+            return "done", job[1], job[2]
+
+        self.assertEqual(self.worked(space, function, ("job", INT, INT), tries=3, delay=0.8, timeout=1.5), 2)
+        self.assertEqual(self.tuples(other, "done", 2), [("done", 1, 0), ("done", 2, 1)])
+        (dead,) = self.tuples(other, "dead", 4)
+        self.assertEqual(dead, ("dead", 3, 3, "ValueError: " + "é" * 494))                 # 12 bytes, and 988 of 1,000
+        at = {(job, failed): when for job, failed, when in seen}
+        self.assertEqual(set(at), {(1, 0), (2, 0), (2, 1), (3, 0), (3, 1), (3, 2)})
+        self.assertGreaterEqual(at[3, 1] - at[3, 0], 0.8)
+        self.assertGreaterEqual(at[3, 2] - at[3, 1], 1.6)
+        self.assertLess(at[1, 0], at[2, 1])
+
+    def test_a_job_that_waits_for_its_next_try_is_free_if_the_worker_is_killed(self) -> None:
+        server = self.serve()
+        other = self.space(server, client=8)
+        other.out("job", 1, 0)
+        process = self.worker(server.port, 'print("fails", flush=True); raise ValueError("no")', "tries=9, delay=60", '("job", INT, INT)')
+        assert process.stdout
+        self.assertEqual(process.stdout.readline(), "fails\n")
+        self.assertIsNone(other.take("job", INT, INT, timeout=1.0))         # it is held until its next try
+        process.kill()
+        self.assertEqual(other.take("job", INT, INT, timeout=PATIENCE), ("job", 1, 0))
+
+    def test_sigterm_finishes_the_job_and_puts_back_what_waits(self) -> None:
+        server = self.serve()
+        other = self.space(server, client=8)
+        other.out("job", 1, 0)
+        other.out("job", 2, 4)
+        body = 'print("begins", flush=True); time.sleep(1); print("ends", flush=True); return ("done", job[1]) if job[1] == 1 else 1 // 0'
+        process = self.worker(server.port, body, "tries=9, delay=60", '("job", INT, INT)')
+        assert process.stdout
+        self.assertEqual([process.stdout.readline() for _ in range(3)], ["begins\n", "ends\n", "begins\n"])
+        process.terminate()
+        self.assertEqual(process.stdout.read(), "ends\nover\n")
+        self.assertEqual(process.wait(PATIENCE), 143)
+        self.assertEqual([other.take("done", INT, timeout=0), other.take("job", INT, INT, timeout=0), other.take("job", INT, INT, timeout=0)],
+                         [("done", 1), ("job", 2, 5), None])
+
+    def test_a_handler_of_its_own_is_called(self) -> None:
+        space = self.space(self.serve())
+        called: list = []
+        before = signal.signal(signal.SIGTERM, lambda number, frame: called.append(number))
+        self.addCleanup(signal.signal, signal.SIGTERM, before)
+        timer = threading.Timer(0.3, os.kill, (os.getpid(), signal.SIGTERM))
+        timer.start()
+        self.assertEqual((space.work(("never",), lambda job: None), called), (0, [signal.SIGTERM]))
+
+    def worker(self, port: int, body: str, how: str, template: str = '("job", INT)', client: int = 7) -> subprocess.Popen:
+        program = f"""
+            import sys, time
+            from linda_space import INT, Rd, Space
+            def function(job):
+                {body}
+            with Space([{port}], {client}) as space:
+                print("connected", flush=True)
+                try:
+                    print("did", space.work({template}, function, {how}), flush=True)
+                finally:
+                    print("over", flush=True)
+        """
+        process = subprocess.Popen([sys.executable, "-c", textwrap.dedent(program)], stdout=subprocess.PIPE, stderr=subprocess.DEVNULL,
+                                   env={**os.environ, "PYTHONPATH": str(HERE)}, universal_newlines=True)
+        assert process.stdout
+        self.addCleanup(process.stdout.close)
+        self.addCleanup(process.wait)
+        self.addCleanup(process.kill)
+        self.assertEqual(process.stdout.readline(), "connected\n")
+        return process
+
+    def test_stop_words_and_flags(self) -> None:
+        server = self.serve()
+        space, other = self.space(server), self.space(server, client=8)
+        working = Going(lambda: space.work(In("job", INT), lambda job: ("done", job[1]), stop=Rd("stop")))
+        other.out("job", 1)
+        self.assertEqual(other.take("done", INT, timeout=PATIENCE), ("done", 1))
+        other.out("stop")
+        self.assertEqual((working.end(), other.take("stop")), (1, ("stop",)))
+        flag = threading.Event()
+        working = Going(lambda: space.work(("job", INT), lambda job: None, stop=flag))
+        time.sleep(0.2)
+        flag.set()
+        self.assertEqual(working.end(), 0)
+        for stop in (In("stop"), 7, "stop"):
+            with self.assertRaises(OutOfRange):
+                space.work(("job", INT), lambda job: None, stop=stop)      # type: ignore[arg-type]
+        for template, how in ((("job", ANY), {"tries": 3}), (("job",), {"tries": 3}), (("job", *[INT] * 32), {"tries": 3}), (("job", INT), {"tries": 0}),
+                              ("job", {}), ([], {}), ([In("a"), "b"], {}), ((7.5,), {}), (("job", INT), {"delay": -1}), (("job", INT), {"keep": 0})):
+            with self.assertRaises(OutOfRange):
+                space.work(template, lambda job: None, **how)              # type: ignore[arg-type]
+
+    def test_a_hold_that_is_lost(self) -> None:
+        """The result of a job that another worker has by now is not put."""
+        server = self.serve("one", 0, "--lease", "1")
+        space, other = self.space(server), self.space(server, client=8)
+        space.out("job", 1)
+        space.out("job", 2)
+
+        def function(job: Any) -> Any:
+            if job[1] == 1:
+                server.kill()
+                self.serve("one", server.port)
+                self.assertEqual(other.take("job", 1, timeout=PATIENCE), ("job", 1))
+            return "done", job[1]
+
+        self.assertEqual(self.worked(space, function), 1)
+        self.assertEqual(self.tuples(other, "done", 1), [("done", 2)])
+
+    def test_a_lease_is_kept_while_a_function_runs(self) -> None:
+        server = self.serve("one", 0, "--lease", "2")
+        space, other = self.space(server), self.space(server, client=8)
+        space.out("job", 1)
+
+        def function(job: Any) -> Any:
+            self.assertIsNone(other.take("job", INT, timeout=6))
+            return "done", job[1]
+
+        self.assertEqual((self.worked(space, function), other.take("done", INT, timeout=0)), (1, ("done", 1)))
+
+    def test_servers_that_come_and_go(self) -> None:
+        """A worker goes on over restarts, and each job is done."""
+        server = self.serve()
+        other = self.space(server, client=8, patience=60.0)
+        process = self.worker(server.port, 'return "done", job[1]', 'stop=Rd("stop")')
+        for number in range(300):
+            other.out("job", number)
+            if number % 60 == 30:
+                server.kill()
+                time.sleep(0.2)
+                server = self.serve("one", server.port)
+        self.gather(other, 300)
+        other.out("stop")
+        self.assertEqual(process.wait(PATIENCE), 0)
+
+    def test_kills_lose_nothing(self) -> None:
+        """Workers are killed at any moment; each job is done, and none is left anywhere."""
+        server = self.serve()
+        boss = self.space(server, client=8)
+        dice, jobs = random.Random(7), 600
+        body, how = 'return "done", job[1]', "tries=3"
+        workers = {client: self.worker(server.port, body, how, '("job", INT, INT)', client) for client in (21, 22, 23)}
+        putting = Going(lambda: [boss.out("job", number, 0) for number in range(jobs)])
+        kills = 0
+        while putting.ends.empty() or kills < 12:
+            time.sleep(dice.uniform(0.1, 0.3))
+            client = dice.choice(sorted(workers))
+            workers[client].kill()
+            workers[client].wait()
+            workers[client] = self.worker(server.port, body, how, '("job", INT, INT)', client)
+            kills += 1
+        putting.end()
+        self.gather(boss, jobs)
+        self.assertIsNone(boss.look("job", ANY, ANY))
+
+    def gather(self, space: Space, jobs: int) -> None:
+        """The results of all jobs come, some perhaps twice."""
+        found: set = set()
+        while len(found) < jobs:
+            one = space.take("done", INT, timeout=20)
+            assert one is not None, f"{jobs - len(found)} of {jobs} jobs are lost: {sorted(set(range(jobs)) - found)[:20]}"
+            found.add(one[1])
+        self.assertEqual(found, set(range(jobs)))
+
+
+if __name__ == "__main__":
+    unittest.main()

@@ -1,0 +1,102 @@
+//! Where a command line has it asked how a server does, and the tags that are counted there.
+
+ghost use Rattle.std.specs.Prelude.{◌≡◌, true, map, IfOk, IfSome};
+ghost use Rattle.std.specs.String.{string_bytes};
+ghost use Rattle.linda_args.specs.Commands.{IsAfterServe, IsStatusPlace};
+
+use clap::ArgMatches;
+use std::alloc::{AllocError, Global};
+
+/// The option that says where it is asked how the server does.
+pub(super) const STATUS: &str = "status";
+
+/// The option that names a tag whose tuples are counted.
+pub(super) const METRIC: &str = "metric";
+
+/// Where it is asked how a server does.
+#[derive(Debug, Drop)]
+pub enum StatusPlace {
+    /// On this port of this machine, from 1.
+    Port(u16),
+    /// At a unix socket with this path, which has a slash.
+    Path(String),
+}
+
+/// The place of the status that the parser found, if there is one.
+///
+/// # Errors
+///
+/// `AllocError` where memory runs out.
+pub(super) fn status_found(
+    alloc: Global,
+    matches: &ArgMatches,
+) -> Result<Option<StatusPlace>, AllocError>
+    ensures { IfOk result (λ found. IfSome found IsStatusPlace) }
+{
+    let Some(text) = matches.get_str(STATUS) else {
+        return Ok(None);
+    };
+    if has_slash(text) {
+        let path = String::from_str(alloc, text)?;
+        return Ok(Some(StatusPlace::Path(path)));
+    }
+    Ok(port_found(matches))
+}
+
+// The port of the status; the parser has judged the number.
+fn port_found(matches: &ArgMatches) -> Option<StatusPlace>
+    ensures { IfSome result IsStatusPlace }
+{
+    let port = matches.get_one::<u16>(STATUS)?;
+    if port == 0 {
+        return None;
+    }
+    Some(StatusPlace::Port(port))
+}
+
+/// The tags that the parser found, in order.
+///
+/// # Errors
+///
+/// `AllocError` where memory runs out.
+pub(super) fn metrics_found(
+    alloc: Global,
+    matches: &ArgMatches,
+) -> Result<Vec<String>, AllocError> {
+    let mut metrics = Vec::new(alloc);
+    if let Some(tags) = matches.get_strs(METRIC) {
+        for tag in tags {
+            metrics.push(String::from_str(alloc, tag)?)?;
+        }
+    }
+    Ok(metrics)
+}
+
+/// Whether the words of the command line, of which the first names the program, are to serve, and
+/// the option of the status has a value with a slash.
+pub(super) fn asks_at_path(words: &[String]) -> bool
+    ensures yes { result ≡ true → IsAfterServe (map string_bytes words.now) }
+{
+    match words {
+        [_, command, later @ ..] => command.as_str() == "serve" && has_path(later),
+        _ => false,
+    }
+}
+
+// Whether one of the words is the option of the status with a path, or the path follows it.
+fn has_path(words: &[String]) -> bool {
+    let mut is_value = false;
+    for word in words {
+        let word = word.as_str();
+        if has_slash(word) && (is_value || word.starts_with("--status=")) {
+            return true;
+        }
+        is_value = word == "--status";
+    }
+    false
+}
+
+// Whether the text has a slash: then it names a path.
+fn has_slash(text: &str) -> bool {
+    text.contains('/')
+}

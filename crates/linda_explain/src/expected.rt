@@ -1,0 +1,76 @@
+//! What a text could go on with at a place.
+
+use crate::reading::{Kind, Reading, read};
+use std::alloc::{AllocError, Global};
+
+// What is tried, and how it is named.
+const PROBES: [(&str, &str); 15] = [
+    ("(", "\"(\""),
+    (")", "\")\""),
+    (",", "\",\""),
+    ("[", "\"[\""),
+    ("]", "\"]\""),
+    ("\"\"", "a text in double quotes"),
+    ("0", "a number"),
+    ("true", "true or false"),
+    ("?i", "?i, ?s or ?b"),
+    ("_", "_"),
+    ("in", "in or rd"),
+    ("alarm", "alarm"),
+    ("always", "always"),
+    ("choose", "choose, wrap or nack"),
+    ("never", "never"),
+];
+
+// What goes on nowhere but in a text.
+const ODD: &str = "\u{a7}";
+
+/// Appends what the text could go on with after its front: those of a table that the reader takes
+/// there. It is "the end of the line" if there is none, the closing quote in a text, and an escape
+/// after a backslash.
+///
+/// # Errors
+///
+/// `AllocError` if memory runs out.
+pub(crate) fn push_expected(
+    alloc: Global,
+    out: &mut String,
+    kind: Kind,
+    front: &str,
+) -> Result<(), AllocError> {
+    if front.as_bytes().ends_with(b"?") && !goes_on(alloc, kind, front, ODD)? {
+        return out.push_str("i, s or b");
+    }
+    if front.as_bytes().ends_with(b"\\") {
+        return out.push_str("\", \\, n, r or t");
+    }
+    if goes_on(alloc, kind, front, ODD)? {
+        return out.push_str("a closing double quote");
+    }
+    let mut count: usize = 0;
+    for (probe, name) in PROBES {
+        if goes_on(alloc, kind, front, probe)? {
+            if count > 0 {
+                out.push_str(", ")?;
+            }
+            out.push_str(name)?;
+            count = count.saturating_add(1);
+        }
+    }
+    if count == 0 {
+        out.push_str("the end of the line")?;
+    }
+    Ok(())
+}
+
+// Whether the reader takes all of the front with this after it: as a whole, or as the beginning of
+// a longer text.
+fn goes_on(alloc: Global, kind: Kind, front: &str, probe: &str) -> Result<bool, AllocError> {
+    let mut text = String::from_str(alloc, front)?;
+    text.push_str(probe)?;
+    match read(alloc, kind, text.as_str())? {
+        Reading::Whole => Ok(true),
+        Reading::At(at) => Ok(at >= text.len()),
+        Reading::Beyond(_) => Ok(false),
+    }
+}

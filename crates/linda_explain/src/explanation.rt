@@ -1,0 +1,150 @@
+//! The line that explains a fault.
+
+ghost use Rattle.std.specs.Prelude.{◌≤◌, ◌+◌, length};
+
+use crate::expected::push_expected;
+use crate::reading::{Kind, Reading, read};
+use linda_shell_text::{behind_word, number_in};
+use linda_text::skip_blanks;
+use std::alloc::{AllocError, Global};
+
+/// Whose lines these are.
+#[derive(Clone, Copy)]
+pub enum Lines {
+    /// Of one client: `out TUPLE`, `sync EVENT`, `leave`, `last`.
+    OfCall,
+    /// Of a script: the same after a client's number, and commands of servers.
+    OfScript,
+}
+
+const OF_CALL: &str = "out, sync, leave or last";
+
+const OF_CLIENT: &str = "out, sync, abandon or leave";
+
+const OF_SCRIPT: &str = "a client's number, tick, snapshot, stop, repeat or state";
+
+/// Says where the line of this number is no command, and what was expected there: `line 3, byte 5:
+/// expected "(", found "'"`. Bytes count from 1.
+///
+/// # Errors
+///
+/// `AllocError` if memory runs out.
+pub fn explain(
+    alloc: Global,
+    number: u64,
+    line: &[u8],
+    lines: Lines,
+) -> Result<String, AllocError> {
+    let text = skip_blanks(line);
+    match lines {
+        Lines::OfCall => explain_request(alloc, number, line, text, OF_CALL),
+        Lines::OfScript => match number_in(text) {
+            Some((_, rest)) => explain_request(alloc, number, line, rest, OF_CLIENT),
+            None => placed(alloc, number, line, text, OF_SCRIPT),
+        },
+    }
+}
+
+// Explains what a client is asked for; `commands` are those that there are.
+fn explain_request(
+    alloc: Global,
+    number: u64,
+    line: &[u8],
+    text: &[u8],
+    commands: &str,
+) -> Result<String, AllocError> {
+    if let Some(rest) = behind_word(text, b"out") {
+        return explain_text(alloc, number, line, rest, Kind::Tuple);
+    }
+    if let Some(rest) = behind_word(text, b"sync") {
+        return explain_text(alloc, number, line, rest, Kind::Event);
+    }
+    for word in [
+        b"leave".as_slice(),
+        b"last".as_slice(),
+        b"abandon".as_slice(),
+    ] {
+        if let Some(rest) = behind_word(text, word) {
+            return placed(alloc, number, line, rest, "the end of the line");
+        }
+    }
+    placed(alloc, number, line, text, commands)
+}
+
+// Explains what is to be a tuple or an event, and goes to the end of the line.
+fn explain_text(
+    alloc: Global,
+    number: u64,
+    line: &[u8],
+    text: &[u8],
+    kind: Kind,
+) -> Result<String, AllocError> {
+    let Ok(whole) = std::str::from_utf8(text) else {
+        return placed(alloc, number, line, text, "UTF-8");
+    };
+    match read(alloc, kind, whole)? {
+        Reading::Whole => placed(alloc, number, line, text, "a command"),
+        Reading::Beyond(what) => {
+            let mut said = begun(alloc, number, line, text)?;
+            said.push_str(what)?;
+            Ok(said)
+        }
+        Reading::At(at) => {
+            let Some((front, rest)) = whole.split_at_checked(at) else {
+                return placed(alloc, number, line, text, "a command");
+            };
+            let mut said = begun(alloc, number, line, rest.as_bytes())?;
+            said.push_str("expected ")?;
+            push_expected(alloc, &mut said, kind, front)?;
+            push_found(&mut said, rest)?;
+            Ok(said)
+        }
+    }
+}
+
+// Explains that something else was expected where this rest of the line begins.
+fn placed(
+    alloc: Global,
+    number: u64,
+    line: &[u8],
+    rest: &[u8],
+    wanted: &str,
+) -> Result<String, AllocError> {
+    let mut said = begun(alloc, number, line, rest)?;
+    said.push_str("expected ")?;
+    said.push_str(wanted)?;
+    let found = match std::str::from_utf8(rest) {
+        Ok(found) => found,
+        Err(_) => "",
+    };
+    push_found(&mut said, found)?;
+    Ok(said)
+}
+
+// Begins with where this rest of the line begins.
+fn begun(alloc: Global, number: u64, line: &[u8], rest: &[u8]) -> Result<String, AllocError> {
+    let byte = byte_of(line, rest);
+    format!(in alloc; "line {number}, byte {byte}: ")
+}
+
+// The byte, from 1, at which the rest of a line begins; one more than it has if nothing is left.
+fn byte_of(line: &[u8], rest: &[u8]) -> usize
+    ensures some { 1 ≤ result }
+    ensures within { result ≤ length line.now + 1 }
+{
+    line.len().saturating_sub(rest.len()).saturating_add(1)
+}
+
+// Appends the first character of what was found.
+fn push_found(said: &mut String, rest: &str) -> Result<(), AllocError> {
+    said.push_str(", found ")?;
+    match rest.chars().next() {
+        Some(found) => {
+            said.push_str("\"")?;
+            said.push(found)?;
+            said.push_str("\"")?;
+        }
+        None => said.push_str("the end of the line")?,
+    }
+    Ok(())
+}

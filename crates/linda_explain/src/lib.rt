@@ -1,0 +1,15 @@
+//! Where a line of the input is no command, and what was expected there.
+//!
+//! - A `Keeper` is a reader that keeps the lines that it gave last, so that the one with a fault can
+//!   be looked at.
+//! - `explain` says where a line goes wrong. What could go on there is found by the readers of the
+//!   commands themselves (`expected`): there is no second grammar.
+#![tactic(auto)]
+
+mod expected;
+mod explanation;
+mod keeper;
+mod reading;
+
+pub use explanation::{Lines, explain};
+pub use keeper::Keeper;

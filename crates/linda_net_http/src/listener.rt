@@ -1,0 +1,83 @@
+//! Where connections come in: a port of this machine, or a unix socket.
+
+use crate::stream::Stream;
+use mio::{Interest, Registry, Token, net};
+use std::io;
+use std::net::TcpListener;
+use std::os::fd::{AsFd, OwnedFd};
+use std::os::unix::net::UnixListener;
+
+/// Where connections come in. Who may connect to a unix socket is up to the mode of its file.
+#[derive(Drop)]
+pub enum Listener {
+    /// A port of this machine.
+    Port(TcpListener),
+    /// A unix socket.
+    Socket(UnixListener),
+}
+
+/// A listener that does not wait.
+#[derive(Drop)]
+pub(crate) enum Door {
+    Port(net::TcpListener),
+    Socket(net::UnixListener),
+}
+
+impl Door {
+    /// The listener waits no more.
+    ///
+    /// # Errors
+    ///
+    /// The system refuses that.
+    pub(crate) fn of(listener: Listener) -> io::Result<Door> {
+        match listener {
+            Listener::Port(port) => {
+                port.set_nonblocking(true)?;
+                Ok(Door::Port(net::TcpListener::from_std(port)))
+            }
+            Listener::Socket(socket) => {
+                socket.set_nonblocking(true)?;
+                Ok(Door::Socket(net::UnixListener::from_std(socket)))
+            }
+        }
+    }
+
+    /// Has it looked at when a connection comes.
+    ///
+    /// # Errors
+    ///
+    /// The system does not look at it.
+    pub(crate) fn register(&mut self, registry: &Registry, token: Token) -> io::Result<()> {
+        match self {
+            Door::Port(port) => registry.register(port, token, Interest::READABLE),
+            Door::Socket(socket) => registry.register(socket, token, Interest::READABLE),
+        }
+    }
+
+    /// A descriptor more of it, that is good for nothing but to be closed; none if the system has no
+    /// more.
+    pub(crate) fn spare(&self) -> Option<OwnedFd> {
+        match self {
+            Door::Port(port) => port.as_fd().try_clone_to_owned().ok(),
+            Door::Socket(socket) => socket.as_fd().try_clone_to_owned().ok(),
+        }
+    }
+
+    /// The next connection.
+    ///
+    /// # Errors
+    ///
+    /// `WouldBlock` if none waits; what the system returns.
+    pub(crate) fn accept(&self) -> io::Result<Stream> {
+        match self {
+            Door::Port(port) => {
+                let (stream, _) = port.accept()?;
+                Ok(Stream::Tcp(stream))
+            }
+            Door::Socket(socket) => {
+                let (stream, _) = socket.accept()?;
+                Ok(Stream::Unix(stream))
+            }
+        }
+    }
+}

@@ -1,0 +1,13 @@
+use Rattle.std.proofs.Common.{None, ◌++◌, refl, ap, ◌∙◌}
+use Rattle.linda_codec.specs.Formats.{short_number}
+use Rattle.linda_snap.proofs.ClientsLaws.{counted}
+use Rattle.linda_snap.proofs.clients.Clients.begin.Goals as goal
+
+pub returns : goal.returns
+returns c begun bytes has same is =
+    c.in_ok-push_next.ensures.owes begun bytes
+    (counted begun record { book = c.args.book; last = None } bytes c.extend_from_slice.new.self.items has same refl
+    (c.in_ok-extend_from_slice.ensures.items
+    ∙ ap (λ l. l ++ c.to_be_bytes.result) c.new-bytes.ensures.items
+    ∙ c.to_be_bytes.ensures
+    ∙ ap short_number.spell is))
