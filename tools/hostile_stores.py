@@ -32,6 +32,7 @@ MEBI = 1_048_576
 TUPLES = 60
 LARGE = "x" * 4_095
 LIVES, EACH = 12, 300
+MOST_LIVED = 131_072
 PAIRS = 1_200
 STARTS = 5
 SMALL = 64
@@ -70,11 +71,11 @@ def lives(program: Path, folder: Path) -> str:
                 space.out("job", number)
                 space.take("job", number)
         end(server)
-        records, _ = used_of(program, folder)
-        most = max(most, records)
-        if most > 4 * EACH:
-            raise Difference(f"the bank has {records} records, those of two lives or more")
-    return f"{LIVES} lives of {2 * EACH} records, the bank had {most} at most"
+        records, used = used_of(program, folder)
+        most = max(most, used)
+        if most > MOST_LIVED:
+            raise Difference(f"the bank has {records} records of {used} bytes")
+    return f"{LIVES} lives of {2 * EACH} records, the bank had {most} bytes at most"
 
 
 def small(program: Path, folder: Path) -> str:

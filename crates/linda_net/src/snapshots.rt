@@ -1,6 +1,6 @@
 //! A snapshot while connections are served: in steps, between which they go on.
 
-ghost use Rattle.std.specs.Prelude.{◌≡◌};
+ghost use Rattle.std.specs.Prelude.{◌≡◌, ◌*◌, ◌-◌, ◌^◌, min, max};
 ghost use Rattle.std.specs.Duration.{as_nanos};
 
 use linda_disk::Disk;
@@ -10,8 +10,8 @@ use std::sync::{Mutex, Wait};
 use std::thread;
 use std::time::{Clock, Duration};
 
-/// About so many bytes are written in a step. A bank of fewer bytes has a snapshot of hardly more,
-/// which is taken at once.
+/// About so many bytes are written in a step, or more if more records came since the last one. A
+/// bank of fewer bytes has a snapshot of hardly more, which is taken at once.
 const STEP: usize = 262_144;
 
 /// For how many milliseconds others have the server between two steps.
@@ -30,18 +30,31 @@ pub(crate) fn snapshot<D: Disk, L: Ledger, R: Wait + Clock>(
     if let Err(fault) = shared.begin_steps(rt) {
         return Some(Err(fault));
     }
+    let (mut used, mut most) = (shared.gauge(rt).used, STEP);
     for _ in rt.forever() {
         if *is_over.lock(rt) {
             return None;
         }
-        match shared.step(rt, STEP) {
+        match shared.step(rt, most) {
             Err(fault) => return Some(Err(fault)),
             Ok(Progress::Done) => return Some(Ok(())),
             Ok(Progress::Idle) => return Some(shared.snapshot(rt)),
             Ok(Progress::Going) => thread::sleep(rt, pause()),
         }
+        let now = shared.gauge(rt).used;
+        most = step_after(used, now);
+        used = now;
     }
     None
+}
+
+// About how many bytes the next step writes, if the bank in use had so many bytes before the last
+// one and has so many now: twice as many as it has more. So with each step less is left to write,
+// however fast records come.
+fn step_after(before: usize, now: usize) -> usize
+    ensures { result ≡ max 262_144 (min (2 * (now - before)) (2 ^ 64 - 1)) }
+{
+    now.saturating_sub(before).saturating_mul(2).max(STEP)
 }
 
 // How long it is from one step to the next.
