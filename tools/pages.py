@@ -2,7 +2,8 @@
 """Makes the man page and the completions of packaging/ from what `linda --help` and `linda CMD --help` print.
 
     tools/pages.py [FILE]             writes those of the program FILE (crates/linda/out/linda, if none is given) into packaging/
-    tools/pages.py --check [FILE]     writes nothing, says which of them are others, and ends with 1 if there are any
+    tools/pages.py --check [FILE]     writes nothing, says which of them are others, plays each line of the synopsis, and ends with 1 if there are any
+                                      or if the program takes what the synopsis does not have, or the other way round
 
 The man page is packaging/linda.1.in, where these are put in place of lines of their own: `@SYNOPSIS@`, of all commands; `@ABOUT CMD@`, the first line
 of a command's help; `@OPTIONS CMD@`, its arguments and options, and without CMD those of the program; `@EXAMPLES@`, what comes after the options of
@@ -22,6 +23,14 @@ PROVED = TOP / "crates/linda/out/linda"
 # Most used first, as the manual has them.
 COMMANDS = ("serve", "call", "inspect", "run", "pipe")
 ROW = re.compile(r" +(?P<names>\S.*?)(?:  +(?P<help>\S.*))?")
+# The words that ask for the other form of a command, over unix sockets.
+SOCKET = ("--socket", "s")
+# Options that only the form over sockets has, and those that exclude one another.
+ONLY_SOCKET = {"--socket", "--mode"}
+EXCLUDED = (("serve", "--lease", "--threads"), ("serve", "--socket", "--threads"), ("serve", "--mode", "--threads"))
+# Options that ask for another one, and values that are taken.
+ASKS_FOR = {"--mode": "--socket", "--metric": "--status"}
+TAKEN = {"--mode": "600", "--dir": "/nonexistent/folder", "--trace": "/dev/null", "--metric": "tag", "--socket": "/nonexistent/s"}
 # The program's own, which its parser does not know as an option: a sentence of its help names it.
 VERSION = ("--version", "Print the version")
 
@@ -87,25 +96,97 @@ def escaped(text: str) -> str:
     return "\\&" + text if text.startswith((".", "'")) else text
 
 
-def synopsis_of(name: str, it: Help) -> list[str]:
-    words = [word for word in it.usage.split() if word not in ("linda", name, "[OPTIONS]")]
+class Form(NamedTuple):
+    """A line of the synopsis: the words that have to be there, and the options that may be."""
+
+    command: str
+    words: tuple[str, ...]
+    options: tuple[Row, ...]
+
+
+def form_of(name: str, it: Help, without: set[str]) -> Form:
+    words = tuple(word for word in it.usage.split() if word not in ("linda", name, "[OPTIONS]"))
+    return Form(name, words, tuple(row for row in it.options if row.long not in {*words, *without, "--help"}))
+
+
+def forms_of(name: str, helps: dict[str, Help], sockets: dict[str, Help]) -> list[Form]:
+    """The forms of a command: the second one, if there is any, is the one over sockets."""
+    forms = [form_of(name, helps[name], ONLY_SOCKET if name in sockets else set())]
+    if name in sockets:
+        forms.append(form_of(name, sockets[name], {other for command, one, other in EXCLUDED if command == name and one == "--socket"}))
+    return forms
+
+
+def synopsis_of(form: Form) -> list[str]:
     shown, at = [], 0
-    while at < len(words):
-        if words[at].startswith("--"):
-            shown.append(f".BI {escaped(words[at])}\\~ {words[at + 1].strip('<>')}")
+    while at < len(form.words):
+        word = form.words[at]
+        if word.startswith("--"):
+            shown.append(f".BI {escaped(word)}\\~ {form.words[at + 1].strip('<>')}")
             at += 1
         else:
-            shown.append(f".IR {words[at].replace('<', '').replace('>', '')}")
+            shown.append(f".IR {word.replace('<', '').replace('>', '')}")
         at += 1
-    needed = {word for word in words if word.startswith("--")}
-    for row in it.options:
-        if row.long not in needed | {"--help"}:
-            value = f"\\~\\fI{row.value}\\fP" if row.value else ""
-            shown.append(f".RB [ {escaped(row.long)}{value} ]")
-    return [f".B linda {name}", *shown, ".br"]
+    for row in form.options:
+        value = f"\\~\\fI{row.value}\\fP" if row.value else ""
+        shown.append(f".RB [ {escaped(row.long)}{value} ]")
+    return [f".B linda {form.command}", *shown, ".br"]
 
 
-def rows_in_man(it: Help) -> list[str]:
+# ---- each line of the synopsis, played
+
+def played_words(form: Form) -> list[str]:
+    """The words that have to be there, with values that the program takes."""
+    return [TAKEN.get(form.words[at - 1], "1") if word.startswith("<") and at and form.words[at - 1].startswith("--") else
+            "1" if word.startswith("<PORT") else "/nonexistent/folder" if word.startswith("<") else word for at, word in enumerate(form.words)]
+
+
+def option_words(row: Row) -> list[str]:
+    return [row.long, *([TAKEN.get(row.long, "1")] if row.value else [])]
+
+
+def is_taken(program: Path, words: list[str]) -> bool:
+    """Whether the program's parser takes these words. What is named in them is not there, so nothing is served."""
+    return subprocess.run([program, *words], stdin=subprocess.DEVNULL, capture_output=True, check=False, timeout=60).returncode != 2
+
+
+def misspelled(program: Path, forms: list[Form]) -> list[str]:
+    """The command lines that the program refuses though a form has them, or takes though no form does."""
+    wrong = []
+
+    def see(words: list[str], expected: bool) -> None:
+        if is_taken(program, words) != expected:
+            wrong.append(f"linda {' '.join(words)}: {'refused' if expected else 'taken'}")
+
+    for form in forms:
+        words, rows = [form.command, *played_words(form)], {row.long: row for row in form.options}
+        excluding = {(one, other) for command, one, other in EXCLUDED if command == form.command}
+        see(words, True)
+        for row in form.options:
+            asked = ASKS_FOR.get(row.long)
+            see([*words, *(option_words(rows[asked]) if asked in rows else []), *option_words(row)], True)
+            if asked in rows:
+                see([*words, *option_words(row)], False)
+        chosen: list[str] = []
+        for long in rows:
+            if not any((long, other) in excluding or (other, long) in excluding for other in chosen):
+                chosen.append(long)
+        see([*words, *(word for long in chosen for word in option_words(rows[long]))], True)
+        for one, other in excluding:
+            if other in rows and one in rows:
+                see([*words, *option_words(rows[one]), *option_words(rows[other])], False)
+        if "--socket" in form.words and form.command == "serve":
+            see([*words, "--threads"], False)
+        if form.command == "call":
+            see([*words, *("--socket s".split() if "--socket" not in form.words else ["7000"])], False)
+        for at, word in enumerate(form.words):
+            if word.startswith("--"):
+                see([form.command, *(it for place, it in enumerate(played_words(form)) if place not in (at, at + 1))], False)
+    return wrong
+
+
+def rows_in_man(it: Help, usages: list[str]) -> list[str]:
+    """What each argument and option is, and whether it is required: in each of these usages."""
     lines = []
     for row in (*it.arguments, *it.options):
         if not row.long:
@@ -115,12 +196,12 @@ def rows_in_man(it: Help) -> list[str]:
         else:
             named = f".BI {escaped(row.long)}\\~ {row.value}" if row.value else f".B {escaped(row.long)}"
         lines += [".TP", named, escaped(row.help) + "."]
-        if row.long and f" {row.long} " in it.usage:
+        if row.long and all(row.long in usage.split() for usage in usages):
             lines.append("Required.")
     return lines
 
 
-def man_page(helps: dict[str, Help]) -> str:
+def man_page(helps: dict[str, Help], forms: list[Form]) -> str:
     lines = []
     for line in (FOLDER / "linda.1.in").read_text().splitlines():
         found = re.fullmatch(r"@([A-Z]+)(?: ([a-z]+))?@", line)
@@ -129,11 +210,11 @@ def man_page(helps: dict[str, Help]) -> str:
             continue
         kind, name = found[1], found[2] or ""
         if kind == "SYNOPSIS":
-            lines += [part for command in COMMANDS for part in synopsis_of(command, helps[command])]
+            lines += [part for form in forms for part in synopsis_of(form)]
         elif kind == "ABOUT":
             lines.append(escaped(helps[name].about) + ".")
         elif kind == "OPTIONS":
-            lines += rows_in_man(helps[name])
+            lines += rows_in_man(helps[name], [" ".join(form.words) for form in forms if form.command == name] or [helps[name].usage])
         elif kind == "EXAMPLES":
             for command in ("", *COMMANDS):
                 lines += [f".SS linda {command}".rstrip(), ".nf", *map(escaped, helps[command].examples), ".fi"]
@@ -259,17 +340,28 @@ def with_options_of(it: Help, other: Help) -> Help:
     return it._replace(options=(*(row for row in other.options if row.long not in known), *it.options))
 
 
-def made(program: Path) -> dict[str, str]:
-    """The pages of packaging/ that are made from the help, by their names."""
+class Made(NamedTuple):
+    """The pages of packaging/ that are made from the help, by their names, and the forms of the synopsis."""
+
+    pages: dict[str, str]
+    forms: list[Form]
+
+
+def made(program: Path) -> Made:
     helps = {name: help_of(program, name) for name in ("", *COMMANDS)}
+    sockets = {name: help_of(program, name, *SOCKET) for name in ("serve", "call")}
+    forms = [form for name in COMMANDS for form in forms_of(name, helps, sockets)]
     # A call over sockets has a help of its own, since it takes no port.
-    helps["call"] = with_options_of(helps["call"], help_of(program, "call", "--socket", "s"))
-    return {"linda.1": man_page(helps), "linda.bash": bash_page(helps), "_linda": zsh_page(helps), "linda.fish": fish_page(helps)}
+    helps["call"] = with_options_of(helps["call"], sockets["call"])
+    pages = {"linda.1": man_page(helps, forms), "linda.bash": bash_page(helps), "_linda": zsh_page(helps), "linda.fish": fish_page(helps)}
+    return Made(pages, forms)
 
 
 def differing(program: Path) -> list[str]:
-    """What packaging/ has otherwise."""
-    return [f"packaging/{name}: not what tools/pages.py makes" for name, text in made(program).items() if (FOLDER / name).read_text() != text]
+    """What packaging/ has otherwise, and the command lines of the synopsis that are not so."""
+    it = made(program)
+    others = [f"packaging/{name}: not what tools/pages.py makes" for name, text in it.pages.items() if (FOLDER / name).read_text() != text]
+    return others + misspelled(program, it.forms)
 
 
 def main() -> None:
@@ -281,9 +373,9 @@ def main() -> None:
         sys.exit(f"tools/pages.py: there is no {given.file}")
     if given.check:
         wrong = differing(given.file)
-        print("\n".join([*wrong, f"{len(wrong)} pages are others"]))
+        print("\n".join([*wrong, f"{len(wrong)} pages or command lines are others"]))
         sys.exit(1 if wrong else 0)
-    for name, text in made(given.file).items():
+    for name, text in made(given.file).pages.items():
         (FOLDER / name).write_text(text)
 
 

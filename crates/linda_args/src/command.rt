@@ -92,7 +92,7 @@ pub enum Task {
         /// For how many seconds a client may hold a tuple and say nothing, if that is limited.
         lease: Option<u32>,
         threads: bool,
-        /// Where it is asked how the server does, if it is.
+        /// Where the status is served, if it is.
         status: Option<StatusPlace>,
         /// The tags whose tuples are counted in the metrics; none if there is no status.
         metrics: Vec<String>,
@@ -604,13 +604,13 @@ fn inspect_command<'a>(alloc: Global) -> Result<Command<'a>, AllocError>
     ensures { IfOk result (IsCommand spec.inspect_command) }
 {
     let about =
-        "Tell what the store in a folder holds, and whether it would be served; nothing is written";
+        "Show what the store in a folder holds, and whether it would be served; nothing is written";
     let folder = word(alloc, DIR, "DIR", "The folder of the store");
     let first = bare_command(alloc, INSPECT, about, INSPECTING).arg(folder);
     let second = with_arg(first, flag(alloc, TUPLES, "A line for each tuple"));
     let help = "A line for each client, with its kept reply";
     let third = with_arg(second, flag(alloc, CLIENTS, help));
-    let help = "One JSON object in place of the lines";
+    let help = "One JSON object instead of the lines";
     let fourth = with_arg(third, flag(alloc, JSON, help));
     with_arg(fourth, flag(alloc, EXPLAIN, EXPLAIN_END))
 }
@@ -636,7 +636,7 @@ fn client<'a>(alloc: Global) -> Arg<'a>
     ensures rule { rule_of result ≡ client_rule }
     ensures own { result.global ≡ false }
 {
-    let help = "Which client it is, a number that no other client has";
+    let help = "Client number; no other client may use it";
     number_option(alloc, CLIENT, "C", help, value_parser!(u32)).required(true)
 }
 
@@ -649,7 +649,7 @@ fn port_words<'a>(alloc: Global) -> Arg<'a>
         alloc,
         PORTS,
         "PORT",
-        "Where servers 0, 1, .. listen, from 1 to 16 of them",
+        "Ports of servers 0, 1, .., from 1 to 16 of them; none with --socket",
     )
     .num_args(1..=MAX_SERVERS as usize)
     .value_parser(value_parser!(u16).range(1..))
@@ -660,7 +660,7 @@ fn port_option<'a>(alloc: Global) -> Arg<'a>
     ensures rule { rule_of result ≡ port_rule }
     ensures own { result.global ≡ false }
 {
-    let help = "Where the server listens; 0 for any free port";
+    let help = "Port to listen on, 0 for any free one; not required with --socket";
     number_option(alloc, PORT, "P", help, value_parser!(u16)).required(true)
 }
 
@@ -669,7 +669,7 @@ fn dir_option<'a>(alloc: Global) -> Arg<'a>
     ensures rule { rule_of result ≡ dir_rule }
     ensures own { result.global ≡ false }
 {
-    let help = "The folder of the store, which is created in it where there is none";
+    let help = "Folder of the store; a new store is created if it has none";
     option(alloc, DIR, "D", help).required(true)
 }
 
@@ -682,7 +682,7 @@ fn sessions_option<'a>(alloc: Global) -> Arg<'a>
         alloc,
         SESSIONS,
         "K",
-        "End after so many connections",
+        "End after K connections",
         value_parser!(u32),
     )
 }
@@ -692,12 +692,12 @@ fn lease_option<'a>(alloc: Global) -> Arg<'a>
     ensures rule { rule_of result ≡ lease_rule }
     ensures own { result.global ≡ false }
 {
-    let help = "End connections of clients that hold a tuple and send nothing for S seconds";
+    let help = "End a client that holds a tuple in silence for S seconds; not with --threads";
     let parser = value_parser!(u32).range(1..);
     number_option(alloc, LEASE, "S", help, parser)
 }
 
-// The option that says where it is asked how the server does.
+// The option that names the port of the status.
 fn status_option<'a>(alloc: Global) -> Arg<'a>
     ensures rule { rule_of result ≡ status_rule }
     ensures own { result.global ≡ false }
@@ -706,7 +706,7 @@ fn status_option<'a>(alloc: Global) -> Arg<'a>
     number_option(alloc, STATUS, "Q", STATUS_HELP, parser)
 }
 
-// The option that says where it is asked how the server does, on a port or at a path.
+// The option that says where the status is served: on a port or at a path.
 fn status_at<'a>(alloc: Global, at_path: bool) -> Arg<'a> {
     if at_path {
         option(alloc, STATUS, "Q", STATUS_HELP)
@@ -799,17 +799,18 @@ const LEASE: &str = "lease";
 const THREADS: &str = "threads";
 
 const STATUS_HELP: &str =
-    "Answer over HTTP how the server does: on this port, or at a unix socket, if Q has a slash";
+    "Serve the status over HTTP on this port, or at a unix socket, if Q has a slash";
 
 const SERVE_ABOUT: &str = "Serve the store in a folder on a port of this machine";
 
 const LOG_HELP: &str = "Write a log to standard error: a line a minute, and one at each event";
 
-const THREADS_HELP: &str = "Give each connection two threads, as before there were loops";
+const THREADS_HELP: &str =
+    "Use two threads for each connection instead of two event loops; not with --socket";
 
-const SOCKET_HELP: &str = "Listen on a unix socket at this path, beside a port or in place of it";
+const SOCKET_HELP: &str = "Listen on a unix socket at this path, beside a port or instead of it";
 
-const MODE_HELP: &str = "Who may connect to the socket, in octal; 600 if it is not given";
+const MODE_HELP: &str = "Mode of the socket, in octal: who may connect; 600 by default";
 
 const WAIT: &str = "wait";
 
@@ -826,7 +827,7 @@ const UNCOUNTED: &str = "the argument '--metric <TAG>' cannot be used without '-
 
 const EXPLAIN: &str = "explain";
 
-const EXPLAIN_LINES: &str = "Say in a second line where a line is no command, or what failed";
+const EXPLAIN_LINES: &str = "Say in a second line what is wrong in a line, or what failed";
 
 const EXPLAIN_END: &str = "Say in a second line what failed";
 

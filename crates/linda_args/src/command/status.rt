@@ -7,7 +7,7 @@ ghost use Rattle.linda_args.specs.Commands.{IsAfterServe, IsStatusPlace};
 use clap::ArgMatches;
 use std::alloc::{AllocError, Global};
 
-/// The option that says where it is asked how the server does.
+/// The option that says where the status is served.
 pub(super) const STATUS: &str = "status";
 
 /// The option that names a tag whose tuples are counted.
