@@ -1,6 +1,5 @@
 //! What two banks come to, as one JSON object.
 
-mod cursor;
 mod head;
 mod listing;
 mod output;

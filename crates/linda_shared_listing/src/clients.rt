@@ -10,13 +10,14 @@ ghost use Rattle.linda_shared_listing.specs.Firsts.{IsNext};
 ghost use Rattle.linda_shared_listing.specs.Clients.{is_listed, client_of, timeless};
 ghost use Rattle.linda_shared_listing.specs.Clients.{listed_reply, reply_in, IsClientPage};
 
-use crate::kept::{before, next_entry};
+use crate::kept::before;
 use crate::lesser::lesser;
 use crate::limits::MOST_LOOKED;
 use crate::listed::{ClientPage, ListedClient, ListedReply};
 use linda_book::{Book, KeptReply};
 use linda_hold::{Holds, Waits};
 use linda_shared_outbox::Outboxes;
+use linda_snap::next_entry;
 use std::alloc::{AllocError, Global};
 
 /// The first clients from this one on that have an outbox or for which a reply is kept, in rising

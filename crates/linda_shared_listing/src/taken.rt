@@ -4,10 +4,11 @@ ghost use Rattle.std.specs.Prelude.{◌≡◌, ℕ, cond};
 ghost use Rattle.linda_shared_outbox.specs.Waiting.{waits_for};
 ghost use Rattle.linda_shared_listing.specs.Taken.{is_taken, is_taken_by_absent, IsTakenCount};
 
-use crate::kept::{before, kept_after, kept_client_after};
+use crate::kept::{before, kept_client_after};
 use crate::limits::MOST_LOOKED;
 use linda_book::{Book, KeptReply};
 use linda_shared_outbox::Outboxes;
+use linda_snap::kept_after;
 
 /// How many of some clients are away and took a tuple by their last message, at one moment: each
 /// may have a job unfinished.

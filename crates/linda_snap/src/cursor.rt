@@ -13,8 +13,8 @@ use linda_book::{Book, KeptReply};
 use linda_store_state::State;
 use linda_tuple::Tuple;
 
-/// The first tuple of the state from this id on, with its id.
-pub(crate) fn tuple_from<B: Bag>(state: &State<B>, from: u64) -> Option<(u64, &Tuple)>
+/// The first tuple of the state from this id on, with its id; nothing if there is none.
+pub fn tuple_from<B: Bag>(state: &State<B>, from: u64) -> Option<(u64, &Tuple)>
     requires { IsState state.now }
     ensures found { IfSome result (λ e. entries_from from state.now.bag
         ≡ (e.0, e.1.now) ∷ entries_from (e.0 + 1) state.now.bag) }
@@ -27,11 +27,12 @@ pub(crate) fn tuple_from<B: Bag>(state: &State<B>, from: u64) -> Option<(u64, &T
     Some((id, tuple))
 }
 
-/// The first client of the book above this one, or at all where none is given, with its number and
-/// reply.
-pub(crate) fn kept_after(book: &Book, last: Option<u32>) -> Option<(u32, (u64, &KeptReply))>
+/// The first client of the book above this one, or at all if none is given, with its number and
+/// reply; nothing if there is none.
+pub fn kept_after(book: &Book, last: Option<u32>) -> Option<(u32, (u64, &KeptReply))>
     ensures found { IfSome result (λ e. entries_from (first_after last) book.now
         ≡ (e.0, (e.1.0, e.1.1.now)) ∷ entries_from (suc e.0) book.now) }
+    ensures above { IfSome result (λ e. first_after last ≤ e.0) }
     ensures none { IfNone result (entries_from (first_after last) book.now ≡ []) }
 {
     let Some((client, entry)) = next_entry(book, last) else {
@@ -41,7 +42,7 @@ pub(crate) fn kept_after(book: &Book, last: Option<u32>) -> Option<(u32, (u64, &
 }
 
 /// The same, as the map of the book has it.
-pub(crate) fn next_entry(book: &Book, last: Option<u32>) -> Option<(u32, (u64, &KeptReply))>
+pub fn next_entry(book: &Book, last: Option<u32>) -> Option<(u32, (u64, &KeptReply))>
     ensures found { IfSome result (λ e. maps.get book.now e.0 ≡ Some (e.1.0, e.1.1.now)) }
     ensures above { IfSome result (λ e. first_after last ≤ e.0) }
     ensures least { IfSome result (λ e. (c : ℕ) → first_after last ≤ c → c < e.0

@@ -27,6 +27,7 @@ mod tail;
 mod takeover;
 
 pub use choice::{ChoiceFault, Chosen, choose, choose_bank};
+pub use cursor::{kept_after, next_entry, tuple_from};
 pub use draft::{Draft, STEP_TUPLES};
 pub use laws::{an_append_leaves_the_old_state_or_the_new, two_banks_stand_for_one_state};
 pub use linda_journal::{Closed, Whole, fill, shut, unlock};

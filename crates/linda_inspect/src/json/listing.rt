@@ -9,13 +9,13 @@ ghost use Rattle.linda_inspect.specs.Json.{IsPushed, json_client, json_client_li
 ghost use Rattle.linda_inspect.specs.Json.{json_counts, json_entry, json_numbers, json_placed};
 ghost use Rattle.linda_inspect.specs.Json.{json_reply, json_state, json_tuple_list, json_tuples};
 
-use super::cursor::{kept_after, tuple_from};
 use super::output::write_bytes;
 use super::value::{push_member, push_tuple};
 use crate::fault::OutputFault;
 use crate::listing::Lists;
 use linda_bag::Bag;
 use linda_book::{Book, KeptReply};
+use linda_snap::{kept_after, tuple_from};
 use linda_store_state::State;
 use linda_tuple::Tuple;
 use std::alloc::{AllocError, Global};
