@@ -15,9 +15,11 @@ from simulator.clients import JOB
 from simulator.wire import Fault, lines_of
 
 PATIENCE = 60.0
-# So many tuples and records an earlier server left at most; and so many tuples a large store has at least, whose snapshots are written in steps.
+# So many tuples and records an earlier server left at most. A large store has so many tuples more, each with so many letters: its bank has more than
+# 256 KiB, so its snapshots are written in steps.
 MOST_TUPLES, MOST_RECORDS = 20, 40
-LARGE = 4_200
+LARGE, LETTERS = 1_100, 250
+IN_STEPS = 262_144
 SLOW_CP = '#!/bin/sh\n/bin/cp "$1" "$3"\nsleep 0.3\n/bin/cp "$2" "$3"\n'
 
 
@@ -25,12 +27,12 @@ def number(value: int, size: int = 8) -> bytes:
     return value.to_bytes(size, "big")
 
 
-def earlier_bank(client: int, dice: random.Random) -> bytes:
+def earlier_bank(client: int, dice: random.Random, is_large: bool) -> bytes:
     """A bank with a snapshot of some tuples of a client, and a journal in which it puts and takes by turns."""
     def spelled(place: int) -> bytes:
-        return frames.spell_items(JOB, (client, place, ""))
+        return frames.spell_items(JOB, (client, place, "l" * LETTERS if is_large else ""))
 
-    last = dice.randint(0, MOST_TUPLES) + (LARGE if dice.random() < 0.25 else 0)
+    last = dice.randint(0, MOST_TUPLES) + (LARGE if is_large else 0)
     book = {client: (last, ("Stored", last))} if last else {}
     state = banks.State(last + 1, {place: spelled(place) for place in range(1, last + 1)}, book)
     data, following = banks.spell_bank(dice.randint(2, 1_000), state)[:-1], last + 1
@@ -45,10 +47,10 @@ def earlier_bank(client: int, dice: random.Random) -> bytes:
     return data + b"\0"
 
 
-def make_earlier(folder: Path, client: int, dice: random.Random) -> None:
+def make_earlier(folder: Path, client: int, dice: random.Random, is_large: bool) -> None:
     """Such a bank, of the first form or the second, and beside it nothing, a closed bank or an older one."""
     side, other = dice.sample(banks.SIDES, 2)
-    bank = earlier_bank(client, dice)
+    bank = earlier_bank(client, dice, is_large)
     (folder / f"{side}.bank").write_bytes(banks.in_form(bank, 1) if dice.random() < 0.5 else bank)
     (folder / f"{other}.bank").write_bytes(dice.choice([b"", b"\0", banks.spell_bank(1, banks.State())]))
 

@@ -24,6 +24,8 @@ PATIENCE = 60.0
 TICK = 0.01
 KINDS: list[type[Client]] = [HandClient, LibraryClient, CallClient]
 FIRST_NUMBER = 10
+# Each so many rounds have a server with a large store.
+LARGE_ONCE = 4
 # How often a round is crowded, and by how many more clients.
 CROWDED, CROWD = 0.15, 10
 # For how long clients rest between two requests.
@@ -58,7 +60,8 @@ class Round:
 
     def server(self, library: Path, at: int) -> Simulated:
         disk = Disk(self.top, f"server{at}", library, random.Random(f"{self.seed} disk {at}"))
-        return Simulated(at, disk, self.network, random.Random(f"{self.seed} server {at}"), self.counts)
+        is_large = at == 0 and self.seed % LARGE_ONCE == 0
+        return Simulated(at, disk, self.network, random.Random(f"{self.seed} server {at}"), self.counts, is_large)
 
     def new_number(self) -> int:
         with self.numbering:

@@ -5,6 +5,7 @@ from __future__ import annotations
 import random
 import select
 import signal
+import socket
 import subprocess
 import threading
 import time
@@ -17,7 +18,7 @@ from served import Peer, frames, listing
 from simulator.call import PROGRAM
 from simulator.clients import JOB, job_words
 from simulator.disk import Disk
-from simulator.folders import copied, inspected, make_earlier
+from simulator.folders import IN_STEPS, copied, inspected, make_earlier
 from simulator.model import Model
 from simulator.network import Gate, Network
 from simulator.plants import Plant
@@ -29,6 +30,7 @@ LOOKERS = 2_000_000
 SECONDS_FREE, SILENCE = 5.0, 20.0
 # After so many records of a life a snapshot is taken; so many changes of the disk they are.
 HARD, CHANGES_A_RECORD = 1_024, 4
+HARD_LETTERS = 255
 # Microseconds that a sync takes.
 SLOW = [0, 0, 300, 2_000, 5_000, 20_000]
 # How often the power is cut soon after a start, how often if the last life left what is not synced, and the seconds
@@ -38,6 +40,8 @@ SHORT, SHORT_UNSYNCED, SOON = 0.2, 0.6, 0.05
 FIRST_CHANGES = 9
 # Seconds for which a client that holds a tuple may say nothing, if that is limited.
 LEASE = 1
+# How often a life has idle connections, so many that those of clients go to the second loop.
+TWO_LOOPS, IDLE = 0.34, 33
 
 
 def is_death(fired: list[str]) -> bool:
@@ -48,13 +52,14 @@ def is_death(fired: list[str]) -> bool:
 class Simulated:
     """A server, with its gate, its disk and its model."""
 
-    def __init__(self, number: int, disk: Disk, network: Network, dice: random.Random, counts: Counter[str]) -> None:
+    def __init__(self, number: int, disk: Disk, network: Network, dice: random.Random, counts: Counter[str], is_large: bool) -> None:
         self.number, self.disk, self.network, self.dice, self.counts = number, disk, network, dice, counts
         self.plant: Plant = network.plant
         # The client that puts and takes in this folder before clients come, and works hard at times.
         self.own = number + 1
-        if dice.random() < 0.6:
-            make_earlier(disk.folder, self.own, dice)
+        self.is_large = is_large or dice.random() < 0.1
+        if self.is_large or dice.random() < 0.6:
+            make_earlier(disk.folder, self.own, dice, self.is_large)
         found = disk.verdict()
         assert found.state
         self.was_ready = bool(found.side)
@@ -69,6 +74,7 @@ class Simulated:
         # Whether this life is to be short, and when the power is cut then.
         self.is_short, self.cut_at = False, 0.0
         self.worker: threading.Thread | None = None
+        self.idle: list[socket.socket] = []
         self.is_to_rest = threading.Event()
 
     def fail(self, *words: object) -> None:
@@ -135,7 +141,7 @@ class Simulated:
         """What goes wrong on its disk in this life."""
         kind = self.dice.random()
         self.has_plan = may_end and kind < 0.6
-        self.works_hard = self.dice.random() < 0.08
+        self.works_hard = self.is_large or self.dice.random() < 0.08
         with self.network.lock:
             self.model.may_fail = self.has_plan and kind >= 0.3
         lines = [*self.plant.plan(), f"slow 0 {0 if self.works_hard else self.dice.choice(SLOW)} 0"]
@@ -185,6 +191,9 @@ class Simulated:
             self.counts["stops by its disk"] += 1
             self.has_ended("store: down")
         self.network.drain(self.gate)
+        for peer in self.idle:
+            peer.close()
+        self.idle.clear()
         self.rest()
         with self.network.lock:
             self.model.stopped()
@@ -214,7 +223,9 @@ class Simulated:
             self.model.is_old = found.form == 1
             ids, taken = self.model.ids, self.model.taken
             gone = {place: frames.spell_items(what[0], what[1:]) for place, what in ids.items() if place in taken}
-        self.counts["snapshots"] += max(0, found.generation - max(1, self.generation))
+        taken = max(0, found.generation - max(1, self.generation))
+        self.counts["snapshots"] += taken
+        self.counts["of these in steps"] += taken if sum(len(it) + 8 for it in found.state.bag.values()) >= IN_STEPS else 0
         self.generation = max(1, found.generation)
         self.plant.after_look(self.disk.folder, gone)
 
@@ -235,10 +246,21 @@ class Simulated:
         self.note("clients are let in")
         self.is_short = self.dice.random() < (SHORT_UNSYNCED if self.was_unsynced else SHORT)
         self.cut_at = time.monotonic() + self.dice.random() * SOON
+        if self.dice.random() < TWO_LOOPS:
+            self.fill_first_loop(port)
         self.network.open(self.gate, port)
         if self.works_hard:
             self.worker = threading.Thread(target=self.work_hard, args=(port,), daemon=True)
             self.worker.start()
+
+    def fill_first_loop(self, port: int) -> None:
+        """Connections that say nothing for as long as this life lasts."""
+        try:
+            self.idle = [socket.create_connection(("127.0.0.1", port), PATIENCE) for _ in range(IDLE)]
+            self.counts["lives with two loops"] += 1
+        except OSError:
+            # (the server has ended, as planned)
+            pass
 
     def work_hard(self, port: int) -> None:
         """One record after another, until a snapshot is due, which the server then takes beside what it answers."""
@@ -249,11 +271,13 @@ class Simulated:
                 wire = self.model.begin("direct")
             self.say(peer, wire, frames.hello(self.own, False))
             last = self.model.record(self.own).last
+            # (as many bytes as the last snapshot have to come, and a bank of the first form has no longer text)
+            text = "h" * (HARD_LETTERS if self.is_large else 0)
             for number in range(last + 1, last + HARD + 20):
                 if self.is_to_rest.is_set():
                     break
-                put = frames.out(number, JOB, self.own, number, "")
-                self.say(peer, wire, put if number % 50 == 0 else frames.accept(number, 0, 0))
+                is_put = self.is_large or number % 50 == 0
+                self.say(peer, wire, frames.out(number, JOB, self.own, number, text) if is_put else frames.accept(number, 0, 0))
             peer.close()
         except OSError:
             # (the server has ended, as planned or by kill -9)
