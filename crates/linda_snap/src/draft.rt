@@ -118,7 +118,8 @@ impl Draft {
     }
 
     /// Spells the next tuples, one at least, until they have so many bytes, or there are 4,096 of
-    /// them. Returns their bytes, which are to be written behind those before; nothing if all are written.
+    /// them. Returns their bytes, which are to be written behind those before; nothing if all are
+    /// written.
     ///
     /// # Errors
     ///
