@@ -1,7 +1,7 @@
 -- What calls of a server keep to: those that take messages, and those that write the same state
 -- anew.
 use Rattle.std.specs.Prelude.{◌≡◌, ℕ, ◌<◌, ◌⊎◌, ◌↔◌, List, [], length, true, false, Result, IfOk}
-use Rattle.std.specs.Prelude.{IfErr, OnOk, IsErrOf}
+use Rattle.std.specs.Prelude.{IfErr, OnOk, IsErrOf, None, IsSome}
 use Rattle.std.specs.Global.{Vec}
 use Rattle.std.specs.Vec.{vec_len}
 use Rattle.linda_wire.specs.declared.message.Message.{Message}
@@ -17,14 +17,17 @@ use Rattle.linda_server.specs.declared.durable.Durable.{Durable}
 use Rattle.linda_server.specs.declared.fault.ServeFault.{ServeFault}
 use Rattle.linda_server.specs.declared.fault.ServeFault.TheVariants as faults
 use Rattle.linda_server.specs.declared.served.Served.{Served}
+use Rattle.linda_server.specs.declared.progress.Progress.{Progress}
+use Rattle.linda_server.specs.declared.progress.Progress.TheVariants.{Idle, Going, Done}
 use Rattle.linda_server.specs.Calls.{IsBeforeOrAfter, HasHandled, HasNoRoom, StandsFor}
 use Rattle.linda_server.specs.Lives.{GoesOn}
+use Rattle.linda_server.specs.Next.{HasGrown}
 use Rattle.linda_server.specs.Node.{shown}
 use Rattle.linda_server.specs.Served.{IsServed}
-use Rattle.linda_server.specs.Switch.{HasNoNext}
+use Rattle.linda_server.specs.Switch.{HasNoNext, IsTakenOver}
 use Rattle.linda_server.specs.Server.{form_in_use, end_in_use, generation_in_use, BothHonest}
 use Rattle.linda_server.specs.Server.{failures_of}
-use Rattle.linda_server.specs.Server.{IsPutOn, AlwaysLeave, StandNow}
+use Rattle.linda_server.specs.Server.{IsPutOn, IsBankStill, AlwaysLeave, StandNow}
 
 module _ {D : Type 0} {g : Ghosts D} where
   -- The deeds that the messages would do have no room on the bank in use: one of them has no
@@ -114,7 +117,7 @@ module _ {D : Type 0} {g : Ghosts D} where
     pub honest : BothHonest old.disks ↔ BothHonest new.disks
 
   -- It is down exactly where it was, and goes down only where a device failed or memory ran out
-  -- (`renew`, `clear`).
+  -- (`renew`, `clear`, `start`, `advance`).
   pub record Fails {T : Type 0} (old : Durable D g) (result : Result T ServeFault)
       (new : Durable D g) : Type 0 where
     pub was_down : IsErrOf result faults.Down ↔ (old.down ≡ true)
@@ -123,6 +126,17 @@ module _ {D : Type 0} {g : Ghosts D} where
         × (IsErrOf result faults.Memory → new.down ≡ true)
     pub cause : IfErr result
         (λ fault. TellsFailures faults.Disk fault (failures_of old.disks) (failures_of new.disks))
+
+  -- At Ok a snapshot in steps is begun, and the bank in use is as it was (`start`, `begin_steps`).
+  abbrev pub HasBegun : Durable D g → Durable D g → Type 0
+  HasBegun old new = IsSome new.next × IsBankStill old.disks new.disks
+
+  -- A step of a snapshot came to this (`advance`, `step`): none is begun, and nothing changed; one
+  -- that is begun goes on, beside the bank in use; or it came to its end, and its bank is in use.
+  abbrev pub CameTo : Durable D g → Durable D g → Progress → Type 0
+  CameTo old new Idle = (old.next ≡ None) × (new.next ≡ None) × (new.disks ≡ old.disks)
+  CameTo old new Going = HasGrown old.next new.next × IsBankStill old.disks new.disks
+  CameTo old new Done = IsSome old.next × (new.next ≡ None) × IsTakenOver old.disks new.disks
 
   -- It is down where it says so, and says so where it was, as a node does; and every life goes on
   -- by it (`snapshot`, `trim`, `begin_steps`, `step`).

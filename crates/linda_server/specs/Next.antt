@@ -1,5 +1,5 @@
 -- The next bank of a server, while it is written in steps on the disk that is not in use.
-use Rattle.std.specs.Prelude.{◌≡◌, ◌≤◌, ◌+◌, ℕ, List, All, Option, Some, IfSome, length}
+use Rattle.std.specs.Prelude.{◌≡◌, ◌<◌, ◌≤◌, ◌+◌, ℕ, List, All, Option, Some, IfSome, length}
 use Rattle.linda_wire.specs.declared.message.Message.{Message}
 use Rattle.linda_wire.specs.declared.message.Message.TheVariants.{Hello, Out, Ask, Accept, Cancel, Leave}
 use Rattle.linda_store_state.specs.State.{State}
@@ -46,6 +46,14 @@ module _ {D : Type 0} {g : Ghosts D} where
   IsWithin at (InUse pair) = g.honest pair.other → at ≤ length (g.view pair.other).seen
   IsWithin at (Shut left right) = ⊥
   IsWithin at Away = ⊥
+
+-- There is one still, and more of it is written.
+pub record HasGrown (old new : Option NextBank) : Type 0 where
+  pub was : NextBank
+  pub now : NextBank
+  pub were : old ≡ Some was
+  pub are : new ≡ Some now
+  pub more : was.at < now.at
 
 -- ---- what is done meanwhile
 

@@ -76,6 +76,10 @@ module _ {D : Type 0} {g : Ghosts D} where
   abbrev pub IsBesideStill : Disks (Bank D g) D → Disks (Bank D g) D → Type 0
   IsBesideStill old new = AreRelated (λ b c. c.generation ≡ b.generation) (λ d e. e ≡ d) old new
 
+  -- The bank in use is as it was, on its side.
+  abbrev pub IsBankStill : Disks (Bank D g) D → Disks (Bank D g) D → Type 0
+  IsBankStill old new = AreRelated (λ b c. c ≡ b) (λ d e. Unit {0}) old new
+
   -- So many calls changed or synced the disk that was not in use, if it is honest, and two more
   -- where it was to be closed first; it is in use now, and the other one is as it was.
   abbrev pub IsRenewedBy : ℕ → Disks (Bank D g) D → Disks (Bank D g) D → Type 0

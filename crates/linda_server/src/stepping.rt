@@ -15,7 +15,7 @@ ghost use Rattle.linda_server.specs.Next.{IsBegun, IsBegunOn, IsFilledOn, IsWith
 ghost use Rattle.linda_server.specs.Pairs.{PairsSince};
 ghost use Rattle.linda_server.specs.Server.{both_of, is_usable, generation_in_use, limit_in_use};
 ghost use Rattle.linda_server.specs.Server.{BothHonest, failures_of, IsUpFor, IsKeptFor};
-ghost use Rattle.linda_server.specs.Server.{IsBesideStill};
+ghost use Rattle.linda_server.specs.Server.{IsBankStill};
 ghost use Rattle.linda_server.specs.Switch.{HasNoNext, IsOtherDurable, IsTakenOver};
 
 use crate::disks::{Disks, Pair};
@@ -55,11 +55,14 @@ pub(crate) fn start<B: Bag, D: Disk>(
         → IsKeptFor disks.old st
         → OnOk result (IsKeptFor disks.new st) }
     ensures begun { IfOk result (λ next. IsBegunOn next disks.new state.now) }
+    ensures still { IsBankStill disks.old disks.new }
     ensures there { is_there disks.new ≡ true }
     ensures ready { OnOk result (is_usable disks.new ≡ true) }
     ensures limit { OnOk result (limit_in_use disks.new ≡ limit_in_use disks.old) }
     ensures full { IsErrOf result ServeFault.Full → (disks.new ≡ disks.old)
         × HasNoNext state.now (limit_in_use disks.old) (generation_in_use disks.old) }
+    ensures room { OnOk result (HasNoNext state.now (limit_in_use disks.old)
+        (generation_in_use disks.old) → ⊥) }
     ensures honest { BothHonest disks.old ↔ BothHonest disks.new }
     ensures cause { IfErr result (λ fault. TellsFailures ServeFault.Disk fault
         (failures_of disks.old) (failures_of disks.new)) }
@@ -104,6 +107,7 @@ fn start_on<B: Bag, D: Disk>(
         × (next.successor.generation ≡ generation + 1)) }
     ensures full { IsErrOf result.0 ServeFault.Full → (result.1 ≡ other)
         × HasNoNext state.now limit generation }
+    ensures room { OnOk result.0 (HasNoNext state.now limit generation → ⊥) }
     ensures honest { D.honest other ↔ D.honest result.1 }
     ensures cause { IfErr result.0 (λ fault. TellsFailures ServeFault.Disk fault
         (D.failures other) (D.failures result.1)) }
@@ -170,6 +174,9 @@ pub(crate) fn advance<B: Bag, D: Disk>(
         → OnOk result (IsKeptFor disks.new state.now) }
     ensures begun { IsBegunOn next disks.old state.now
         → IfOk result (λ o. IfSome o (λ n. IsBegunOn n disks.new state.now)) }
+    ensures still { IfOk result (λ o. IfSome o (λ n. IsBankStill disks.old disks.new)) }
+    // Each step writes something.
+    ensures further { IfOk result (λ o. IfSome o (λ n. next.at < n.at)) }
     ensures switched { IfOk result (λ o. IfNone o (IsTakenOver disks.old disks.new)) }
     ensures there { is_there disks.new ≡ true }
     ensures ready { OnOk result (is_usable disks.new ≡ true) }
@@ -214,6 +221,7 @@ fn write_on<D: Disk>(
     ensures filled { (front : List ℕ) → IsFilledOn front at disks.old
         → IfOk result (λ next. IsFilledOn (front ++ bytes.now) next disks.new) }
     ensures place { IfOk result (λ next. next ≡ at + length bytes.now) }
+    ensures still { IsBankStill disks.old disks.new }
     ensures generation { OnOk result (generation_in_use disks.new ≡ generation_in_use disks.old) }
     ensures there { is_there disks.new ≡ true }
     ensures ready { OnOk result (is_usable disks.new ≡ true) }

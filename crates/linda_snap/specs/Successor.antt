@@ -68,6 +68,11 @@ pub record Completes (s : Successor) (front bytes : List ℕ) (st : State) : Typ
   pub done : AreDone begun (deeds_in records) st
   pub last : IsLast s.generation (spell_state written begun) records front bytes
 
+-- what is to be written next
+abbrev pub bytes_in : Part → List ℕ
+bytes_in (More bytes) = bytes.items
+bytes_in (Last bytes) = bytes.items
+
 -- These bytes are to be written next: more of the bank, or the last ones.
 abbrev pub IsNext : Part → Successor → List ℕ → State → Type 0
 IsNext (More bytes) s front st = Follows s (front ++ bytes.items) st

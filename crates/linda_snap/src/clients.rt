@@ -2,7 +2,7 @@
 //! copy, and which of them are written. A large tuple of a kept reply is there once for both.
 //! `specs/Clients` says what is still to come.
 
-ghost use Rattle.std.specs.Prelude.{◌≡◌, ◌++◌, ℕ, List, length, OnOk, OnErr, IfOk};
+ghost use Rattle.std.specs.Prelude.{◌≡◌, ◌<◌, ◌≤◌, ◌++◌, ℕ, List, length, OnOk, OnErr, IfOk};
 ghost use Rattle.std.specs.Prelude.{IfSome, IfNone};
 ghost use Rattle.std.specs.FinMap.{entries};
 ghost use Rattle.linda_store_state.specs.State as states;
@@ -38,9 +38,10 @@ impl Clients {
         count: u32,
         most: usize,
     ) -> Result<(Clients, Vec<u8>), AllocError>
-        ensures { (begun : states.State) (bytes : List ℕ)
+        ensures owes { (begun : states.State) (bytes : List ℕ)
             → HasTuples begun bytes → book ≡ begun.book → count ≡ length (entries begun.book)
             → IfOk result (λ x. OwesClients begun x.0 (bytes ++ x.1.items)) }
+        ensures some { IfOk result (λ x. 0 < length x.1.items) }
     {
         let mut bytes = Vec::new(alloc);
         bytes.extend_from_slice(&count.to_be_bytes())?;
@@ -49,12 +50,13 @@ impl Clients {
         Ok((clients, bytes))
     }
 
-    /// Spells the next clients, until they have so many bytes, or there are 4,096 of them. Returns
-    /// their bytes, which are to be written behind those before; nothing if all are written.
+    /// Spells the next clients, one at least, until they have so many bytes, or there are 4,097 of
+    /// them. Returns their bytes, which are to be written behind those before; nothing if all are
+    /// written.
     ///
     /// # Errors
     ///
-    /// `AllocError` if memory runs out; nothing changed.
+    /// `AllocError` if memory runs out: they are not to be used then.
     pub(crate) fn spell_next(
         &mut self,
         alloc: Global,
@@ -65,11 +67,14 @@ impl Clients {
             → IfOk result (λ step. IfSome step (λ more.
             OwesClients begun self.new (bytes ++ more.items))) }
         ensures through { IfOk result (λ step. IfNone step (AreThrough self.old)) }
+        ensures some { IfOk result (λ step. IfSome step (λ more. 0 < length more.items)) }
     {
-        if kept_after(&self.book, self.last).is_none() {
+        let Some((client, entry)) = kept_after(&self.book, self.last) else {
             return Ok(None);
-        }
+        };
         let mut more = Vec::new(alloc);
+        push_kept(&mut more, client, entry.0, entry.1)?;
+        self.last = Some(client);
         self.push_next(&mut more, most)?;
         Ok(Some(more))
     }
@@ -79,6 +84,7 @@ impl Clients {
         ensures owes { (begun : states.State) (bytes : List ℕ)
             → OwesClients begun self.old (bytes ++ out.old.items)
             → OnOk result (OwesClients begun self.new (bytes ++ out.new.items)) }
+        ensures grows { OnOk result (length out.old.items ≤ length out.new.items) }
         ensures err { OnErr result (self.new ≡ self.old) }
     {
         let mut last = self.last;

@@ -117,8 +117,9 @@ impl Draft {
         Ok(())
     }
 
-    /// Spells the next tuples, until they have so many bytes, or there are 4,096 of them. Returns
-    /// their bytes, which are to be written behind those before; nothing if all are written.
+    /// Spells the next tuples, one at least, until they have so many bytes, or there are 4,096 of
+    /// them. Returns their bytes, which are to be written behind those before; nothing if all are
+    /// written.
     ///
     /// # Errors
     ///
@@ -136,16 +137,18 @@ impl Draft {
         ensures through { (begun : states.State) (bytes : List ℕ)
             → Owes begun self.old bytes state.now.bag
             → IfOk result (λ step. IfNone step (IsThrough begun self.new)) }
+        ensures some { IfOk result (λ step. IfSome step (λ more. 0 < length more.items)) }
         ensures ended { IfOk result (λ step. IfNone step (self.new ≡ self.old)) }
         ensures err { OnErr result (self.new ≡ self.old) }
         ensures next { self.new.next ≡ self.old.next }
     {
-        if self.owed_from(state, self.from).is_none() {
+        let Some((first, tuple)) = self.owed_from(state, self.from) else {
             return Ok(None);
-        }
+        };
         let mut more = Vec::new(alloc);
-        let mut from = self.from;
-        for _ in 0..STEP_TUPLES {
+        push_placed(&mut more, first, tuple)?;
+        let mut from = first + 1;
+        for _ in 1..STEP_TUPLES {
             if more.len() >= most {
                 break;
             }

@@ -12,7 +12,8 @@ ghost use Rattle.linda_store_state.specs.Deed.{is_taken};
 ghost use Rattle.linda_store_state.specs.DeedFormat.{written};
 ghost use Rattle.linda_snap.specs.Replay.{GoesOn};
 ghost use Rattle.linda_snap.specs.Snapshot.{spell_state};
-ghost use Rattle.linda_snap.specs.Successor.{Follows, IsBehindTuples, IsSafeFor, IsNext, heading};
+ghost use Rattle.linda_snap.specs.Successor.{Follows, IsBehindTuples, IsSafeFor, IsNext};
+ghost use Rattle.linda_snap.specs.Successor.{bytes_in, heading};
 
 use crate::clients::Clients;
 use crate::draft::Draft;
@@ -164,7 +165,8 @@ impl Successor {
         Ok(true)
     }
 
-    /// The next bytes, about so many at most, which are to be written behind those before.
+    /// The next bytes, about so many at most and one at least, which are to be written behind those
+    /// before.
     ///
     /// # Errors
     ///
@@ -177,6 +179,7 @@ impl Successor {
     ) -> Result<Part, AllocError>
         ensures next { (front : List ℕ) → Follows self.old front state.now
             → IfOk result (λ part. IsNext part self.new front state.now) }
+        ensures some { IfOk result (λ part. 0 < length (bytes_in part)) }
         ensures generation { self.new.generation ≡ self.old.generation }
     {
         match self.next_tuples(alloc, state, most)? {
@@ -185,7 +188,7 @@ impl Successor {
                 Some(bytes) => Ok(Part::More(bytes)),
                 None => match self.next_clients(alloc, most)? {
                     Some(bytes) => Ok(Part::More(bytes)),
-                    None => self.next_records(alloc, most),
+                    None => self.next_records(alloc, one_at_least(most)),
                 },
             },
         }
@@ -203,6 +206,7 @@ impl Successor {
             Follows self.new (front ++ bytes.items) state.now)) }
         ensures none { (front : List ℕ) → Follows self.old front state.now
             → IfOk result (λ o. IfNone o (IsBehindTuples self.new front state.now)) }
+        ensures long { IfOk result (λ o. IfSome o (λ bytes. 0 < length bytes.items)) }
         ensures generation { self.new.generation ≡ self.old.generation }
     {
         match &mut self.draft {
@@ -218,6 +222,7 @@ impl Successor {
             Follows self.new (front ++ bytes.items) st)) }
         ensures none { (front : List ℕ) (st : states.State) → IsBehindTuples self.old front st
             → IfOk result (λ o. IfNone o (Follows self.new front st)) }
+        ensures long { IfOk result (λ o. IfSome o (λ bytes. 0 < length bytes.items)) }
         ensures ended { OnOk result (self.new.draft ≡ None) }
         ensures generation { self.new.generation ≡ self.old.generation }
     {
@@ -240,6 +245,7 @@ impl Successor {
             Follows self.new (front ++ bytes.items) st)) }
         ensures none { (front : List ℕ) (st : states.State) → Follows self.old front st
             → IfOk result (λ o. IfNone o (Follows self.new front st)) }
+        ensures long { IfOk result (λ o. IfSome o (λ bytes. 0 < length bytes.items)) }
         ensures ended { IfOk result (λ o. IfNone o (self.new.clients ≡ None)) }
         ensures same { (self.new.draft ≡ None) × (self.new.generation ≡ self.old.generation) }
     {
@@ -260,9 +266,11 @@ impl Successor {
 
     // The next records, so many bytes of them; with the last ones the closed gate.
     fn next_records(&mut self, alloc: Global, most: usize) -> Result<Part, AllocError>
-        requires { (self.old.draft ≡ None) × (self.old.clients ≡ None) }
+        requires ended { (self.old.draft ≡ None) × (self.old.clients ≡ None) }
+        requires some { 1 ≤ most }
         ensures next { (front : List ℕ) (st : states.State) → Follows self.old front st
             → IfOk result (λ part. IsNext part self.new front st) }
+        ensures long { IfOk result (λ part. 0 < length (bytes_in part)) }
         ensures generation { self.new.generation ≡ self.old.generation }
     {
         let left = self.since.left();
@@ -277,6 +285,13 @@ impl Successor {
         bytes.push(CLOSED)?;
         Ok(Part::Last(bytes))
     }
+}
+
+// One, if it is none.
+fn one_at_least(most: usize) -> usize
+    ensures { 1 ≤ result }
+{
+    if most == 0 { 1 } else { most }
 }
 
 // What stands first behind the first gate.

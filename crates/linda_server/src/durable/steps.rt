@@ -1,6 +1,6 @@
 //! A snapshot in steps, while the server goes on between them.
 
-ghost use Rattle.std.specs.Prelude.{◌≡◌, true, IfOk, IsErrOf};
+ghost use Rattle.std.specs.Prelude.{◌≡◌, true, IfOk, OnOk, IsErrOf};
 
 use super::Durable;
 use crate::fault::{ServeFault, node_fault};
@@ -15,7 +15,7 @@ use std::mem;
 impl<D: Disk> Durable<D> {
     ghost use Rattle.std.specs.Option.{is_some};
     ghost use Rattle.linda_server.specs.Handled.{Rewrites, Fails, Falls, HasNoNextBank};
-    ghost use Rattle.linda_server.specs.Switch.{IsTakenOver};
+    ghost use Rattle.linda_server.specs.Handled.{HasBegun, CameTo};
 
     /// Whether a snapshot in steps is begun, and was not given up.
     pub fn is_stepping(&self) -> bool
@@ -37,9 +37,12 @@ impl<D: Disk> Durable<D> {
         // It goes on for the same state, and it falls as said.
         ensures rewrites { Rewrites self.old result self.new }
         ensures falls { Falls self.old result self.new }
-        // It is Full only if there is no next bank for the state; nothing changed then.
+        // At Ok one is begun, beside the bank in use.
+        ensures begun { OnOk result (HasBegun self.old self.new) }
+        // It is Full exactly if there is no next bank for the state; nothing changed then.
         ensures full { IsErrOf result NodeFault.Full → (self.new ≡ self.old)
             × HasNoNextBank self.old }
+        ensures room { OnOk result (HasNoNextBank self.old → ⊥) }
     {
         match self.start(alloc) {
             Ok(()) => Ok(()),
@@ -47,12 +50,23 @@ impl<D: Disk> Durable<D> {
         }
     }
 
-    // The same, which distinguishes a device's failure from `Memory`.
-    fn start(&mut self, alloc: Global) -> Result<(), ServeFault>
+    /// Begins a snapshot in steps. It is what `begin_steps` stands on, and distinguishes a device's
+    /// failure from `Memory`.
+    ///
+    /// # Errors
+    ///
+    /// `Down`, then `Full` if the next bank would pass the limit or no generation is left: nothing
+    /// changed. `Disk` if the device failed, and `Memory`: the server is down.
+    pub fn start(&mut self, alloc: Global) -> Result<(), ServeFault>
+        // It goes on for the same state, and it fails as said.
         ensures rewrites { Rewrites self.old result self.new }
         ensures fails { Fails self.old result self.new }
+        // At Ok one is begun, beside the bank in use.
+        ensures begun { OnOk result (HasBegun self.old self.new) }
+        // It is Full exactly if there is no next bank for the state; nothing changed then.
         ensures full { IsErrOf result ServeFault.Full → (self.new ≡ self.old)
             × HasNoNextBank self.old }
+        ensures room { OnOk result (HasNoNextBank self.old → ⊥) }
     {
         if self.down {
             return Err(ServeFault::Down);
@@ -85,9 +99,9 @@ impl<D: Disk> Durable<D> {
         ensures rewrites { Rewrites self.old result self.new }
         ensures falls { Falls self.old result self.new }
         ensures never_full { IsErrOf result NodeFault.Full → ⊥ }
-        // At `Done` the other disk holds the bank in use, of the next generation.
-        ensures switched { IfOk result (λ progress. progress ≡ Progress.Done
-            → IsTakenOver self.old.disks self.new.disks) }
+        // It is `Idle` exactly if none is begun. At `Going` the bank in use is as it was, and at
+        // `Done` the other disk holds it, of the next generation.
+        ensures came { IfOk result (CameTo self.old self.new) }
     {
         match self.advance(alloc, most) {
             Ok(progress) => Ok(progress),
@@ -95,13 +109,20 @@ impl<D: Disk> Durable<D> {
         }
     }
 
-    // The same, which distinguishes a device's failure from `Memory`.
-    fn advance(&mut self, alloc: Global, most: usize) -> Result<Progress, ServeFault>
+    /// Takes the next step of a snapshot. It is what `step` stands on, and distinguishes a device's
+    /// failure from `Memory`.
+    ///
+    /// # Errors
+    ///
+    /// `Down`: it was down. `Disk` if the device failed, and `Memory`: the server is down.
+    pub fn advance(&mut self, alloc: Global, most: usize) -> Result<Progress, ServeFault>
+        // It goes on for the same state, and it fails as said.
         ensures rewrites { Rewrites self.old result self.new }
         ensures fails { Fails self.old result self.new }
         ensures never_full { IsErrOf result ServeFault.Full → ⊥ }
-        ensures switched { IfOk result (λ progress. progress ≡ Progress.Done
-            → IsTakenOver self.old.disks self.new.disks) }
+        // It is `Idle` exactly if none is begun. At `Going` the bank in use is as it was, and at
+        // `Done` the other disk holds it, of the next generation.
+        ensures came { IfOk result (CameTo self.old self.new) }
     {
         if self.down {
             return Err(ServeFault::Down);

@@ -1,7 +1,8 @@
 //! What is always so, and the base, which a snapshot moves.
 
-ghost use Rattle.std.specs.Prelude.{◌≡◌, ◌+◌, ◌||◌, ◌⊎◌, nat_le, [], false, true, OnOk};
-ghost use Rattle.std.specs.Prelude.{OnErr};
+ghost use Rattle.std.specs.Prelude.{◌≡◌, ◌≤◌, ◌<◌, ◌+◌, ◌||◌, ◌⊎◌, nat_le, [], false, true};
+ghost use Rattle.std.specs.Prelude.{vec_len, OnOk, OnErr};
+ghost use Rattle.linda_shared_held.specs.declared.limits.TheConstants.{MANY_RECEIPTS};
 ghost use Rattle.linda_store_step.specs.Store.{IsOrderly};
 ghost use Rattle.linda_server.specs.declared.limits.TheConstants.{SNAPSHOT_RECORDS};
 ghost use Rattle.linda_server.specs.Disks.{is_old};
@@ -126,9 +127,9 @@ impl<D: Disk, L: Ledger> Held<D, L> {
         self.pace = Pace::new(base, base);
     }
 
-    /// Takes a snapshot, from which on the receipts begin anew. It alone moves the base. No receipt
-    /// of a seat is younger then: seats that came back for a next session keep their last one
-    /// alone.
+    /// Takes a snapshot, from which on the receipts begin anew. Only this call, the last `step` of a
+    /// snapshot and `forget` move the base. No receipt of a seat is younger then: seats that came
+    /// back for a next session keep only their last one.
     ///
     /// # Errors
     ///
@@ -163,20 +164,29 @@ impl<D: Disk, L: Ledger> Held<D, L> {
         Ok(())
     }
 
-    /// Forgets the receipts if there are many: the state now is the base. For a program that serves,
-    /// and never calls `finish`. Nothing changes that a session sees.
+    /// Forgets the receipts if there are 4,096 and the server is up: the state now is the base. For a
+    /// program that serves, and never calls `finish`. Nothing changes that a session sees.
     pub fn forget(&mut self, alloc: Global)
         ensures same { (self.new.server ≡ self.old.server)
             × (self.new.opening.value ≡ self.old.opening.value)
             × (self.new.count ≡ self.old.count) × (self.new.boxes ≡ self.old.boxes)
             × (self.new.pace ≡ self.old.pace) }
-        // All is as before, or the base is the state now, and no place has a younger receipt.
-        ensures which { ((self.new.base.value ≡ self.old.base.value)
-            × (self.new.receipts.items ≡ self.old.receipts.items)
-            × (self.new.accounts ≡ self.old.accounts))
-            ⊎ ((self.new.base.value ≡ self.new.server.store.state)
+        // Then the base is the state now, and no place has a younger receipt;
+        ensures many { MANY_RECEIPTS ≤ vec_len self.old.receipts → self.old.server.down ≡ false
+            → (self.new.base.value ≡ self.new.server.store.state)
             × (self.new.receipts.items ≡ [])
-            × AreShortened self.old.accounts.places self.new.accounts.places) }
+            × AreShortened self.old.accounts.places self.new.accounts.places }
+        // else all is as before.
+        ensures few { vec_len self.old.receipts < MANY_RECEIPTS
+            → (self.new.base.value ≡ self.old.base.value)
+            × (self.new.receipts.items ≡ self.old.receipts.items)
+            × (self.new.accounts ≡ self.old.accounts)
+            × (self.new.recall ≡ self.old.recall) }
+        ensures down { self.old.server.down ≡ true
+            → (self.new.base.value ≡ self.old.base.value)
+            × (self.new.receipts.items ≡ self.old.receipts.items)
+            × (self.new.accounts ≡ self.old.accounts)
+            × (self.new.recall ≡ self.old.recall) }
         ensures total { self.new.accounts.total ≡ self.old.accounts.total }
     {
         if self.receipts.len() < MANY_RECEIPTS || self.server.is_down() {

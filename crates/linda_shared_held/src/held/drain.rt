@@ -25,7 +25,8 @@ impl<D: Disk, L: Ledger> Held<D, L> {
             × (self.new.base.value ≡ self.old.base.value)
             × (self.new.receipts.items ≡ self.old.receipts.items)
             × (self.new.count ≡ self.old.count)
-            × (self.new.accounts ≡ self.old.accounts) × (self.new.server ≡ self.old.server) }
+            × (self.new.accounts ≡ self.old.accounts) × (self.new.server ≡ self.old.server)
+            × (self.new.pace ≡ self.old.pace) × (self.new.recall ≡ self.old.recall) }
     {
         self.boxes.drain(alloc, client)
     }
@@ -39,7 +40,8 @@ impl<D: Disk, L: Ledger> Held<D, L> {
             × (self.new.base.value ≡ self.old.base.value)
             × (self.new.receipts.items ≡ self.old.receipts.items)
             × (self.new.count ≡ self.old.count)
-            × (self.new.accounts ≡ self.old.accounts) × (self.new.server ≡ self.old.server) }
+            × (self.new.accounts ≡ self.old.accounts) × (self.new.server ≡ self.old.server)
+            × (self.new.pace ≡ self.old.pace) × (self.new.recall ≡ self.old.recall) }
     {
         drain_some(&mut self.boxes, alloc)
     }

@@ -1,10 +1,11 @@
 //! A snapshot in steps, while sessions go on between them. It moves the base once its bank is in
 //! use.
 
-ghost use Rattle.std.specs.Prelude.{◌≡◌, ◌≢◌, ◌⊎◌, [], IfOk, OnErr, IsErrOf};
-ghost use Rattle.linda_server.specs.Handled.{HasNoNextBank};
+ghost use Rattle.std.specs.Prelude.{◌≡◌, ◌≢◌, ◌⊎◌, [], IfOk, OnOk, OnErr, IsErrOf};
+ghost use Rattle.linda_server.specs.Handled.{HasNoNextBank, HasBegun, CameTo};
 ghost use Rattle.linda_server.specs.Server.{end_in_use, records_in_use};
-ghost use Rattle.linda_shared_held.specs.Pace.{tried_at};
+ghost use Rattle.linda_shared_accounts.specs.Accounts.{AreShortened};
+ghost use Rattle.linda_shared_held.specs.Pace.{pace_from, tried_at};
 ghost use Rattle.linda_shared_held.specs.Snapshot.{TakesStep};
 
 use super::Held;
@@ -21,12 +22,15 @@ impl<D: Disk, L: Ledger> Held<D, L> {
     ///
     /// # Errors
     ///
-    /// `Down` before all, and exactly where the server is down. `Full`, if there is no next bank
+    /// `Down` before all, and exactly if the server is down. `Full`, exactly if there is no next bank
     /// for its state: nothing changed, but that one was tried.
     pub fn begin_steps(&mut self, alloc: Global) -> Result<(), SharedFault>
         ensures takes { TakesStep self.old.server result self.new.server }
+        // At Ok one is begun, beside the bank in use; it is Full exactly if there is no next bank.
+        ensures begun { OnOk result (HasBegun self.old.server self.new.server) }
         ensures full { IsErrOf result SharedFault.Full
             → (self.new.server ≡ self.old.server) × HasNoNextBank self.old.server }
+        ensures room { OnOk result (HasNoNextBank self.old.server → ⊥) }
         ensures same { (self.new.opening.value ≡ self.old.opening.value)
             × (self.new.base.value ≡ self.old.base.value)
             × (self.new.receipts.items ≡ self.old.receipts.items)
@@ -51,15 +55,26 @@ impl<D: Disk, L: Ledger> Held<D, L> {
     pub fn step(&mut self, alloc: Global, most: usize) -> Result<Progress, SharedFault>
         ensures takes { TakesStep self.old.server result self.new.server }
         ensures never_full { IsErrOf result SharedFault.Full → ⊥ }
-        // At `Done` the base is the state now; else it is as before, and so are the receipts.
+        // It is `Idle` exactly if none is begun, and at `Done` the new bank is in use.
+        ensures came { IfOk result (CameTo self.old.server self.new.server) }
+        // At `Done` the base is the state now, no place has a younger receipt, and the pace is that
+        // of a new bank;
         ensures done { IfOk result (λ progress. progress ≡ Progress.Done
             → (self.new.base.value ≡ self.new.server.store.state)
-            × (self.new.receipts.items ≡ [])) }
+            × (self.new.receipts.items ≡ [])
+            × AreShortened self.old.accounts.places self.new.accounts.places
+            × (self.new.pace ≡ pace_from (end_in_use self.new.server.disks)
+            (end_in_use self.new.server.disks))) }
+        // else these are as before.
         ensures going { IfOk result (λ progress. progress ≢ Progress.Done
             → (self.new.base.value ≡ self.old.base.value)
-            × (self.new.receipts.items ≡ self.old.receipts.items)) }
+            × (self.new.receipts.items ≡ self.old.receipts.items)
+            × (self.new.accounts ≡ self.old.accounts)
+            × (self.new.pace ≡ self.old.pace) × (self.new.recall ≡ self.old.recall)) }
         ensures err { OnErr result ((self.new.base.value ≡ self.old.base.value)
-            × (self.new.receipts.items ≡ self.old.receipts.items)) }
+            × (self.new.receipts.items ≡ self.old.receipts.items)
+            × (self.new.accounts ≡ self.old.accounts)
+            × (self.new.pace ≡ self.old.pace) × (self.new.recall ≡ self.old.recall)) }
         ensures same { (self.new.opening.value ≡ self.old.opening.value)
             × (self.new.count ≡ self.old.count) × (self.new.boxes ≡ self.old.boxes) }
         ensures total { self.new.accounts.total ≡ self.old.accounts.total }
@@ -79,8 +94,10 @@ impl<D: Disk, L: Ledger> Held<D, L> {
 // Begins a snapshot. What is known of a server that did not is as before.
 fn begin_steps<D: Disk>(server: &mut Durable<D>, alloc: Global) -> Result<(), SharedFault>
     ensures takes { TakesStep server.old result server.new }
+    ensures begun { OnOk result (HasBegun server.old server.new) }
     ensures full { IsErrOf result SharedFault.Full
         → (server.new ≡ server.old) × HasNoNextBank server.old }
+    ensures room { OnOk result (HasNoNextBank server.old → ⊥) }
 {
     match server.begin_steps(alloc) {
         Ok(()) => Ok(()),
@@ -96,6 +113,7 @@ fn step<D: Disk>(
 ) -> Result<Progress, SharedFault>
     ensures takes { TakesStep server.old result server.new }
     ensures never_full { IsErrOf result SharedFault.Full → ⊥ }
+    ensures came { IfOk result (CameTo server.old server.new) }
 {
     match server.step(alloc, most) {
         Ok(progress) => Ok(progress),

@@ -1,6 +1,6 @@
 -- The next part is written, and with the last one the bank is taken into use.
-use Rattle.std.proofs.Common.{◌+◌, ◌++◌, ◌∙◌, ap, sym, subst, arith}
-use Rattle.linda_snap.specs.Successor.{Follows, Completes, IsNext}
+use Rattle.std.proofs.Common.{◌<◌, ◌+◌, ◌++◌, ◌∙◌, length, ap, sym, subst, arith}
+use Rattle.linda_snap.specs.Successor.{Follows, Completes, IsNext, bytes_in}
 use Rattle.linda_server.proofs.PairLaws.{still}
 use Rattle.linda_server.proofs.SteppingLaws.{parts_of, begun_of, low_of, within_of, generation_of}
 use Rattle.linda_server.proofs.stepping.advance.Goals as goal
@@ -64,3 +64,8 @@ returns-clause-kept g c begun kept =
     let p = parts_of c.args.next c.args.disks.now c.args.state.now begun in
     let st = c.args.state.now in
     c.in-Ok-end.ensures.kept st p.front p.filled (subst (λ b. Completes c.next.new.self p.front b st) (sym c.deref-in-Ok-Last.ensures.value) (subst (λ part. IsNext part c.next.new.self p.front st) c.in-Ok-Last.field-0-is (c.in-Ok-Last.ensures.next p.front p.follows))) kept
+
+pub returns-in-Ok-More-clause-further : goal.returns-in-Ok-More-clause-further
+returns-in-Ok-More-clause-further g c =
+    let some = subst (λ part. 0 < length (bytes_in part)) c.in-Ok-More.field-0-is c.in-Ok-More.ensures.some in
+    omega (arith, c.in-Ok.ensures.place, ap length c.deref.ensures.value, some)

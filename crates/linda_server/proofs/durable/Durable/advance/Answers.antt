@@ -1,11 +1,11 @@
 -- The next bank goes on, for the state that stands, or is taken into use.
-use Rattle.std.proofs.Common.{◌≡◌, false, refl, sym, subst, ◌∙◌, true≢false}
+use Rattle.std.proofs.Common.{◌≡◌, ◌<◌, false, refl, sym, subst, ◌∙◌, true≢false}
 use Rattle.std.specs.Prelude.{IfSome}
 use Rattle.linda_store_state.specs.State.{IsState}
 use Rattle.linda_server.specs.Pairs.{PairsNow}
 use Rattle.linda_server.specs.Calls.{StandsFor, IsWithOrWithout}
 use Rattle.linda_server.specs.Next.{IsBegunOn, IsNextFor}
-use Rattle.linda_server.specs.Server.{both_of}
+use Rattle.linda_server.specs.Server.{both_of, IsBankStill}
 use Rattle.linda_server.proofs.CallLaws.{now_since, stands_so, still_so}
 use Rattle.linda_server.proofs.SwitchLaws.{with_none}
 use Rattle.linda_server.proofs.SteppingLaws.{steps_since, steps_kept, steps_begun}
@@ -138,3 +138,15 @@ returns-in-Err-clause-rewrites g c =
       lost = λ up down. (c.of.ensures ∙ c.state-in-Err.ensures.state, s.none_lost up);
       honest = c.advance.ensures.honest;
     }
+
+pub returns-in-Ok-Some-clause-came : goal.returns-in-Ok-Some-clause-came
+returns-in-Ok-Some-clause-came g c = (
+  record {
+    was = c.in-Some.next;
+    now = c.in-Ok-Some.next;
+    were = sym c.in-Some.ensures.value;
+    are = refl;
+    more = subst (λ o. IfSome o (λ n. c.in-Some.next.at < n.at)) c.in-Ok-Some.field-0-is c.in-Ok-Some.ensures.further;
+  },
+  subst (λ o. IfSome o (λ n. IsBankStill c.args.self.now.disks c.advance.new.disks)) c.in-Ok-Some.field-0-is c.in-Ok-Some.ensures.still,
+)

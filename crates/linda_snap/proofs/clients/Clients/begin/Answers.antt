@@ -3,8 +3,8 @@ use Rattle.linda_codec.specs.Formats.{short_number}
 use Rattle.linda_snap.proofs.ClientsLaws.{counted}
 use Rattle.linda_snap.proofs.clients.Clients.begin.Goals as goal
 
-pub returns : goal.returns
-returns c begun bytes has same is =
+pub returns-clause-owes : goal.returns-clause-owes
+returns-clause-owes c begun bytes has same is =
     c.in_ok-push_next.ensures.owes begun bytes
     (counted begun record { book = c.args.book; last = None } bytes c.extend_from_slice.new.self.items has same refl
     (c.in_ok-extend_from_slice.ensures.items

@@ -1,4 +1,4 @@
-use Rattle.std.proofs.Common.{ℕ, List, ◌++◌}
+use Rattle.std.proofs.Common.{ℕ, List, ◌++◌, ◌<◌, length}
 use Rattle.linda_store_state.specs.State.{State}
 use Rattle.linda_snap.specs.Draft.{Owes}
 use Rattle.linda_snap.proofs.DraftLaws.{moved}
@@ -7,5 +7,6 @@ use Rattle.linda_snap.proofs.draft.Draft.spell_next.Given as goal
 -- What was spelled so far goes behind what is written, and the rest is owed.
 abbrev pub invariant-loop : goal.invariant-loop
 invariant-loop g l =
-    (begun : State) (bytes : List ℕ) → Owes begun l.self bytes l.state.bag
-    → Owes begun (moved l.from l.self) (bytes ++ l.more.items) l.state.bag
+    ((begun : State) (bytes : List ℕ) → Owes begun l.self bytes l.state.bag
+    → Owes begun (moved l.from l.self) (bytes ++ l.more.items) l.state.bag)
+    × (0 < length l.more.items)

@@ -9,4 +9,4 @@ pub returns-in_ok-clients-in-Some-clause-some : goal.returns-in_ok-clients-in-So
 returns-in_ok-clients-in-Some-clause-some c front st behind =
     turns c.args.self.now c.in-Some.draft c.replace.new.dest c.into_book-book.result.0 c.into_book-book.result.1 c.in_ok-clients-in-Some.clients front c.in_ok-clients-in-Some.bytes.items st (sym c.in-Some.ensures.value) c.in-Some.ensures.after
     (λ begun bytes now owes. c.into_book-book.ensures.book begun bytes now owes) (λ begun bytes now owes through short. c.into_book-book.ensures.tuples begun bytes now owes through short)
-    (λ begun bytes has same is. c.in_ok-clients-in-Some.ensures begun bytes has same is) behind
+    (λ begun bytes has same is. c.in_ok-clients-in-Some.ensures.owes begun bytes has same is) behind
