@@ -1,15 +1,7 @@
--- Where loops put connections and messages.
-use Rattle.std.specs.Prelude.{◌==◌, ◌&&◌, ◌||◌, nat_lt, nat_le, Bool, not, if◌then◌else◌}
-use Rattle.std.specs.Option.{is_some}
-use Rattle.linda_wire.specs.declared.message.Message.{Message}
-use Rattle.linda_store_step.specs.Judge.{number_of_message}
-use Rattle.linda_net.specs.Talk.{is_hello}
+-- Where loops put connections.
+use Rattle.std.specs.Prelude.{◌==◌, ◌&&◌, ◌||◌, nat_lt, nat_le, if◌then◌else◌}
 use Rattle.linda_net.specs.declared.loops.relays.Load.{Load}
 use Rattle.linda_net.specs.declared.loops.relays.TheConstants.{FEW}
-
--- No deed comes of the message, and it greets nobody: it bears no number.
-abbrev pub makes_no_deed : Message → Bool
-makes_no_deed m = not (is_some (number_of_message m)) && not (is_hello m)
 
 -- Which of two loops the next connection goes to: the first loop as long as it has few, else the
 -- one that has fewer, and of two that have as many the one that comes first.

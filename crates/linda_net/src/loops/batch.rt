@@ -1,6 +1,7 @@
 //! What goes from a loop to the server next.
 
 use super::share::Share;
+use linda_net_session::Room;
 use linda_shared::{Account, Group};
 use linda_wire::Message;
 use std::alloc::{AllocError, Global};
@@ -50,6 +51,14 @@ impl<L: Ledger> Batch<L> {
     /// Whether there is no room for one Ask more.
     pub(super) fn is_full_of_asks(&self) -> bool {
         self.asking.len() >= self.share.asks() || !self.asking.has_room()
+    }
+
+    /// On which ways there is room for one message more.
+    pub(super) fn room(&self) -> Room {
+        Room {
+            asks: !self.is_full_of_asks(),
+            deeds: self.doing.has_room(),
+        }
     }
 
     /// Whether more is taken now.

@@ -1,64 +1,52 @@
 //! Where a message goes that a connection sent.
 
-ghost use Rattle.std.specs.Prelude.{◌≡◌};
-ghost use Rattle.linda_net.specs.Placing.{makes_no_deed};
-
 use super::batch::{Batch, Call};
 use super::connection::Connection;
 use crate::marks::Marks;
-use linda_shared::MOST_ASKED;
-use linda_wire::{Message, Refusal};
+use linda_net_session::{Route, Way};
+use linda_shared::{Group, MOST_ASKED};
+use linda_wire::Message;
 use std::collections::VecDeque;
 use std::sync::ledger::Ledger;
 
-/// Puts a message of the connection of this key where it goes. Says whether that was possible now;
-/// else the connection keeps it, and gives it next.
-pub(super) fn place<L: Ledger>(
+/// Puts a message of the connection of this key where its session says that it goes.
+pub(super) fn put<L: Ledger>(
     connection: &mut Connection<L>,
     key: usize,
     message: Message,
+    route: Route,
     calls: &mut VecDeque<Call<L>>,
     batch: &mut Batch<L>,
     marks: &Marks,
-) -> bool {
-    let is_doing = connection.doing > 0;
-    let Some(account) = &mut connection.account else {
-        if calls.push_back(Call::Greet(key, message)).is_err() {
-            connection.end_with(None);
-        } else {
-            connection.is_greeting = true;
+) {
+    match route {
+        Route::Greet => {
+            if calls.push_back(Call::Greet(key, message)).is_err() {
+                connection.drop_greeting(None);
+            }
         }
-        return true;
-    };
-    if let Message::Hello { .. } = &message {
-        if account.asked() > 0 {
-            connection.hold(message);
-            return false;
-        }
-        let _ = connection.tell(marks, &Refusal::Busy.reply());
-        return true;
+        Route::Busy => connection.tell_busy(marks),
+        Route::Goes(Way::Asks) => ask(connection, key, message, &mut batch.asking, Way::Asks),
+        Route::Goes(Way::Deeds) => ask(connection, key, message, &mut batch.doing, Way::Deeds),
+        Route::Keep => {}
     }
-    let only_asks = makes_no_deed(&message) && !is_doing;
-    let is_full = only_asks && batch.is_full_of_asks();
-    let group = if only_asks {
-        &mut batch.asking
-    } else {
-        &mut batch.doing
-    };
-    if is_full || account.asked() >= MOST_ASKED || !group.has_room() {
-        connection.hold(message);
-        return false;
-    }
-    group.ask(account, key, message);
-    if !only_asks {
-        connection.doing = connection.doing.saturating_add(1);
-    }
-    true
 }
 
-// Whether no deed comes of the message, which is no Hello: it bears no number.
-fn makes_no_deed(message: &Message) -> bool
-    ensures { result ≡ makes_no_deed message.now }
-{
-    matches!(message, Message::Ask { .. } | Message::Cancel { .. })
+// The message joins the group of this way. Its session saw that there is room, and that few of it
+// are on their way; else the connection fails.
+fn ask<L: Ledger>(
+    connection: &mut Connection<L>,
+    key: usize,
+    message: Message,
+    group: &mut Group<L>,
+    way: Way,
+) {
+    if let Some(account) = &mut connection.account {
+        if account.asked() < MOST_ASKED && group.has_room() {
+            group.ask(account, key, message);
+            return;
+        }
+    }
+    connection.answered(way);
+    connection.fail();
 }

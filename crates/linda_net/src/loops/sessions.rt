@@ -1,18 +1,19 @@
 //! The connections of a loop, and the sessions of their clients.
 
 use super::batch::{Batch, Call};
-use super::connection::{Connection, Next};
-use super::place::place;
+use super::connection::{Connection, Next, word_of};
+use super::place::put;
 use super::relays::Relays;
 use super::share::is_much;
 use super::span::Look;
 use crate::marks::Marks;
 use linda_disk::Disk;
 use linda_net_http::Stream;
+use linda_net_session::Way;
 use linda_shared::{
     Account, Answered, Group, MOST_ASKED, Sender, Sent, Shared, SharedFault, hear_answer,
 };
-use linda_wire::{Message, Reply};
+use linda_wire::Message;
 use mio::event::Event;
 use mio::{Registry, Token};
 use slab::Slab;
@@ -189,14 +190,20 @@ impl<L: Ledger> Sessions<L> {
         };
         let mut bytes: u64 = 0;
         for _ in 0..=MOST_ASKED {
-            let next = connection.next(&mut self.buffer);
+            let next = connection.next(&mut self.buffer, batch.room());
             let read = connection.take_read();
             batch.share.read(read);
             match next {
-                Next::Message(message) => {
-                    if !place(connection, key, message, &mut self.calls, batch, marks) {
-                        return !connection.is_waiting();
-                    }
+                Next::Message(message, route) => {
+                    put(
+                        connection,
+                        key,
+                        message,
+                        route,
+                        &mut self.calls,
+                        batch,
+                        marks,
+                    );
                     let weight = connection.weight();
                     batch.share.plan(weight);
                     bytes = bytes.saturating_add(read).saturating_add(weight);
@@ -204,6 +211,8 @@ impl<L: Ledger> Sessions<L> {
                         return true;
                     }
                 }
+                // It is given again: soon, or once something came back.
+                Next::Kept => return !connection.is_waiting(),
                 Next::Later => return true,
                 Next::None => return false,
             }
@@ -222,10 +231,7 @@ impl<L: Ledger> Sessions<L> {
         match greeting {
             Ok(Ok((account, last))) => self.welcome(rt, relays, key, account, last),
             Ok(Err((code, detail))) => self.refuse(&relays.marks, key, code, detail),
-            Err(fault) => self.end(key, fault),
-        }
-        if let Some(connection) = self.connections.get_mut(key) {
-            connection.is_greeting = false;
+            Err(fault) => self.drop_greeting(key, fault),
         }
         self.make_ready(key);
         self.touch(key);
@@ -247,8 +253,7 @@ impl<L: Ledger> Sessions<L> {
         let Some(connection) = self.connections.get_mut(key) else {
             return;
         };
-        connection.account = Some(account);
-        let _ = connection.tell(&relays.marks, &Reply::Welcome { last });
+        connection.welcome(&relays.marks, account, last);
         if !is_kept {
             connection.fail();
         }
@@ -257,38 +262,35 @@ impl<L: Ledger> Sessions<L> {
     // The client is refused. It may greet again.
     fn refuse(&mut self, marks: &Marks, key: usize, code: u8, detail: u64) {
         if let Some(connection) = self.connections.get_mut(key) {
-            let _ = connection.tell(marks, &Reply::Refused { code, detail });
+            connection.refuse(marks, code, detail);
         }
     }
 
-    // The connection ends since its server could not do what was asked.
-    fn end(&mut self, key: usize, fault: SharedFault) {
+    // The server could not greet the client: its connection ends.
+    fn drop_greeting(&mut self, key: usize, fault: SharedFault) {
         if let Some(connection) = self.connections.get_mut(key) {
-            connection.end_by(fault);
+            connection.drop_greeting(word_of(fault));
         }
     }
 
-    /// Sessions hear the answers of a group that was served. Of a group of deeds it is noted that
-    /// they are done.
-    pub(super) fn hear_all(&mut self, group: &mut Group<L>, are_deeds: bool) {
+    /// Sessions hear the answers of a group that was served, whose messages went this way.
+    pub(super) fn hear_all(&mut self, group: &mut Group<L>, way: Way) {
         for _ in 0..group.len() {
             let Some((message, answered)) = group.next() else {
                 return;
             };
-            self.hear(&message, answered, are_deeds);
+            self.hear(&message, answered, way);
         }
     }
 
     // A session hears the answer to its message.
-    fn hear(&mut self, message: &Message, answered: Answered<Sender, L>, is_deed: bool) {
+    fn hear(&mut self, message: &Message, answered: Answered<Sender, L>, way: Way) {
         let sender = *answered.address();
         let key = sender.key();
         let Some(connection) = self.connections.get_mut(key) else {
             return;
         };
-        if is_deed {
-            connection.doing = connection.doing.saturating_sub(1);
-        }
+        connection.answered(way);
         let Some(account) = &mut connection.account else {
             return;
         };
@@ -296,7 +298,7 @@ impl<L: Ledger> Sessions<L> {
             return;
         }
         if let Err(fault) = hear_answer(account, message, answered) {
-            connection.end_by(fault);
+            connection.end_with(word_of(fault));
         }
         self.touch(key);
         self.make_ready(key);
@@ -383,8 +385,8 @@ impl<L: Ledger> Sessions<L> {
     }
 
     /// The connection of each client ends that holds a tuple and said nothing for so many seconds.
-    /// Those in which it held nothing do not count: so one that waited long has all of the lease for
-    /// what it is offered.
+    /// Those in which it held nothing do not count: so one that waited long has all of the lease
+    /// for what it is offered.
     pub(super) fn end_late<D: Disk, R: Wait>(
         &mut self,
         rt: &R,

@@ -11,6 +11,7 @@ use super::took::micros_since;
 use crate::coming::REST;
 use linda_disk::Disk;
 use linda_net_http::Stream;
+use linda_net_session::Way;
 use linda_shared::{Group, Shared, SharedFault};
 use mio::{Events, Poll, Token, Waker};
 use std::alloc::Global;
@@ -282,7 +283,7 @@ impl<L: Ledger> Loop<L> {
             is_up = serve_calls(rt, shared, relays, sessions) && is_up;
             if batch.asking.len() > 0 {
                 let asking = &mut batch.asking;
-                let (is_still_up, micros) = serve(rt, shared, relays, sessions, asking, false);
+                let (is_still_up, micros) = serve(rt, shared, relays, sessions, asking, Way::Asks);
                 is_up = is_still_up && is_up;
                 batch.share.end_asks(micros);
                 batch.share.tell(sessions.take_told());
@@ -310,7 +311,7 @@ impl<L: Ledger> Loop<L> {
         if batch.doing.len() == 0 {
             return true;
         }
-        let (is_up, _) = serve(rt, shared, relays, sessions, &mut batch.doing, true);
+        let (is_up, _) = serve(rt, shared, relays, sessions, &mut batch.doing, Way::Deeds);
         let _ = sessions.take_told();
         is_up
     }
@@ -355,7 +356,7 @@ fn serve<D: Disk, L: Ledger, R: Wait + Clock>(
     relays: &Relays,
     sessions: &mut Sessions<L>,
     group: &mut Group<L>,
-    are_deeds: bool,
+    way: Way,
 ) -> (bool, u64) {
     let mut posting = posting(rt, sessions, relays);
     relays.marks.serves(group.len());
@@ -364,7 +365,7 @@ fn serve<D: Disk, L: Ledger, R: Wait + Clock>(
     let locked = micros_since(rt, posting.begin);
     relays.marks.spends(micros_since(rt, begin));
     ring(rt, &posting);
-    sessions.hear_all(group, are_deeds);
+    sessions.hear_all(group, way);
     (is_up, locked)
 }
 
