@@ -1,4 +1,4 @@
-//! What one connection carries, to the server and back.
+//! The bytes of one connection, to the server and back.
 
 use linda_gate_pass::Gate;
 use std::alloc::Global;
@@ -20,8 +20,8 @@ pub(crate) struct Sides {
 }
 
 impl Sides {
-    /// Passes on what may pass, until the client ends or something comes that may not. The server
-    /// is told that the client ended, and may still answer; in the other case both sides end.
+    /// Passes on what may pass, until the client ends or something comes that may not. In the first
+    /// case the server sees the end, and may still answer; in the other one both sides end.
     pub(crate) fn carry_to_server(&self, rt: &impl Wait, alloc: Global) {
         if self.pass_all(rt, alloc) {
             let _ = self.server.shutdown(Shutdown::Write);

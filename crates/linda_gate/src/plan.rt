@@ -1,4 +1,4 @@
-//! What the words of the command line ask for.
+//! A command line, and the plan that it asks for.
 
 /// Who may connect if nothing is said of it: the user and the group of the socket.
 const MODE: u32 = 0o660;

@@ -98,6 +98,11 @@ addresses_of family =
 abbrev pub head_len : List ℕ → ℕ
 head_len bytes = HEAD_BYTES + two (slice_index bytes 14) (slice_index bytes 15)
 
+-- The fields of a head of this length, which are after its addresses.
+abbrev pub fields_in : List ℕ → ℕ → ℕ → List ℕ
+fields_in bytes len addresses =
+    take (len - (HEAD_BYTES + addresses)) (drop (HEAD_BYTES + addresses) bytes)
+
 -- The first so many bytes are a head, of a client whose certificate has these numbers for a name.
 pub record IsHead (bytes : List ℕ) (numbers : Numbers) (len : ℕ) : Type 0 where
   pub client : is_of_client bytes ≡ true
@@ -106,7 +111,7 @@ pub record IsHead (bytes : List ℕ) (numbers : Numbers) (len : ℕ) : Type 0 wh
   pub addresses : ℕ
   pub family : addresses_of (slice_index bytes 13) ≡ Some addresses
   pub name : List ℕ
-  pub shown : certificate (take (len - (HEAD_BYTES + addresses)) (drop (HEAD_BYTES + addresses) bytes)) ≡ Some name
+  pub shown : certificate (fields_in bytes len addresses) ≡ Some name
   pub names : Names name numbers
 
 -- What is read of bytes: that a part of a head is missing, or the head.

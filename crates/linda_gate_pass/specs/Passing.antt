@@ -1,6 +1,6 @@
--- What a gate passes on of what a client sends.
+-- The messages that a gate passes on, of those that a client sends.
 use Rattle.std.specs.Prelude.{◌≡◌, ℕ, ◌==◌, Bool, true, false, ◌&&◌, not, nat_lt}
-use Rattle.std.specs.Prelude.{List, [], ◌∷◌, ◌++◌, All, Option, None, Some, Result, Ok, Err}
+use Rattle.std.specs.Prelude.{List, [], ◌∷◌, ◌++◌, All, Option, None, Result, Ok, Err}
 use Rattle.std.specs.List.{flat_map}
 use Rattle.linda_wire.specs.declared.fault.FrameFault.{FrameFault}
 use Rattle.linda_wire.specs.declared.limits.TheConstants.{VERSION}

@@ -1,4 +1,4 @@
-//! Why nothing more passes.
+//! The faults after which nothing more passes.
 
 use thiserror::Error;
 

@@ -1,6 +1,6 @@
 //! One connection of a client, from its head on.
 
-ghost use Rattle.std.specs.Prelude.{◌≡◌, ◌++◌, None, OnOk};
+ghost use Rattle.std.specs.Prelude.{◌≡◌, ◌++◌, true, None, Err, OnOk};
 ghost use Rattle.linda_gate_pass.specs.Head.{IsHead};
 ghost use Rattle.linda_gate_pass.specs.Gating as spec;
 ghost use Rattle.linda_gate_pass.specs.Gating.{IsOfOne, begun, passed_in};
@@ -60,11 +60,13 @@ impl Gate {
     ///
     /// # Errors
     ///
-    /// Why nothing more passes. It is the same from then on.
+    /// Why nothing more passes, now and from then on.
     pub fn received(&mut self, bytes: &[u8], out: &mut Vec<u8>) -> Result<(), PassFault>
         ensures written { Writes (passed_in self.old.pass) (passed_in self.new.pass)
             out.old.items out.new.items }
         ensures ok { OnOk result (spec.came self.new ≡ spec.came self.old ++ bytes.now) }
+        ensures refused { self.old.pass ≡ None → self.old.is_refused ≡ true
+            → (result ≡ Err PassFault.NoHead) × (out.new.items ≡ out.old.items) }
     {
         if let Some(pass) = &mut self.pass {
             return pass.received(bytes, out);

@@ -152,7 +152,7 @@ fn is_verified(tls: &[u8]) -> bool
 }
 
 // The value of the first field of this kind, of so many fields at most.
-#[tactic(auto, using(crate::proofs::HeadLaws::field_none, crate::proofs::HeadLaws::field_short, crate::proofs::HeadLaws::field_found, crate::proofs::HeadLaws::field_later))]
+#[tactic(auto, using(crate::proofs::HeadLaws::field_short, crate::proofs::HeadLaws::field_found))]
 fn field(count: u32, wanted: u8, bytes: &[u8]) -> Option<&[u8]>
     ensures { option_copied result ≡ spec.field count wanted bytes.now }
 {

@@ -1,4 +1,4 @@
-//! What a gate lets through to a server: the frames of one client, which its certificate names.
+//! A gate before a server: it lets through the frames of one client, which its certificate names.
 //!
 //! A `Gate` is one connection as a machine over bytes, which makes no call. What comes begins with
 //! the head that HAProxy sends (`read_head`), by which the certificate's name says which client

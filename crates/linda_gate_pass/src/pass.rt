@@ -1,8 +1,10 @@
 //! The frames of one connection: which pass.
 
-ghost use Rattle.std.specs.Prelude.{◌≡◌, ◌⊎◌, [], ◌∷◌, ◌++◌, true, false, None, Some, Err, OnOk, IfErr, IfOk};
+ghost use Rattle.std.specs.Prelude.{◌≡◌, ◌⊎◌, [], ◌∷◌, ◌++◌, true, false};
+ghost use Rattle.std.specs.Prelude.{None, Some, Err, OnOk, IfErr, IfOk};
 ghost use Rattle.linda_wire.specs.Frames.{message_frame};
-ghost use Rattle.linda_gate_pass.specs.Passing.{AreOfOne, BeginsWith, ReadsAll, Writes, begun, came, may_pass};
+ghost use Rattle.linda_gate_pass.specs.Passing.{AreOfOne, BeginsWith, ReadsAll, Writes};
+ghost use Rattle.linda_gate_pass.specs.Passing.{begun, came, may_pass};
 ghost use Rattle.linda_gate_pass.specs.declared.fault.PassFault.TheVariants as faults;
 
 use crate::fault::PassFault;

@@ -1,4 +1,4 @@
-use Rattle.std.proofs.Common.{◌≡◌, ℕ, List, ◌++◌, take, sym, subst}
+use Rattle.std.proofs.Common.{◌≡◌, ◌++◌, take, sym, subst}
 use Rattle.std.specs.Prelude.{OnOk, None}
 use Rattle.linda_gate_pass.specs.Gating.{Gating, came}
 use Rattle.linda_gate_pass.specs.Passing as passing
