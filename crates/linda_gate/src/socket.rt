@@ -8,7 +8,10 @@ use std::os::unix::fs::{DirBuilderExt, FileTypeExt, PermissionsExt};
 use std::os::unix::net::{UnixListener, UnixStream};
 use std::{fs, io};
 
-/// Who may go into the folder in which the socket is made: its owner.
+/// How many names are tried for the folder in which the socket is made.
+const TRIES: u32 = 10;
+
+/// Who may go into that folder: its owner.
 const PRIVATE: u32 = 0o700;
 
 /// Listens on a unix socket. It is made in a folder that nobody else may go into, and gets its mode
@@ -26,8 +29,7 @@ pub(crate) fn listen_at<R: Files + Net>(
     mode: u32,
 ) -> io::Result<UnixListener> {
     make_way(rt, path)?;
-    let folder = format!(in alloc; "{path}.0")?;
-    DirBuilder::new().mode(PRIVATE).create(rt, folder.as_str())?;
+    let folder = private_folder(rt, alloc, path)?;
     let made = format!(in alloc; "{folder}/s")?;
     let listener = listen_in(rt, &made, path, mode);
     let _ = fs::remove_file(rt, made.as_str()).is_err();
@@ -46,6 +48,22 @@ fn listen_in<R: Files + Net>(
     fs::set_permissions(rt, made, Permissions::from_mode(mode))?;
     fs::hard_link(rt, made, path)?;
     Ok(listener)
+}
+
+// A new folder beside the path, which only its owner may go into.
+fn private_folder<R: Files>(rt: &R, alloc: Global, path: &str) -> io::Result<String> {
+    for number in 0..TRIES {
+        let folder = format!(in alloc; "{path}.{number}")?;
+        match DirBuilder::new().mode(PRIVATE).create(rt, folder.as_str()) {
+            Ok(()) => return Ok(folder),
+            Err(error) => {
+                if error.kind() != ErrorKind::AlreadyExists {
+                    return Err(error);
+                }
+            }
+        }
+    }
+    Err(ErrorKind::AlreadyExists.into())
 }
 
 // Removes a socket at the path on which nobody listens.
