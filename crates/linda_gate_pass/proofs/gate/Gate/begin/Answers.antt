@@ -1,0 +1,16 @@
+use Rattle.std.proofs.Common.{◌≡◌, ◌++◌, take, sym, subst}
+use Rattle.std.specs.Prelude.{OnOk, None}
+use Rattle.linda_gate_pass.specs.Gating.{Gating, came}
+use Rattle.linda_gate_pass.specs.Passing as passing
+use Rattle.linda_gate_pass.proofs.HeadLaws.{begin_came}
+use Rattle.linda_gate_pass.proofs.gate.Gate.begin.Goals as goal
+
+-- src/gate.rt:85:5
+pub returns-clause-ok : goal.returns-clause-ok
+returns-clause-ok c =
+    let i = c.self.inside in
+    let first = subst (λ (g : Gating). g.pass ≡ None) (sym c.self.view_is) c.requires.first in
+    let read = rw (c.new-pass.ensures, c.deref.ensures.value) at c.received-read.ensures.ok in
+    subst (λ (g : Gating). OnOk c.received-read.result (take c.args.len i.head.items ++ passing.came c.received-read.new.self ≡ came g))
+    c.self.view_is
+    (rw first (begin_came c.received-read.result i.head.items _ c.args.len read))

@@ -1,0 +1,36 @@
+-- One connection through a gate: the head ahead of it, and what passed after that.
+use Rattle.std.specs.Prelude.{ℕ, Bool, false, List, [], ◌++◌, take}
+use Rattle.std.specs.Prelude.{Option, None, Some, IfSome}
+use Rattle.linda_wire.specs.declared.message.Message.{Message}
+use Rattle.linda_gate_pass.specs.Head.{IsHead}
+use Rattle.linda_gate_pass.specs.Passing as passing
+use Rattle.linda_gate_pass.specs.Passing.{Passing, AreOfOne}
+
+-- What contracts see of a connection: what came until its head was whole, how long that head is,
+-- and what is after it.
+pub record Gating : Type 0 where
+  pub head : List ℕ
+  pub len : ℕ
+  pub pass : Option Passing
+  pub is_refused : Bool
+
+-- Nothing came yet.
+abbrev pub begun : Gating
+begun = record { head = []; len = 0; pass = None; is_refused = false }
+
+-- All messages that passed.
+abbrev pub passed_in : Option Passing → List Message
+passed_in None = []
+passed_in (Some p) = p.passed
+
+-- All bytes that came, as long as there is no fault.
+abbrev pub came_by : List ℕ → ℕ → Option Passing → List ℕ
+came_by head len None = head
+came_by head len (Some p) = take len head ++ passing.came p
+
+abbrev pub came : Gating → List ℕ
+came g = came_by g.head g.len g.pass
+
+-- Once its head is whole, all that passed is of one client, which the head allows.
+abbrev pub IsOfOne : Gating → Type 0
+IsOfOne g = IfSome g.pass (λ p. IsHead g.head p.numbers g.len × AreOfOne p.numbers p.passed)

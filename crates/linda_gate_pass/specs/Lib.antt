@@ -1,0 +1,3 @@
+pub mod Gating
+pub mod Head
+pub mod Passing
