@@ -1,7 +1,11 @@
 -- The fields of a head, one after another.
-use Rattle.std.proofs.Common.{rules, arith, ◌≡◌, ℕ, zero, suc, ◌+◌, ◌-◌, ◌<◌, ◌≤◌, List, ◌++◌, length, take, drop, slice_index, refl}
+use Rattle.std.proofs.Common.{rules, arith, ◌≡◌, ℕ, zero, suc, ◌+◌, ◌-◌, ◌<◌, ◌≤◌, List, ◌++◌, length, take, drop, slice_index, refl, ◌∙◌, sym, ap, append_assoc}
 use Rattle.std.specs.Prelude.{Some, None, Result, Ok, Err, OnOk}
 use Rattle.std.proofs.lemmas.List.{take-append-drop, take_rest}
+use Rattle.std.specs.List.{flat_map}
+use Rattle.linda_wire.specs.declared.message.Message.{Message}
+use Rattle.linda_wire.specs.Frames.{message_frame}
+use Rattle.linda_gate_pass.specs.Passing.{BeginsWith}
 use Rattle.linda_gate_pass.specs.Head.{field, value_len}
 
 pub field_none : (count wanted : ℕ) (bytes : List ℕ) → count ≡ 0 → field count wanted bytes ≡ None
@@ -31,3 +35,19 @@ pub begin_came : {T E : Type 0} (r : Result T E) (head came : List ℕ) (len : �
     → OnOk r (came ≡ take (length head - len) (drop len head)) → OnOk r (take len head ++ came ≡ head)
 begin_came (Ok v) head came len read = rw (read, take_rest head len) (take-append-drop len head)
 begin_came (Err e) head came len read = tt
+
+-- what passed of that is the front of it
+pub begin_front : (head : List ℕ) (len : ℕ) (ms : List Message)
+    → BeginsWith (take (length head - len) (drop len head)) ms
+    → (rest : List ℕ) × (head ≡ take len head ++ (flat_map message_frame ms ++ rest))
+begin_front head len ms front = (
+  front.0,
+  sym (take-append-drop len head)
+      ∙ ap (λ (bytes : List ℕ). take len head ++ bytes) (sym (take_rest head len) ∙ front.1),
+)
+
+-- after the head what passed is the front of what came
+pub later_front : (head came bytes : List ℕ) (ms : List Message) → BeginsWith (came ++ bytes) ms
+    → (rest : List ℕ) × ((head ++ came) ++ bytes ≡ head ++ (flat_map message_frame ms ++ rest))
+later_front head came bytes ms front =
+    (front.0, append_assoc head came bytes ∙ ap (λ (bytes : List ℕ). head ++ bytes) front.1)

@@ -1,6 +1,8 @@
 -- One connection through a gate: the head ahead of it, and what passed after that.
 use Rattle.std.specs.Prelude.{ℕ, Bool, false, List, [], ◌++◌, take}
-use Rattle.std.specs.Prelude.{Option, None, Some, IfSome}
+use Rattle.std.specs.Prelude.{Option, None, Some, IfSome, ◌≡◌}
+use Rattle.std.specs.List.{flat_map}
+use Rattle.linda_wire.specs.Frames.{message_frame}
 use Rattle.linda_wire.specs.declared.message.Message.{Message}
 use Rattle.linda_gate_pass.specs.Head.{IsHead}
 use Rattle.linda_gate_pass.specs.Passing as passing
@@ -30,6 +32,15 @@ came_by head len (Some p) = take len head ++ passing.came p
 
 abbrev pub came : Gating → List ℕ
 came g = came_by g.head g.len g.pass
+
+-- The head, and the frames of all that passed, are the first of the bytes.
+abbrev pub IsFront : List ℕ → ℕ → Option Passing → List ℕ → Type 0
+IsFront head len None bytes = Unit {0}
+IsFront head len (Some p) bytes =
+    (rest : List ℕ) × (bytes ≡ take len head ++ (flat_map message_frame p.passed ++ rest))
+
+abbrev pub IsOf : List ℕ → Gating → Type 0
+IsOf bytes g = IsFront g.head g.len g.pass bytes
 
 -- Once its head is whole, all that passed is of one client, which the head allows.
 abbrev pub IsOfOne : Gating → Type 0

@@ -1,9 +1,9 @@
 //! One connection of a client, from its head on.
 
-ghost use Rattle.std.specs.Prelude.{◌≡◌, ◌++◌, true, None, Err, OnOk};
+ghost use Rattle.std.specs.Prelude.{◌≡◌, ◌++◌, true, None, Err, OnOk, IfSome};
 ghost use Rattle.linda_gate_pass.specs.Head.{IsHead};
 ghost use Rattle.linda_gate_pass.specs.Gating as spec;
-ghost use Rattle.linda_gate_pass.specs.Gating.{IsOfOne, begun, passed_in};
+ghost use Rattle.linda_gate_pass.specs.Gating.{IsOf, IsOfOne, begun, passed_in};
 ghost use Rattle.linda_gate_pass.specs.Passing.{Writes};
 
 use crate::fault::PassFault;
@@ -65,6 +65,8 @@ impl Gate {
         ensures written { Writes (passed_in self.old.pass) (passed_in self.new.pass)
             out.old.items out.new.items }
         ensures ok { OnOk result (spec.came self.new ≡ spec.came self.old ++ bytes.now) }
+        ensures front { IfSome self.old.pass (λ p. p.fault ≡ None)
+            → IsOf (spec.came self.old ++ bytes.now) self.new }
         ensures refused { self.old.pass ≡ None → self.old.is_refused ≡ true
             → (result ≡ Err PassFault.NoHead) × (out.new.items ≡ out.old.items) }
     {
@@ -95,6 +97,7 @@ impl Gate {
         ensures written { Writes (passed_in self.old.pass) (passed_in self.new.pass)
             out.old.items out.new.items }
         ensures ok { OnOk result (spec.came self.new ≡ spec.came self.old) }
+        ensures front { IsOf self.old.head self.new }
     {
         let mut pass = Pass::new(self.alloc, numbers);
         let read = pass.received(&self.head[len..], out);
