@@ -95,6 +95,7 @@ class Installed:
         top = self.room / members[0].name
         self.look_at_sums(top / "SHA256SUMS")
         self.look_at_program(top / "bin/linda")
+        self.look_at_gate(top / "bin/linda_gate")
         self.look_at_links(top)
         self.look_at_units(top, top / "lib/systemd/system", "/usr/local/bin/linda", top / "README.md")
         network = blocks.network_of_its_own()
@@ -112,6 +113,11 @@ class Installed:
         said = subprocess.run([program, "--version"], capture_output=True, text=True).stdout.strip()
         if said != self.version:
             self.wrong.append(f"{program}: says {said!r} of its version")
+
+    def look_at_gate(self, gate: Path) -> None:
+        run = subprocess.run([gate], capture_output=True, text=True)
+        if run.returncode != 2 or not run.stderr.startswith("usage: linda_gate"):
+            self.wrong.append(f"{gate}: without words it ends with {run.returncode} and {run.stderr!r}")
 
     def look_at_links(self, top: Path) -> None:
         for page in sorted(top.rglob("*.md")):
@@ -164,6 +170,7 @@ class Installed:
         if not re.search("^linda:", (root / "etc/passwd").read_text(), re.M):
             self.wrong.append(f"{package.name}: installed below a folder, it makes no user linda")
         self.look_at_program(root / "usr/bin/linda")
+        self.look_at_gate(root / "usr/bin/linda_gate")
         doc = root / "usr/share/doc/cml-linda"
         self.look_at_links(doc)
         self.look_at_units(root, root / "usr/lib/systemd/system", "/usr/bin/linda", self.page_with_program(doc / "README.Debian"))
