@@ -3,7 +3,7 @@
 _linda() {
     local word=${COMP_WORDS[COMP_CWORD]} before=${COMP_WORDS[COMP_CWORD - 1]} options
     if [ "$COMP_CWORD" -eq 1 ]; then
-        mapfile -t COMPREPLY < <(compgen -W "serve call inspect run pipe --help --version" -- "$word")
+        mapfile -t COMPREPLY < <(compgen -W "serve call inspect run pipe help --help --version" -- "$word")
         return
     fi
     case $before in
@@ -26,6 +26,7 @@ _linda() {
     inspect) options="--tuples --clients --json --explain --help" ;;
     run) options="--servers --trace --explain --help" ;;
     pipe) options="--help" ;;
+    help) options="serve call inspect run pipe" ;;
     *) options= ;;
     esac
     case ${COMP_WORDS[1]} in

@@ -6,6 +6,7 @@ complete -c linda -n __fish_use_subcommand -a call -d 'Put and take tuples at se
 complete -c linda -n __fish_use_subcommand -a inspect -d 'Show what the store in a folder holds, and whether it would be served; nothing is written'
 complete -c linda -n __fish_use_subcommand -a run -d 'Play a script from standard input with servers in memory'
 complete -c linda -n __fish_use_subcommand -a pipe -d 'Serve one connection over lines of hexadecimal digits'
+complete -c linda -n __fish_use_subcommand -a help -d 'Print the help of a command'
 complete -c linda -n __fish_use_subcommand -l help -d 'Print help'
 complete -c linda -n __fish_use_subcommand -l version -d 'Print the version'
 
@@ -43,3 +44,5 @@ complete -c linda -n '__fish_seen_subcommand_from run' -l explain -d 'Say in a s
 complete -c linda -n '__fish_seen_subcommand_from run' -l help -d 'Print help'
 
 complete -c linda -n '__fish_seen_subcommand_from pipe' -l help -d 'Print help'
+
+complete -c linda -n '__fish_seen_subcommand_from help' -a 'serve call inspect run pipe'

@@ -13,7 +13,7 @@ import time
 from pathlib import Path
 from typing import Callable, Iterator, Mapping, NamedTuple
 
-SECONDS = 60
+SECONDS = 300
 # How long what is printed in the background may come behind its command.
 LATE_SECONDS = 10.0
 # So many lines of a difference are told.

@@ -110,7 +110,10 @@ class Installed:
             it.result()
 
     def look_at_program(self, program: Path) -> None:
-        said = subprocess.run([program, "--version"], capture_output=True, text=True).stdout.strip()
+        try:
+            said = subprocess.run([program, "--version"], capture_output=True, text=True).stdout.strip()
+        except OSError as fault:
+            said = str(fault)
         if said != self.version:
             self.wrong.append(f"{program}: says {said!r} of its version")
 
@@ -167,7 +170,8 @@ class Installed:
         root = self.new_root("root")
         if not self.dpkg(root, "--install", package):
             return
-        if not re.search("^linda:", (root / "etc/passwd").read_text(), re.M):
+        users = root / "etc/passwd"
+        if not users.is_file() or not re.search("^linda:", users.read_text(), re.M):
             self.wrong.append(f"{package.name}: installed below a folder, it makes no user linda")
         self.look_at_program(root / "usr/bin/linda")
         self.look_at_gate(root / "usr/bin/linda_gate")

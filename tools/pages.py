@@ -31,8 +31,12 @@ EXCLUDED = (("serve", "--lease", "--threads"), ("serve", "--socket", "--threads"
 # Options that ask for another one, and values that are taken.
 ASKS_FOR = {"--mode": "--socket", "--metric": "--status"}
 TAKEN = {"--mode": "600", "--dir": "/nonexistent/folder", "--trace": "/dev/null", "--metric": "tag", "--socket": "/nonexistent/s"}
+# The heading, in the help of a call, of what is there in place of its ports.
+INSTEAD = "Instead of ports:"
 # The program's own, which its parser does not know as an option: a sentence of its help names it.
 VERSION = ("--version", "Print the version")
+# The parser's own command, whose arguments are the others.
+HELP = ("help", "Print the help of a command")
 
 
 class Row(NamedTuple):
@@ -54,7 +58,7 @@ class Help(NamedTuple):
     """What a command's help has."""
 
     about: str
-    usage: str
+    usage: tuple[str, ...]
     arguments: tuple[Row, ...]
     options: tuple[Row, ...]
     examples: tuple[str, ...]
@@ -77,15 +81,15 @@ def help_of(program: Path, command: str, *more: str) -> Help:
     found: dict[str, tuple[str, ...]] = {}
     for at, part in enumerate(parts):
         head, *lines = part.splitlines()
-        if head in ("Commands:", "Arguments:", "Options:"):
+        if head in ("Commands:", "Arguments:", INSTEAD, "Options:"):
             found[head] = tuple(lines)
         else:
             found["after"] = tuple("\n\n".join(parts[at:]).splitlines())
             break
-    rows = {head: tuple(map(row_of, found.get(head, ()))) for head in ("Arguments:", "Options:")}
+    rows = {head: tuple(map(row_of, found.get(head, ()))) for head in ("Arguments:", INSTEAD, "Options:")}
     if not command and {line.split()[0] for line in found["Commands:"]} != {*COMMANDS, "help"}:
         sys.exit(f"tools/pages.py: the help has other commands than {', '.join(COMMANDS)}")
-    return Help(about.strip(), usage.strip(), rows["Arguments:"], rows["Options:"], found.get("after", ()))
+    return Help(about.strip(), tuple(usage.strip().splitlines()), rows["Arguments:"], (*rows[INSTEAD], *rows["Options:"]), found.get("after", ()))
 
 
 # ---- the man page
@@ -105,7 +109,7 @@ class Form(NamedTuple):
 
 
 def form_of(name: str, it: Help, without: set[str]) -> Form:
-    words = tuple(word for word in it.usage.split() if word not in ("linda", name, "[OPTIONS]"))
+    words = tuple(word for word in it.usage[0].split() if word not in ("linda", name, "[OPTIONS]"))
     return Form(name, words, tuple(row for row in it.options if row.long not in {*words, *without, "--help"}))
 
 
@@ -182,6 +186,9 @@ def misspelled(program: Path, forms: list[Form]) -> list[str]:
         for at, word in enumerate(form.words):
             if word.startswith("--"):
                 see([form.command, *(it for place, it in enumerate(played_words(form)) if place not in (at, at + 1))], False)
+    for name in COMMANDS:
+        see([HELP[0], name], True)
+    see([HELP[0], "nothing"], False)
     return wrong
 
 
@@ -214,7 +221,7 @@ def man_page(helps: dict[str, Help], forms: list[Form]) -> str:
         elif kind == "ABOUT":
             lines.append(escaped(helps[name].about) + ".")
         elif kind == "OPTIONS":
-            lines += rows_in_man(helps[name], [" ".join(form.words) for form in forms if form.command == name] or [helps[name].usage])
+            lines += rows_in_man(helps[name], [" ".join(form.words) for form in forms if form.command == name] or [*helps[name].usage])
         elif kind == "EXAMPLES":
             for command in ("", *COMMANDS):
                 lines += [f".SS linda {command}".rstrip(), ".nf", *map(escaped, helps[command].examples), ".fi"]
@@ -240,7 +247,8 @@ def bash_page(helps: dict[str, Help]) -> str:
     for row in rows:
         (folders if row.is_folder() else files if row.is_file() else others).append(row.long)
     cases = "".join(f"    {name}) options=\"{' '.join(row.long for row in helps[name].options)}\" ;;\n" for name in COMMANDS)
-    top = " ".join((*COMMANDS, *(row.long for row in helps[""].options), VERSION[0]))
+    cases += f"    {HELP[0]}) options=\"{' '.join(COMMANDS)}\" ;;\n"
+    top = " ".join((*COMMANDS, HELP[0], *(row.long for row in helps[""].options), VERSION[0]))
     of_folder = [name for name in COMMANDS if any(row.is_folder() for row in helps[name].arguments)]
     return f"""# Completions of linda for bash, made by tools/pages.py.
 
@@ -291,11 +299,13 @@ def zsh_page(helps: dict[str, Help]) -> str:
         return f"'{row.long}[{told}]{f':{row.value}:{kind}' if row.value else ''}'"
 
     def rows_of(it: Help) -> str:
-        words = [*(row_in_zsh(row, False) for row in it.options), *(row_in_zsh(row, f"<{row.value}>..." in it.usage) for row in it.arguments)]
+        words = [*(row_in_zsh(row, False) for row in it.options), *(row_in_zsh(row, f"<{row.value}>..." in it.usage[0]) for row in it.arguments)]
         return " \\\n        ".join(["    _arguments", *words])
 
     commands = "".join(f"    {quoted(name + ':' + first_lower(helps[name].about).replace(':', chr(92) + ':'), '')}\n" for name in COMMANDS)
+    commands += f"    {quoted(HELP[0] + ':' + first_lower(HELP[1]), '')}\n"
     cases = "".join(f"{name})\n{rows_of(helps[name])}\n    ;;\n" for name in COMMANDS)
+    cases += f"{HELP[0]})\n    _values command {' '.join(COMMANDS)}\n    ;;\n"
     top = " ".join([*(row_in_zsh(row, False) for row in helps[""].options), f"'{VERSION[0]}[{first_lower(VERSION[1])}]'"])
     return f"""#compdef linda
 # Completions of linda for zsh, made by tools/pages.py.
@@ -322,6 +332,7 @@ case $name in
 def fish_page(helps: dict[str, Help]) -> str:
     lines = ["# Completions of linda for fish, made by tools/pages.py.", "", "complete -c linda -f"]
     lines += [f"complete -c linda -n __fish_use_subcommand -a {name} -d {quoted(helps[name].about, chr(92))}" for name in COMMANDS]
+    lines.append(f"complete -c linda -n __fish_use_subcommand -a {HELP[0]} -d {quoted(HELP[1], chr(92))}")
     top = [*((row.long, row.help) for row in helps[""].options), VERSION]
     lines += [f"complete -c linda -n __fish_use_subcommand -l {long[2:]} -d {quoted(told, chr(92))}" for long, told in top]
     for name in COMMANDS:
@@ -331,6 +342,7 @@ def fish_page(helps: dict[str, Help]) -> str:
             kind = " -x -a '(__fish_complete_directories)'" if row.is_folder() else " -r -F" if row.is_file() else " -x" if row.value else ""
             lines.append(f"{seen} -l {row.long[2:]}{kind} -d {quoted(row.help, chr(92))}")
         lines += [f"{seen} -a '(__fish_complete_directories)'" for row in helps[name].arguments if row.is_folder()]
+    lines += ["", f"complete -c linda -n '__fish_seen_subcommand_from {HELP[0]}' -a '{' '.join(COMMANDS)}'"]
     return "\n".join(lines) + "\n"
 
 

@@ -27,7 +27,7 @@ from served import TOP, Frame, Peer, frames, listing
 
 # The program itself: ./linda is a shell script, whose growths would count too.
 PROGRAM = TOP / "crates" / "linda" / "out" / "linda"
-PATIENCE = 10
+PATIENCE = 60
 TRIES = 200
 BUSY, DOWN = 3, 8
 LAST_WORDS = ("memory\n", "store: down\n")

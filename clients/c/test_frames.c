@@ -318,6 +318,11 @@ static void hold_limits(void)
     if (linda_fits(&one, &yes) || linda_fits(&any, &yes) || !linda_fits(&any, &one) || !linda_fits(&empty, &empty)) {
         fail("fits", "what does not");
     }
+    /* Texts may have zeros: what is after one counts, and a text is longer than its beginning. */
+    linda_item zeros[] = {linda_bytes("a\0b", 3), linda_bytes("a\0c", 3), linda_bytes("a\0", 2), linda_bytes("a", 1)};
+    for (size_t at = 0; at < 16; at++) {
+        if (linda_fits(&zeros[at / 4], &zeros[at % 4]) != (at / 4 == at % 4)) fail("fits", "texts with zeros");
+    }
 }
 
 int main(void)

@@ -286,6 +286,27 @@ class OverServers(WithServers):
         self.assertEqual(taking.end(), ("a", 5))
         self.assertEqual(space.take("b"), ("b",))
 
+    def test_each_call_that_waits_goes_on_over_a_kill(self) -> None:
+        server = self.serve()
+        waits = {"take": Space.take, "read": Space.read, "hold": lambda *words, **more: self.held(Space.hold(*words, **more)),
+                 "choose": lambda space, *words, **more: space.choose(In(*words), **more).tuple}
+        going = {name: Going(lambda name=name, place=place, call=call: call(self.space(server, client=10 + place), name, INT, timeout=PATIENCE / 2))
+                 for place, (name, call) in enumerate(waits.items())}
+        time.sleep(0.5)
+        server.kill()
+        time.sleep(0.1)
+        putter = self.space(self.serve(port=server.port), client=8)
+        for name in waits:
+            putter.out(name, 5)
+        for name, call in going.items():
+            with self.subTest(name=name):
+                self.assertEqual(call.end(), (name, 5))
+
+    @staticmethod
+    def held(hold: Any) -> Any:
+        with hold as offer:
+            return offer.accept() if offer else None
+
     def test_kill_under_a_choice_of_two(self) -> None:
         left, right = self.serve("left"), self.serve("right")
         space = self.space(left, right)
@@ -1199,7 +1220,7 @@ class Waits(WithServers):
                     self.assertEqual((space.pending, space.out("b")), ("sync", (0, 4)))
                     if is_taken:
                         self.assertEqual(space.pending, "sync")
-                        self.assertEqual(space.choose(Rd("c"), In("a", 8).wrap(6).nack(1), timeout=0), Outcome(1, "took", (6,), (), 0, 3, ("a", 8), ()))
+                        self.assertEqual(space.choose(Rd("c"), In("a", 7), In("a", 8).wrap(6).nack(1), timeout=0), Outcome(2, "took", (6,), (), 0, 3, ("a", 8), ()))
                     self.assertIsNone(space.pending)
                 fake.end()
 

@@ -1,4 +1,4 @@
-//! The programs of the tuple space, behind one command line.
+//! The programs of the tuple space, with one command line.
 //!
 //! `linda pipe` serves one connection to a new server in memory. Each line of standard input is a
 //! piece of the client's stream in hexadecimal digits; each reply is such a line on standard
@@ -6,7 +6,7 @@
 //!
 //! `linda run --servers N [--trace FILE]` plays a script from standard input with N servers on
 //! disks in memory, 1 to 16, and writes the trace of the run to a file, which is made, or emptied
-//! where it is there.
+//! if it is there.
 //!
 //! `linda call --client C [--again] [--together] PORT..` plays lines from standard input as client
 //! C, over the servers that listen on these ports of this machine; with `--again` it goes on as a
@@ -31,11 +31,10 @@
 //! socket gets its number.
 //!
 //! The exit status is 0 at the end; 2 for a fault of the command line, with the parser's text on
-//! standard error; 3 with one line there, `io` or `memory`, where standard input or output fails or
-//! memory runs out, or
-//! `server S: no connection`, `server S: not a server`, `server S: refused CODE DETAIL`,
-//! `server S: restored`, `server S: number in use`, or what is said of a store; 4 with one line
-//! there for a fault of a line of the input.
+//! standard error; 3 with one line there, `io` or `memory`, if standard input or output fails or
+//! memory runs out, or `server S: no connection`, `server S: not a server`, `server S: refused CODE
+//! DETAIL`, `server S: restored`, `server S: number in use`, or what is said of a store; 4 with one
+//! line there for a fault of a line of the input.
 #![tactic(auto)]
 
 ghost use Rattle.std.specs.Prelude.{◌≡◌, ◌≢◌, ◌≤◌, ◌⊎◌};
@@ -118,7 +117,7 @@ fn perform<
 >(rt: &HostRuntime, threads: &S, streams: &Streams, task: &Task) -> ExitCode
     requires { HasServers task.now }
 {
-    if !streams.has_output() && changes_files(task) {
+    if !streams.has_output() && has_effects(task) {
         return end(rt, "io", REFUSED);
     }
     match task {
@@ -221,17 +220,19 @@ fn place_of(socket: &Socket) -> Place<'_> {
     }
 }
 
-// Whether the task changes files. If what it prints cannot be printed, it ends before it touches
-// them.
-fn changes_files(task: &Task) -> bool {
+// Whether the task changes files, or what a server keeps. If what it prints cannot be printed, it
+// ends before it touches them, and before it greets a server.
+fn has_effects(task: &Task) -> bool {
     match task {
         Task::TracedRun { .. } => true,
+        Task::Call { .. } => true,
+        Task::CallAt { .. } => true,
         Task::Serve { .. } => true,
         _ => false,
     }
 }
 
-// Ends where the words of the command line could not be read.
+// Ends if the words of the command line could not be read.
 fn refuse(rt: &HostRuntime, error: &io::Error) -> ExitCode {
     if error.kind() == ErrorKind::OutOfMemory {
         return end(rt, "memory", REFUSED);

@@ -1,4 +1,4 @@
-//! How a script ends the program.
+//! Exit statuses of a script.
 
 ghost use Rattle.std.specs.Prelude.{◌≡◌};
 ghost use Rattle.linda.specs.Statuses as spec;

@@ -19,8 +19,8 @@ const ROOT: &str = "/";
 /// free.
 const TOO_MANY_FILES: i32 = 24;
 
-/// What fills the standard streams that were closed, until it is dropped. Each fails where it is
-/// read or written, as a closed one does: a file that is open for the other alone.
+/// What fills the standard streams that were closed, until it is dropped. Each fails if it is read
+/// or written, as a closed one does: a file that is open for the other only.
 #[derive(Drop)]
 pub struct Streams {
     input: Option<File>,

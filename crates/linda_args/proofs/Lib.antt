@@ -5,3 +5,4 @@ mod LongSpellingLaws
 pub mod RunWalkLaws
 pub mod RunWordsLaws
 pub mod TaskLaws
+pub mod OptionLaws

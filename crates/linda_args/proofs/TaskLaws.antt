@@ -2,6 +2,7 @@
 use Rattle.std.proofs.Common.{◌≡◌, ◌⊎◌, ◌∙◌, ℕ, Bool, List, [], ◌∷◌, Option, Some, ap, refl, sym, subst, inl, inr, codes, arith, slice_get, slice_index, unwrap_or, option_map, true, false}
 use Rattle.clap.specs.Walk.{Row, Text, first_of, row_of, rows_of, one_of}
 use Rattle.std.specs.Str.{bytes_eq}
+use Rattle.std.specs.String.{string_bytes}
 use Rattle.clap.specs.Lexer.{without_minus}
 use Rattle.clap.specs.Matches.{first_value, one_text, subcommand_name_of}
 use Rattle.clap.specs.Simple.{subcommand_of, subcommand_rows_of}
@@ -18,10 +19,12 @@ use Rattle.clap.proofs.WalkLemmas.{find_row, first_value-rows, one_text-rows}
 use Rattle.clap.specs.Facts.{Entry}
 use Rattle.clap.specs.declared.parser.matches.MatchedArg.{MatchedArg}
 use Rattle.clap.specs.declared.parser.matches.ValueSource.TheVariants.{CommandLine, DefaultValue}
-use Rattle.linda_args.specs.Commands.{IsCall, IsFlag, IsInspect, IsServe, IsRunWith, IsRefusedAs, AsksFor, AsksExactlyFor, AsksForPipe, AsksForRun, HasServers, Spells, has_flag, linda, source_in}
+use Rattle.linda_args.specs.Commands.{CallsBy, InspectsBy, ServesBy, options_in, IsRunWith, IsRefusedAs, AsksFor, AsksExactlyFor, AsksForPipe, AsksForRun, HasServers, Spells, has_flag, linda, source_in}
+use Rattle.linda_args.specs.Options.{IsCallBy, IsFlag, IsInspectBy, Options, options_of}
 use Rattle.linda_args.specs.declared.command.Task.{Task}
 use Rattle.linda_args.specs.declared.command.Task.TheVariants as tasks
 use Rattle.linda_args.proofs.CallWalkLaws.{call_is_found, flag_read}
+use Rattle.linda_args.proofs.OptionLaws.{AreSame, calls_as, found_in_words, inspects_as}
 use Rattle.linda_args.proofs.ParsingLaws.{many_kinds, missing_kinds, unknown_kinds, AsksToCall, AsksToInspect, AsksToServe, asked, name_of_rows, named, named_call, named_inspect, named_serve}
 use Rattle.linda_args.proofs.RunWalkLaws.{has_mark, has_more, has_trace, source_of}
 use Rattle.linda_args.proofs.RunWordsLaws.{RunsWith, no_mark_of_row, run_kinds, run_refused_some, no_file_of_row, number_of_row, run_is_found, run_is_free, runs}
@@ -278,65 +281,72 @@ the_flag : (text : Option Text) (flag b : Bool) → IsFlag text flag → text �
 the_flag text flag true h is = h.set is
 the_flag text flag false h is = h.clear is
 
-call_asks : (words : List Text) (text : Option Text) (task : Task) (a : AsksToCall words) → text ≡ Some (bool_text (has_flag (codes "--again") a.later))
-    → IsCall text task → AsksFor words task
-call_asks words text tasks.Pipe a is h = absurd h
-call_asks words text (tasks.Run n explain) a is h = absurd h
-call_asks words text (tasks.TracedRun n file explain) a is h = absurd h
-call_asks words text (tasks.Call client ports again together explain) a is h = record {
+call_asks : (words : List Text) (o : Options) (task : Task) (a : AsksToCall words) → o.one (codes "again") ≡ Some (bool_text (has_flag (codes "--again") a.later))
+    → AreSame o (options_in words) → CallsBy o task → AsksFor words task
+call_asks words o tasks.Pipe a is same h = absurd h
+call_asks words o (tasks.Run n explain) a is same h = absurd h
+call_asks words o (tasks.TracedRun n file explain) a is same h = absurd h
+call_asks words o (tasks.Call client ports again together explain) a is same h = record {
   name = a.name;
   later = a.later;
   spelled = a.spelled;
   is_client = h.0;
   are_ports = h.1.0;
-  is_again = the_flag text again (has_flag (codes "--again") a.later) h.1.1 is;
+  is_again = the_flag (o.one (codes "again")) again (has_flag (codes "--again") a.later) h.1.1.is_again is;
+  options = calls_as o (options_in words) same client again together explain h.1.1;
 }
-call_asks words text (tasks.CallAt client paths again together explain) a is h = absurd h
-call_asks words text (tasks.Serve port dir sessions log lease threads status metrics socket wait explain) a is h = absurd h
-call_asks words text (tasks.Inspect dir lists json explain) a is h = absurd h
+call_asks words o (tasks.CallAt client paths again together explain) a is same h = absurd h
+call_asks words o (tasks.Serve port dir sessions log lease threads status metrics socket wait explain) a is same h = absurd h
+call_asks words o (tasks.Inspect dir lists json explain) a is same h = absurd h
 
-serve_asks : (words : List Text) (task : Task) → AsksToServe words → IsServe task → AsksFor words task
-serve_asks words tasks.Pipe a h = absurd h
-serve_asks words (tasks.Run n explain) a h = absurd h
-serve_asks words (tasks.TracedRun n file explain) a h = absurd h
-serve_asks words (tasks.Call client ports again together explain) a h = absurd h
-serve_asks words (tasks.CallAt client paths again together explain) a h = absurd h
-serve_asks words (tasks.Serve port dir sessions log lease threads status metrics socket wait explain) a h = record {
+serve_asks : (words : List Text) (o : Options) (task : Task) → AsksToServe words → ServesBy o task → AsksFor words task
+serve_asks words o tasks.Pipe a h = absurd h
+serve_asks words o (tasks.Run n explain) a h = absurd h
+serve_asks words o (tasks.TracedRun n file explain) a h = absurd h
+serve_asks words o (tasks.Call client ports again together explain) a h = absurd h
+serve_asks words o (tasks.CallAt client paths again together explain) a h = absurd h
+serve_asks words o (tasks.Serve port dir sessions log lease threads status metrics socket wait explain) a h = record {
   name = a.name;
   later = a.later;
   spelled = a.spelled;
-  is_port = h.0;
-  are_sessions = h.1;
-  is_mode = h.4;
-  is_somewhere = h.5;
+  is_port = h.0.0;
+  are_sessions = h.0.1;
+  is_mode = h.0.4;
+  is_somewhere = h.0.5;
 }
-serve_asks words (tasks.Inspect dir lists json explain) a h = absurd h
+serve_asks words o (tasks.Inspect dir lists json explain) a h = absurd h
 
-inspect_asks : (words : List Text) (task : Task) → AsksToInspect words → IsInspect task → AsksFor words task
-inspect_asks words tasks.Pipe a h = absurd h
-inspect_asks words (tasks.Run n explain) a h = absurd h
-inspect_asks words (tasks.TracedRun n file explain) a h = absurd h
-inspect_asks words (tasks.Call client ports again together explain) a h = absurd h
-inspect_asks words (tasks.CallAt client paths again together explain) a h = absurd h
-inspect_asks words (tasks.Serve port dir sessions log lease threads status metrics socket wait explain) a h = absurd h
-inspect_asks words (tasks.Inspect dir lists json explain) a h = record { name = a.name; later = a.later; spelled = a.spelled }
+inspect_asks : (words : List Text) (o : Options) (task : Task) → AsksToInspect words → AreSame o (options_in words) → InspectsBy o task → AsksFor words task
+inspect_asks words o tasks.Pipe a same h = absurd h
+inspect_asks words o (tasks.Run n explain) a same h = absurd h
+inspect_asks words o (tasks.TracedRun n file explain) a same h = absurd h
+inspect_asks words o (tasks.Call client ports again together explain) a same h = absurd h
+inspect_asks words o (tasks.CallAt client paths again together explain) a same h = absurd h
+inspect_asks words o (tasks.Serve port dir sessions log lease threads status metrics socket wait explain) a same h = absurd h
+inspect_asks words o (tasks.Inspect dir lists json explain) a same h = record {
+  name = a.name;
+  later = a.later;
+  spelled = a.spelled;
+  options = inspects_as o (options_in words) same (string_bytes dir) lists.tuples lists.clients json explain h;
+}
 
-inspect_is_asked : (words : List Text) (found : Option Task) → AsksToInspect words → IfSome found IsInspect → IfSome found (AsksFor words)
-inspect_is_asked words None a h = tt
-inspect_is_asked words (Some task) a h = inspect_asks words task a h
+inspect_is_asked : (words : List Text) (o : Options) (found : Option Task) → AsksToInspect words → AreSame o (options_in words) → IfSome found (InspectsBy o)
+    → IfSome found (AsksFor words)
+inspect_is_asked words o None a same h = tt
+inspect_is_asked words o (Some task) a same h = inspect_asks words o task a same h
 
-serve_is_asked : (words : List Text) (found : Option Task) → AsksToServe words → IfSome found IsServe → IfSome found (AsksFor words)
-serve_is_asked words None a h = tt
-serve_is_asked words (Some task) a h = serve_asks words task a h
+serve_is_asked : (words : List Text) (o : Options) (found : Option Task) → AsksToServe words → IfSome found (ServesBy o) → IfSome found (AsksFor words)
+serve_is_asked words o None a h = tt
+serve_is_asked words o (Some task) a h = serve_asks words o task a h
 
-call_is_asked : (words : List Text) (text : Option Text) (found : Option Task) (a : AsksToCall words) → text ≡ Some (bool_text (has_flag (codes "--again") a.later))
-    → IfSome found (IsCall text) → IfSome found (AsksFor words)
-call_is_asked words text None a is h = tt
-call_is_asked words text (Some task) a is h = call_asks words text task a is h
+call_is_asked : (words : List Text) (o : Options) (found : Option Task) (a : AsksToCall words) → o.one (codes "again") ≡ Some (bool_text (has_flag (codes "--again") a.later))
+    → AreSame o (options_in words) → IfSome found (CallsBy o) → IfSome found (AsksFor words)
+call_is_asked words o None a is same h = tt
+call_is_asked words o (Some task) a is same h = call_asks words o task a is same h
 
 pub call_asked : {E : Type 0} (m : ArgMatches) (f : Found) (words : List Text) (result : Result (Option Task) E) → fault_of linda words ≡ []
     → subcommand_rows_of m ≡ subcommand_of linda words → subcommand_name_of m ≡ Some (codes "call")
-    → option_map (λ p. p.1) (subcommand_rows_of m) ≡ Some (rows_of f) → IfOk result (λ found. IfSome found (IsCall (one_text f (codes "again"))))
+    → option_map (λ p. p.1) (subcommand_rows_of m) ≡ Some (rows_of f) → IfOk result (λ found. IfSome found (CallsBy (options_of f)))
     → IfOk result (λ found. IfSome found (AsksFor words))
 call_asked m f words (Err e) free rows is below h = tt
 call_asked m f words (Ok found) free rows is below h = go (asked_for words free)
@@ -345,29 +355,29 @@ call_asked m f words (Ok found) free rows is below h = go (asked_for words free)
     go (to_pipe p) = absurd (no_call_pipe (subcommand_name_of m) is (pipe_found m words p rows))
     go (to_run n a) = absurd (no_call_run (subcommand_name_of m) is (run_found m words n a rows))
     go (to_with a) = absurd (no_call_run (subcommand_name_of m) is (with_found m words a rows))
-    go (to_call a) = call_is_asked words (one_text f (codes "again")) found a (flag_found m f words a rows below) h
+    go (to_call a) = call_is_asked words (options_of f) found a (flag_found m f words a rows below) (found_in_words m f words rows below) h
     go (to_serve a) = absurd (no_serve_call (subcommand_name_of m) (serve_found m words a rows) is)
     go (to_inspect a) = absurd (no_inspect_call (subcommand_name_of m) (inspect_found m words a rows) is)
 
-pub serve_asked : {E : Type 0} (m : ArgMatches) (words : List Text) (result : Result (Option Task) E) → fault_of linda words ≡ []
+pub serve_asked : {E : Type 0} (m : ArgMatches) (o : Options) (words : List Text) (result : Result (Option Task) E) → fault_of linda words ≡ []
     → subcommand_rows_of m ≡ subcommand_of linda words → subcommand_name_of m ≡ Some (codes "serve")
-    → IfOk result (λ found. IfSome found IsServe) → IfOk result (λ found. IfSome found (AsksFor words))
-serve_asked m words (Err e) free rows is h = tt
-serve_asked m words (Ok found) free rows is h = go (asked_for words free)
+    → IfOk result (λ found. IfSome found (ServesBy o)) → IfOk result (λ found. IfSome found (AsksFor words))
+serve_asked m o words (Err e) free rows is h = tt
+serve_asked m o words (Ok found) free rows is h = go (asked_for words free)
   where
     go : Asked words → IfSome found (AsksFor words)
     go (to_pipe p) = absurd (no_serve_pipe (subcommand_name_of m) is (pipe_found m words p rows))
     go (to_run n a) = absurd (no_serve_run (subcommand_name_of m) is (run_found m words n a rows))
     go (to_with a) = absurd (no_serve_run (subcommand_name_of m) is (with_found m words a rows))
     go (to_call a) = absurd (no_serve_call (subcommand_name_of m) is (call_found m words a rows))
-    go (to_serve a) = serve_is_asked words found a h
+    go (to_serve a) = serve_is_asked words o found a h
     go (to_inspect a) = absurd (no_inspect_serve (subcommand_name_of m) (inspect_found m words a rows) is)
 
-pub inspect_asked : {E : Type 0} (m : ArgMatches) (words : List Text) (result : Result (Option Task) E) → fault_of linda words ≡ []
+pub inspect_asked : {E : Type 0} (m : ArgMatches) (f : Found) (words : List Text) (result : Result (Option Task) E) → fault_of linda words ≡ []
     → subcommand_rows_of m ≡ subcommand_of linda words → subcommand_name_of m ≡ Some (codes "inspect")
-    → IfOk result (λ found. IfSome found IsInspect) → IfOk result (λ found. IfSome found (AsksFor words))
-inspect_asked m words (Err e) free rows is h = tt
-inspect_asked m words (Ok found) free rows is h = go (asked_for words free)
+    → option_map (λ p. p.1) (subcommand_rows_of m) ≡ Some (rows_of f) → IfOk result (λ found. IfSome found (InspectsBy (options_of f))) → IfOk result (λ found. IfSome found (AsksFor words))
+inspect_asked m f words (Err e) free rows is below h = tt
+inspect_asked m f words (Ok found) free rows is below h = go (asked_for words free)
   where
     go : Asked words → IfSome found (AsksFor words)
     go (to_pipe p) = absurd (no_inspect_pipe (subcommand_name_of m) is (pipe_found m words p rows))
@@ -375,7 +385,7 @@ inspect_asked m words (Ok found) free rows is h = go (asked_for words free)
     go (to_with a) = absurd (no_inspect_run (subcommand_name_of m) is (with_found m words a rows))
     go (to_call a) = absurd (no_inspect_call (subcommand_name_of m) is (call_found m words a rows))
     go (to_serve a) = absurd (no_inspect_serve (subcommand_name_of m) is (serve_found m words a rows))
-    go (to_inspect a) = inspect_is_asked words found a h
+    go (to_inspect a) = inspect_is_asked words (options_of f) found a (found_in_words m f words rows below) h
 
 -- ---- faults
 

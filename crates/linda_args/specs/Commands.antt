@@ -1,13 +1,16 @@
--- What the command line asks for, and how words that ask for nothing are refused.
+-- Command lines: the task that each asks for, and how words that ask for nothing are refused.
 use Rattle.std.specs.Prelude.{◌≡◌, ◌≢◌, ◌<◌, ◌≤◌, ◌⊎◌, ◌==◌, ◌&&◌, ◌||◌, ◌^◌, ⊤, ℕ, Bool, true}
 use Rattle.std.specs.Prelude.{false, not}
 use Rattle.std.specs.Prelude.{List, [], ◌∷◌, ◌++◌, length, Option, Some, IfSome, IsSome, pos}
-use Rattle.std.specs.Prelude.{codes, Result, IsErrAnd, option_and_then}
+use Rattle.std.specs.Prelude.{codes, Result, IsErrAnd, option_and_then, map, unwrap_or}
+use Rattle.std.specs.Option.{is_some, option_map}
+use Rattle.std.specs.String.{string_bytes}
 use Rattle.std.specs.Str.{bytes_eq}
 use Rattle.std.specs.Str.Parse.{IsNumeral, digits_value, without_leading_plus}
 use Rattle.clap.specs.Words.{App, Kinds, Rule, HasKind, app_of, new_app, new_rule, with_rule}
 use Rattle.clap.specs.Words.{with_subcommand}
-use Rattle.clap.specs.Simple.{on_top}
+use Rattle.clap.specs.Simple.{on_top, subcommand_of}
+use Rattle.clap.specs.Walk.{Row}
 use Rattle.clap.specs.Matches.{matched_of}
 use Rattle.clap.specs.declared.builder.action.ArgAction.TheVariants.{Append, Set, SetTrue}
 use Rattle.clap.specs.declared.builder.command.Command.{Command}
@@ -19,6 +22,7 @@ use Rattle.clap.specs.declared.parser.matches.Found.{Found}
 use Rattle.clap.specs.declared.parser.matches.ValueSource.{ValueSource}
 use Rattle.linda_args.specs.Marks.{hyphen}
 use Rattle.linda_args.specs.Ports.{ArePorts}
+use Rattle.linda_args.specs.Options.{Options, options_of_rows, IsCallBy, IsInspectBy, IsServeBy}
 use Rattle.linda_args.specs.declared.command.Task.{Task}
 use Rattle.linda_args.specs.declared.command.socket.Socket.{Socket}
 use Rattle.linda_args.specs.declared.command.status.StatusPlace.{StatusPlace}
@@ -247,22 +251,30 @@ pub record AsksForRunWith (words : List (List ℕ)) (n : ℕ) : Type 0 where
   pub some : 1 ≤ n
   pub most : n ≤ MAX_SERVERS
 
+-- what the parser finds of the words after the command that they name
+abbrev pub rows_in : List (List ℕ) → List Row
+rows_in words = unwrap_or (option_map (λ p. p.1) (subcommand_of linda words)) []
+
+abbrev pub options_in : List (List ℕ) → Options
+options_in words = options_of_rows (rows_in words)
+
 -- whether this flag is one of the words, before a `--` that ends options
 abbrev pub has_flag : List ℕ → List (List ℕ) → Bool
 has_flag flag [] = false
 has_flag flag (word ∷ words) =
     not (bytes_eq word (codes "--")) && (bytes_eq word flag || has_flag flag words)
 
--- The words are a program's name and `call`, the numbers are such as may stand after it, and
--- `again` says whether `--again` is one of the words after it.
-pub record AsksForCall (words : List (List ℕ)) (client : ℕ) (ports : List ℕ) (again : Bool)
-    : Type 0 where
+-- The words are a program's name and `call`, the numbers are such as may stand after it, `again`
+-- says whether `--again` is one of the words after it, and client and flags are as the options say.
+pub record AsksForCall (words : List (List ℕ)) (client : ℕ) (ports : List ℕ)
+    (again together explain : Bool) : Type 0 where
   pub name : List ℕ
   pub later : List (List ℕ)
   pub spelled : words ≡ name ∷ codes "call" ∷ later
   pub is_client : client < 2 ^ 32
   pub are_ports : ArePorts ports
   pub is_again : again ≡ has_flag (codes "--again") later
+  pub options : IsCallBy (options_in words) client again together explain
 
 -- The words are a program's name and `call`, and more.
 pub record IsAfterCall (words : List (List ℕ)) : Type 0 where
@@ -295,11 +307,13 @@ pub record AsksForServe (words : List (List ℕ)) (port sessions : Option ℕ) (
   pub is_mode : IfSome socket (λ s. s.mode < 2 ^ 9)
   pub is_somewhere : IsSome port ⊎ IsSome socket
 
--- The words are a program's name and `inspect`.
-pub record AsksForInspect (words : List (List ℕ)) : Type 0 where
+-- The words are a program's name and `inspect`, and folder and flags are as the options say.
+pub record AsksForInspect (words : List (List ℕ)) (dir : List ℕ)
+    (tuples clients json explain : Bool) : Type 0 where
   pub name : List ℕ
   pub later : List (List ℕ)
   pub spelled : words ≡ name ∷ codes "inspect" ∷ later
+  pub options : IsInspectBy (options_in words) dir tuples clients json explain
 
 -- The words are a program's name and `--version`.
 abbrev pub AsksForVersion : List (List ℕ) → Type 0
@@ -311,11 +325,13 @@ AsksFor words tasks.Pipe = AsksForPipe words
 AsksFor words (tasks.Run n false) = AsksForRun words n
 AsksFor words (tasks.Run n true) = AsksForRunWith words n
 AsksFor words (tasks.TracedRun n file explain) = AsksForRunWith words n
-AsksFor words (tasks.Call client ports again together explain) = AsksForCall words client ports again
+AsksFor words (tasks.Call client ports again together explain) =
+    AsksForCall words client ports again together explain
 AsksFor words (tasks.CallAt client paths again together explain) = AsksForCallAt words client
 AsksFor words (tasks.Serve port dir sessions log lease threads status metrics socket wait explain) =
     AsksForServe words port sessions socket
-AsksFor words (tasks.Inspect dir lists json explain) = AsksForInspect words
+AsksFor words (tasks.Inspect dir lists json explain) =
+    AsksForInspect words (string_bytes dir) lists.tuples lists.clients json explain
 
 -- it is a run with a trace, or of which faults are explained, by such a number
 abbrev pub IsRunWith : Task → Type 0
@@ -328,21 +344,16 @@ IsRunWith (tasks.CallAt client paths again together explain) = ⊥
 IsRunWith (tasks.Serve port dir sessions log lease threads status metrics socket wait explain) = ⊥
 IsRunWith (tasks.Inspect dir lists json explain) = ⊥
 
--- the flag is as the parser has its text
-pub record IsFlag (text : Option (List ℕ)) (flag : Bool) : Type 0 where
-  pub set : text ≡ Some (codes "true") → flag ≡ true
-  pub clear : text ≡ Some (codes "false") → flag ≡ false
-
--- it is a call, by such numbers, with the flag of which the parser has this text
-abbrev pub IsCall : Option (List ℕ) → Task → Type 0
-IsCall text tasks.Pipe = ⊥
-IsCall text (tasks.Run n explain) = ⊥
-IsCall text (tasks.TracedRun n file explain) = ⊥
-IsCall text (tasks.Call client ports again together explain) =
-    (client < 2 ^ 32) × (ArePorts ports × IsFlag text again)
-IsCall text (tasks.CallAt client paths again together explain) = ⊥
-IsCall text (tasks.Serve port dir sessions log lease threads status metrics socket wait explain) = ⊥
-IsCall text (tasks.Inspect dir lists json explain) = ⊥
+-- it is a call, by such numbers, with client and flags as the options say
+abbrev pub CallsBy : Options → Task → Type 0
+CallsBy o tasks.Pipe = ⊥
+CallsBy o (tasks.Run n explain) = ⊥
+CallsBy o (tasks.TracedRun n file explain) = ⊥
+CallsBy o (tasks.Call client ports again together explain) =
+    (client < 2 ^ 32) × (ArePorts ports × IsCallBy o client again together explain)
+CallsBy o (tasks.CallAt client paths again together explain) = ⊥
+CallsBy o (tasks.Serve port dir sessions log lease threads status metrics socket wait explain) = ⊥
+CallsBy o (tasks.Inspect dir lists json explain) = ⊥
 
 -- it is a call over sockets, by such a number
 abbrev pub IsCallAt : Task → Type 0
@@ -353,6 +364,17 @@ IsCallAt (tasks.Call client ports again together explain) = ⊥
 IsCallAt (tasks.CallAt client paths again together explain) = client < 2 ^ 32
 IsCallAt (tasks.Serve port dir sessions log lease threads status metrics socket wait explain) = ⊥
 IsCallAt (tasks.Inspect dir lists json explain) = ⊥
+
+-- it is a call over sockets, with client and flags as the options say
+abbrev pub CallsAtBy : Options → Task → Type 0
+CallsAtBy o tasks.Pipe = ⊥
+CallsAtBy o (tasks.Run n explain) = ⊥
+CallsAtBy o (tasks.TracedRun n file explain) = ⊥
+CallsAtBy o (tasks.Call client ports again together explain) = ⊥
+CallsAtBy o (tasks.CallAt client paths again together explain) =
+    (client < 2 ^ 32) × IsCallBy o client again together explain
+CallsAtBy o (tasks.Serve port dir sessions log lease threads status metrics socket wait explain) = ⊥
+CallsAtBy o (tasks.Inspect dir lists json explain) = ⊥
 
 -- a port from 1 on, or a path
 abbrev pub IsStatusPlace : StatusPlace → Type 0
@@ -374,15 +396,37 @@ IsServe (tasks.Serve port dir sessions log lease threads status metrics socket w
     × (IsSome port ⊎ IsSome socket)
 IsServe (tasks.Inspect dir lists json explain) = ⊥
 
--- it inspects
-abbrev pub IsInspect : Task → Type 0
-IsInspect tasks.Pipe = ⊥
-IsInspect (tasks.Run n explain) = ⊥
-IsInspect (tasks.TracedRun n file explain) = ⊥
-IsInspect (tasks.Call client ports again together explain) = ⊥
-IsInspect (tasks.CallAt client paths again together explain) = ⊥
-IsInspect (tasks.Serve port dir sessions log lease threads status metrics socket wait explain) = ⊥
-IsInspect (tasks.Inspect dir lists json explain) = ⊤
+-- it serves, with each number, text and flag as the options say
+abbrev pub ServesBy : Options → Task → Type 0
+ServesBy o tasks.Pipe = ⊥
+ServesBy o (tasks.Run n explain) = ⊥
+ServesBy o (tasks.TracedRun n file explain) = ⊥
+ServesBy o (tasks.Call client ports again together explain) = ⊥
+ServesBy o (tasks.CallAt client paths again together explain) = ⊥
+ServesBy o (tasks.Serve port dir sessions log lease threads status metrics socket wait explain) =
+    IsServe
+    (tasks.Serve port dir sessions log lease threads status metrics socket wait explain)
+    × IsServeBy o port (string_bytes dir) sessions log lease threads status
+    (map string_bytes metrics.items) socket wait explain
+ServesBy o (tasks.Inspect dir lists json explain) = ⊥
+
+-- it inspects, with folder and flags as the options say
+abbrev pub InspectsBy : Options → Task → Type 0
+InspectsBy o tasks.Pipe = ⊥
+InspectsBy o (tasks.Run n explain) = ⊥
+InspectsBy o (tasks.TracedRun n file explain) = ⊥
+InspectsBy o (tasks.Call client ports again together explain) = ⊥
+InspectsBy o (tasks.CallAt client paths again together explain) = ⊥
+InspectsBy o (tasks.Serve port dir sessions log lease threads status metrics socket wait explain) = ⊥
+InspectsBy o (tasks.Inspect dir lists json explain) =
+    IsInspectBy o (string_bytes dir) lists.tuples lists.clients json explain
+
+-- whether it asks for what cannot be kept: a lease beside two threads for each connection, or tags
+-- that are counted and no status
+abbrev pub is_unkept : Task → Bool
+is_unkept (tasks.Serve port dir sessions log lease threads status metrics socket wait explain) =
+    (threads && is_some lease) || (not (is_some status) && not (length metrics.items == 0))
+is_unkept _ = false
 
 -- what words ask for that are written out above to the letter: the pipe, or a run
 abbrev pub AsksExactlyFor : List (List ℕ) → Task → Type 0

@@ -1,3 +1,4 @@
 pub mod Commands
 pub mod Marks
 pub mod Ports
+pub mod Options

@@ -1,5 +1,6 @@
 //! The command line.
 
+mod options;
 mod paths;
 mod ports;
 mod socket;
@@ -20,7 +21,9 @@ ghost use Rattle.linda_args.specs.Commands as spec;
 ghost use Rattle.linda_args.specs.Commands.{AsksExactlyFor, AsksFor, AsksForPipe, AsksForRun};
 ghost use Rattle.linda_args.specs.Commands.{HasServers, Spells};
 ghost use Rattle.linda_client.specs.declared.limits.TheConstants.{MAX_SERVERS};
-ghost use Rattle.linda_args.specs.Commands.{IsCall, IsCommand, IsInspect, IsRefusedAs, IsServe};
+ghost use Rattle.linda_args.specs.Commands.{CallsAtBy, CallsBy, InspectsBy, ServesBy};
+ghost use Rattle.linda_args.specs.Commands.{IsCommand, IsRefusedAs, IsServe};
+ghost use Rattle.linda_args.specs.Options.{options_of};
 ghost use Rattle.linda_args.specs.Commands.{IsCallAt, IsRunWith};
 ghost use Rattle.linda_args.specs.Commands.{Refuses, client_rule, dir_rule, flag_rule, lease_rule};
 ghost use Rattle.linda_args.specs.Commands.{linda, source_in};
@@ -36,6 +39,7 @@ use clap::parser::ValueSource;
 use clap::{Arg, ArgAction, ArgMatches, Command, Error, value_parser};
 use linda_client::MAX_SERVERS;
 use linda_inspect::Lists;
+use options::{is_set, long_number, short_number};
 pub use paths::Paths;
 pub use ports::Ports;
 pub use socket::Socket;
@@ -122,6 +126,7 @@ pub fn read_task(alloc: Global, words: &[String]) -> Result<Task, Error>
     ensures taken { (task : Task) → AsksExactlyFor (map string_bytes words.now) task
         → MatchResult result (λ found. found ≡ task) (λ e. kind_of e ≡ ErrorKind.OutOfMemory) }
     ensures servers { IfOk result HasServers }
+    ensures kept { IfOk result (λ task. spec.is_unkept task ≡ false) }
     ensures apart { (n : ℕ) → AsksForPipe (map string_bytes words.now)
         → AsksForRun (map string_bytes words.now) n → ⊥ }
     ensures refused { (kinds : Kinds) → IsRefusedAs (map string_bytes words.now) kinds
@@ -147,7 +152,8 @@ fn task_of_paths(
     at_socket: bool,
     at_path: bool,
 ) -> Result<Task, Error>
-    ensures { IfOk result IsServe }
+    ensures served { IfOk result IsServe }
+    ensures kept { IfOk result (λ task. spec.is_unkept task ≡ false) }
 {
     let mut linda = command_of_paths(alloc, at_socket, at_path)?;
     let matches = linda.try_get_matches_from_mut(words)?;
@@ -185,6 +191,7 @@ fn task_by<'a>(alloc: Global, linda: &mut Command<'a>, words: &'a [String]) -> R
     ensures asked { IfOk result (λ task. AsksFor (map string_bytes words.entry.now) task) }
     ensures taken { (task : Task) → AsksExactlyFor (map string_bytes words.entry.now) task
         → MatchResult result (λ found. found ≡ task) (λ e. kind_of e ≡ ErrorKind.OutOfMemory) }
+    ensures kept { IfOk result (λ task. spec.is_unkept task ≡ false) }
     ensures refused { (kinds : Kinds) → IsRefusedAs (map string_bytes words.entry.now) kinds
         → Refuses kinds result }
 {
@@ -202,7 +209,8 @@ fn task_by<'a>(alloc: Global, linda: &mut Command<'a>, words: &'a [String]) -> R
 // Whether it asks for what cannot be kept: each connection has two threads, and clients that hold
 // a tuple and say nothing are to be ended; or tuples are to be counted where nobody can ask.
 fn is_unkept(task: &Task) -> bool
-    ensures { (words : List (List ℕ)) → AsksExactlyFor words task.now → result ≡ false }
+    ensures asked { (words : List (List ℕ)) → AsksExactlyFor words task.now → result ≡ false }
+    ensures value { result ≡ spec.is_unkept task.now }
 {
     match task {
         Task::Serve {
@@ -350,32 +358,29 @@ fn explains(below: &ArgMatches) -> bool
 
 // What is found below `call`.
 fn call_of(alloc: Global, below: &ArgMatches) -> Result<Option<Task>, AllocError>
-    ensures { IfOk result (λ found.
-        IfSome found (IsCall (one_text (found_of below.now) (codes "again")))) }
+    ensures { IfOk result (λ found. IfSome found (CallsBy (options_of (found_of below.now)))) }
 {
-    let Some(client) = below.get_one::<u32>(CLIENT) else {
+    let Some(client) = long_number(below, CLIENT) else {
         return Ok(None);
     };
     let Some(ports) = Ports::found(alloc, below, PORTS)? else {
         return Ok(None);
     };
-    let again = below.get_flag(AGAIN);
-    let together = below.get_flag(TOGETHER);
-    let explain = explains(below);
+    let again = is_set(below, AGAIN);
     Ok(Some(Task::Call {
         client,
         ports,
         again,
-        together,
-        explain,
+        together: is_set(below, TOGETHER),
+        explain: explains(below),
     }))
 }
 
 // What is found below `call` with sockets.
 fn call_at_of(alloc: Global, below: &ArgMatches) -> Result<Option<Task>, AllocError>
-    ensures { IfOk result (λ found. IfSome found IsCallAt) }
+    ensures { IfOk result (λ found. IfSome found (CallsAtBy (options_of (found_of below.now)))) }
 {
-    let Some(client) = below.get_one::<u32>(CLIENT) else {
+    let Some(client) = long_number(below, CLIENT) else {
         return Ok(None);
     };
     let Some(paths) = Paths::found(alloc, below)? else {
@@ -384,17 +389,17 @@ fn call_at_of(alloc: Global, below: &ArgMatches) -> Result<Option<Task>, AllocEr
     Ok(Some(Task::CallAt {
         client,
         paths,
-        again: below.get_flag(AGAIN),
-        together: below.get_flag(TOGETHER),
+        again: is_set(below, AGAIN),
+        together: is_set(below, TOGETHER),
         explain: explains(below),
     }))
 }
 
 // What is found below `serve`; the parser has judged the numbers.
 fn serve_of(alloc: Global, below: &ArgMatches) -> Result<Option<Task>, AllocError>
-    ensures { IfOk result (λ found. IfSome found IsServe) }
+    ensures { IfOk result (λ found. IfSome found (ServesBy (options_of (found_of below.now)))) }
 {
-    let port = below.get_one::<u16>(PORT);
+    let port = short_number(below, PORT);
     let socket = Socket::found(alloc, below)?;
     if port.is_none() && socket.is_none() {
         return Ok(None);
@@ -403,50 +408,44 @@ fn serve_of(alloc: Global, below: &ArgMatches) -> Result<Option<Task>, AllocErro
         return Ok(None);
     };
     let dir = String::from_str(alloc, text)?;
-    let sessions = below.get_one::<u32>(SESSIONS);
-    let log = below.get_flag(LOG);
-    let lease = below.get_one::<u32>(LEASE);
+    let lease = long_number(below, LEASE);
     if lease == Some(0) {
         return Ok(None);
     }
-    let threads = below.get_flag(THREADS);
     let status = status_found(alloc, below)?;
     let metrics = metrics_found(alloc, below)?;
-    let wait = below.get_flag(WAIT);
-    let explain = explains(below);
     Ok(Some(Task::Serve {
         port,
         dir,
-        sessions,
-        log,
+        sessions: long_number(below, SESSIONS),
+        log: is_set(below, LOG),
         lease,
-        threads,
+        threads: is_set(below, THREADS),
         status,
         metrics,
         socket,
-        wait,
-        explain,
+        wait: is_set(below, WAIT),
+        explain: explains(below),
     }))
 }
 
 // What is found below `inspect`.
 fn inspect_of(alloc: Global, below: &ArgMatches) -> Result<Option<Task>, AllocError>
-    ensures { IfOk result (λ found. IfSome found IsInspect) }
+    ensures { IfOk result (λ found. IfSome found (InspectsBy (options_of (found_of below.now)))) }
 {
     let Some(text) = below.get_str(DIR) else {
         return Ok(None);
     };
     let dir = String::from_str(alloc, text)?;
-    let tuples = below.get_flag(TUPLES);
-    let clients = below.get_flag(CLIENTS);
-    let lists = Lists { tuples, clients };
-    let json = below.get_flag(JSON);
-    let explain = explains(below);
+    let lists = Lists {
+        tuples: is_set(below, TUPLES),
+        clients: is_set(below, CLIENTS),
+    };
     Ok(Some(Task::Inspect {
         dir,
         lists,
-        json,
-        explain,
+        json: is_set(below, JSON),
+        explain: explains(below),
     }))
 }
 
@@ -493,6 +492,22 @@ fn bare_command<'a>(alloc: Global, name: &'a str, about: &'a str, after: &'a str
     Command::new(alloc, name).about(about).after_help(after)
 }
 
+// A bare command whose usage has these forms.
+fn full_command<'a>(
+    alloc: Global,
+    name: &'a str,
+    about: &'a str,
+    after: &'a str,
+    forms: &'a str,
+) -> Command<'a>
+    ensures { IsCommand (new_app name.entry.now) result }
+{
+    Command::new(alloc, name)
+        .about(about)
+        .after_help(after)
+        .override_usage(forms)
+}
+
 // The command that serves standard input and output.
 fn pipe_command<'a>(alloc: Global) -> Command<'a>
     ensures { IsCommand spec.pipe_command result }
@@ -517,7 +532,7 @@ fn call_command<'a>(alloc: Global) -> Result<Command<'a>, AllocError>
     ensures { IfOk result (IsCommand spec.call_command) }
 {
     let about = "Put and take tuples at servers that listen on ports of this machine";
-    let first = bare_command(alloc, CALL, about, LINES).arg(client(alloc));
+    let first = full_command(alloc, CALL, about, CALLING, CALLS).arg(client(alloc));
     let second = with_arg(first, port_words(alloc));
     let third = with_arg(second, flag(alloc, AGAIN, AGAIN_HELP));
     let fourth = with_arg(third, flag(alloc, TOGETHER, TOGETHER_HELP));
@@ -533,8 +548,7 @@ fn command_of_sockets<'a>(alloc: Global) -> Result<Command<'a>, AllocError> {
 // The command of a client of servers at sockets.
 fn call_command_of_sockets<'a>(alloc: Global) -> Result<Command<'a>, AllocError> {
     let about = "Put and take tuples at servers that listen on unix sockets";
-    let help = "Where a server listens; once for each of servers 0, 1, .., 16 at most";
-    let sockets = option(alloc, SOCKET, "PATH", help)
+    let sockets = option(alloc, SOCKET, "PATH", SOCKETS_HELP)
         .required(true)
         .action(ArgAction::Append)
         .value_parser(ValueParser::NonEmptyString);
@@ -549,7 +563,7 @@ fn call_command_of_sockets<'a>(alloc: Global) -> Result<Command<'a>, AllocError>
 fn serve_command<'a>(alloc: Global) -> Result<Command<'a>, AllocError>
     ensures { IfOk result (IsCommand spec.serve_command) }
 {
-    let first = bare_command(alloc, SERVE, SERVE_ABOUT, SERVING).arg(port_option(alloc));
+    let first = full_command(alloc, SERVE, SERVE_ABOUT, SERVING, SERVES).arg(port_option(alloc));
     let second = with_arg(first, dir_option(alloc));
     let third = with_arg(second, sessions_option(alloc));
     let fourth = with_arg(third, flag(alloc, LOG, LOG_HELP));
@@ -803,6 +817,14 @@ const STATUS_HELP: &str =
 
 const SERVE_ABOUT: &str = "Serve the store in a folder on a port of this machine";
 
+const SERVES: &str = "linda serve [OPTIONS] --port <P> --dir <D>\n       \
+    linda serve [OPTIONS] --socket <PATH> --dir <D>";
+
+const CALLS: &str = "linda call [OPTIONS] --client <C> <PORT>...\n       \
+    linda call [OPTIONS] --client <C> --socket <PATH>...";
+
+const SOCKETS_HELP: &str = "Where a server listens; once for each of servers 0, 1, .., 16 at most";
+
 const LOG_HELP: &str = "Write a log to standard error: a line a minute, and one at each event";
 
 const THREADS_HELP: &str =
@@ -871,10 +893,14 @@ const SCRIPT: &str = "Examples, of which the second keeps the trace:\n  \
     8 sync in (\"a\", ?i)\n  \
     state 1";
 
-const LINES: &str = "Examples, beside a server on port 7707:\n  \
+const CALLING: &str = "Instead of ports:\n      \
+    --socket <PATH>  Where a server listens; once for each of servers 0, 1, .., 16 at most\n\n\
+    Examples, beside a server on port 7707, and one at a unix socket:\n  \
     echo 'out (\"job\", 1)' | linda call --client 1 7707\n  \
-    echo 'sync in (\"job\", ?i)' | linda call --client 2 7707\n\n\
-    --socket PATH, once for each server, names unix sockets in place of ports:\n  \
+    echo 'sync in (\"job\", ?i)' | linda call --client 2 7707\n  \
+    echo 'out (\"job\", 1)' | linda call --client 3 --socket store/socket";
+
+const LINES: &str = "Example, beside a server at a unix socket:\n  \
     echo 'out (\"job\", 1)' | linda call --client 3 --socket store/socket";
 
 const SERVING: &str = "Examples:\n  \

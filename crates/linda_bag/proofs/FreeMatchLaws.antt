@@ -16,11 +16,11 @@ use Rattle.linda_tuple.specs.Template.{Template}
 use Rattle.linda_tuple.specs.Matching.{Matches}
 use Rattle.linda_tuple.proofs.MatchingLaws.{Fits, fits_itself, matched}
 use Rattle.linda_bag.specs.FreeMatch.{IsFreeMatch}
-use Rattle.linda_bag.specs.Filing.{Rows, IsBare, row_at, placed, keyed, rows_at}
+use Rattle.linda_bag.specs.Filing.{Rows, IsBare, IsShelved, row_at, placed, keyed, rows_at}
 use Rattle.linda_bag.specs.Heads.{with_head}
 use Rattle.linda_bag.specs.declared.ids.Ids.{Ids}
 use Rattle.linda_bag.specs.declared.ids.Ids.TheVariants as ids
-use Rattle.linda_bag.specs.Ids.{has_id, IsOf}
+use Rattle.linda_bag.specs.Ids.{has_id, has_any, IsOf}
 use Rattle.linda_bag.specs.Candidates.{tag_of, count_of, first_of, first_among, first_value, with_first, candidates}
 use Rattle.linda_bag.proofs.OrderLaws.{atom_itself, number_itself}
 use Rattle.linda_bag.proofs.FilingLaws.{id_told}
@@ -92,3 +92,8 @@ module _ (shape : Template) (rows : Rows Tuple) (m : FinMap nat_cmp Tuple) (pass
 
     pub many_free : (many : Box (BTreeSet ℕ) Global) → found ≡ ids.Many many → (k : ℕ) → IsFreeMatch m shape passed k → contains nat_cmp many.value k ≡ true
     many_free many is k free = sym (ap (λ s. has_id s k) is) ∙ has_free k free
+
+-- What is found for a template has each id that it may be answered with.
+pub among_found : (shape : Template) (rows : Rows Tuple) (m : FinMap nat_cmp Tuple) (passed : ℕ → Bool) → ((k : ℕ) → rows k ≡ get m k) → (found : Option Ids) → IsShelved IsOf found (candidates shape rows) → (k : ℕ) → IsFreeMatch m shape passed k → has_any found k ≡ true
+among_found shape rows m passed kept None bare k free = absurd (none_found shape rows m passed kept bare k free)
+among_found shape rows m passed kept (Some set) known k free = has_free shape rows m passed kept set known.0 k free

@@ -13,3 +13,4 @@ pub mod AheadLaws
 pub mod FreeMatchLaws
 pub mod LeftLaws
 pub mod StartLaws
+pub mod ColumnLaws

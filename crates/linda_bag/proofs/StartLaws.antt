@@ -16,9 +16,9 @@ use Rattle.linda_tuple.specs.Template.{Template}
 use Rattle.linda_tuple.specs.Sameness.{same_atom, same_pattern, same_template, same_atom-decides, same_pattern-decides}
 use Rattle.linda_tuple.proofs.MatchingLaws.{matched}
 use Rattle.linda_bag.specs.FreeMatch.{IsFreeMatch}
-use Rattle.linda_bag.specs.declared.starts.Start.{Start}
-use Rattle.linda_bag.specs.declared.starts.Starts.{Starts}
-use Rattle.linda_bag.specs.Starts.{Bagged, Covers, IsRight, AreRight, Begins}
+use Rattle.linda_bag.specs.declared.tag_starts.Start.{Start}
+use Rattle.linda_bag.specs.declared.tag_starts.TagStarts.{TagStarts}
+use Rattle.linda_bag.specs.Starts.{Bagged, Covers, IsRight, AreBegun, Begins}
 use Rattle.linda_bag.proofs.FilingLaws.{tied}
 use Rattle.linda_bag.proofs.OrderLaws.{atom_itself}
 
@@ -40,7 +40,7 @@ exact_truths false true tie = absurd (true≢false (sym tie))
 exact_truths false false tie = refl
 
 -- Atoms that the order ties are one.
-exact_atoms : (a b : Atom) → is_eq (atom_ord.ghosts.cmp a b) ≡ true → a ≡ b
+pub exact_atoms : (a b : Atom) → is_eq (atom_ord.ghosts.cmp a b) ≡ true → a ≡ b
 exact_atoms (atoms.Int m) (atoms.Int n) tie = ap atoms.Int (exact_signed m n (tied _ tie))
 exact_atoms (atoms.Int m) (atoms.Text t) tie = absurd (true≢false (sym tie))
 exact_atoms (atoms.Int m) (atoms.Bool b) tie = absurd (true≢false (sym tie))
@@ -78,7 +78,7 @@ abbrev IsKept : Bagged → (ℕ → Bool) → ℕ → Atom → Start → Type 0
 IsKept bag passed next q start = (start.template.tag ≡ q) × IsRight bag passed next start
 
 -- A start was lent and written again.
-module _ (old new : Starts) (k : Atom) (start after : Start) (there : Some start ≡ start_at old.by_tag k) (updates : (q : Atom) → start_at new.by_tag q ≡ cond (is_eq (atom_ord.ghosts.cmp k q)) (Some after) (start_at old.by_tag q)) (same : after.template ≡ start.template) where
+module _ (old new : TagStarts) (k : Atom) (start after : Start) (there : Some start ≡ start_at old.by_tag k) (updates : (q : Atom) → start_at new.by_tag q ≡ cond (is_eq (atom_ord.ghosts.cmp k q)) (Some after) (start_at old.by_tag q)) (same : after.template ≡ start.template) where
   -- its search begins further on, where no free match is before
   pub moved_on : (template : Template) (from : ℕ) → start.template ≡ template → ((next : ℕ) → from ≤ next → start.from ≤ next → after.from ≤ next) → ((j : ℕ) → from ≤ j → Covers start j → Covers after j) → Begins template from old new
   moved_on template from is below covers bag passed next low none rights =
@@ -95,7 +95,7 @@ module _ (old new : Starts) (k : Atom) (start after : Start) (there : Some start
       ))
       (λ q s off at. rights q s at)
 
-  pub now_held : (id : ℕ) → after.from ≡ start.from → ((j : ℕ) → (j ≡ id → ⊥) → Covers start j → Covers after j) → (bag : Bagged) (passed : ℕ → Bool) (next : ℕ) → passed id ≡ true → AreRight bag passed next old → AreRight bag passed next new
+  pub now_held : (id : ℕ) → after.from ≡ start.from → ((j : ℕ) → (j ≡ id → ⊥) → Covers start j → Covers after j) → (bag : Bagged) (passed : ℕ → Bool) (next : ℕ) → passed id ≡ true → AreBegun bag passed next old → AreBegun bag passed next new
   now_held id from covers bag passed next held rights =
       let was = rights k start (sym there) in
       all_set (IsKept bag passed next) old.by_tag new.by_tag k after updates
@@ -129,8 +129,8 @@ module _ (bag : Bagged) (before after : ℕ → Bool) (next id : ℕ) (row : Tup
     },
   )
 
-  pub now_free : (old new : Starts) (k : Atom) (start now : Start) → k ≡ row.tag → Some start ≡ start_at old.by_tag k → ((q : Atom) → start_at new.by_tag q ≡ cond (is_eq (atom_ord.ghosts.cmp k q)) (Some now) (start_at old.by_tag q)) → now.template ≡ start.template → now.from ≤ start.from → ((j : ℕ) → Covers start j → Covers now j) → Covers now id
-      → AreRight bag before next old → AreRight bag after next new
+  pub now_free : (old new : TagStarts) (k : Atom) (start now : Start) → k ≡ row.tag → Some start ≡ start_at old.by_tag k → ((q : Atom) → start_at new.by_tag q ≡ cond (is_eq (atom_ord.ghosts.cmp k q)) (Some now) (start_at old.by_tag q)) → now.template ≡ start.template → now.from ≤ start.from → ((j : ℕ) → Covers start j → Covers now j) → Covers now id
+      → AreBegun bag before next old → AreBegun bag after next new
   now_free old new k start now own there updates same below covers here rights =
       let was = rights k start (sym there) in
       let low = was.1.below in
@@ -148,7 +148,7 @@ module _ (bag : Bagged) (before after : ℕ → Bool) (next id : ℕ) (row : Tup
       ))
       (λ q s off at. other_tag q s (subst (λ x. is_eq (atom_ord.ghosts.cmp x q) ≡ false) own off) (rights q s at))
 
-  pub free_of_none : (old : Starts) (k : Atom) → k ≡ row.tag → None ≡ start_at old.by_tag k → AreRight bag before next old → AreRight bag after next old
+  pub free_of_none : (old : TagStarts) (k : Atom) → k ≡ row.tag → None ≡ start_at old.by_tag k → AreBegun bag before next old → AreBegun bag after next old
   free_of_none old k own none rights q s there =
       elim (is_eq (atom_ord.ghosts.cmp k q)) as (λ b. is_eq (atom_ord.ghosts.cmp k q) ≡ b → IsKept bag after next q s) [
         | true ↦ λ tie. absurd (true≢false (sym (ap is_some (none ∙ ap (start_at old.by_tag) (exact_atoms k q tie) ∙ there))))
@@ -156,7 +156,7 @@ module _ (bag : Bagged) (before after : ℕ → Bool) (next id : ℕ) (row : Tup
       ] refl
 
 -- A start was lent, and written again as it was.
-pub untouched : (old new : Starts) (k : Atom) (start : Start) → Some start ≡ start_at old.by_tag k → ((q : Atom) → start_at new.by_tag q ≡ cond (is_eq (atom_ord.ghosts.cmp k q)) (Some start) (start_at old.by_tag q)) → (template : Template) (from : ℕ) → Begins template from old new
+pub untouched : (old new : TagStarts) (k : Atom) (start : Start) → Some start ≡ start_at old.by_tag k → ((q : Atom) → start_at new.by_tag q ≡ cond (is_eq (atom_ord.ghosts.cmp k q)) (Some start) (start_at old.by_tag q)) → (template : Template) (from : ℕ) → Begins template from old new
 untouched old new k start there updates template from bag passed next low none rights =
     let was = rights k start (sym there) in
     all_set (IsKept bag passed next) old.by_tag new.by_tag k start updates (λ q one. (was.0 ∙ one, was.1)) (λ q s off at. rights q s at)
@@ -171,7 +171,7 @@ low_enough (Some i) low first Free is least none from k free =
 low_enough None low first Free is least none from k free = absurd (none k (from k free) free)
 
 -- A template got a start.
-pub begun : (old new : Starts) (k : Atom) (start : Start) (template : Template) (from : ℕ) → ((q : Atom) → start_at new.by_tag q ≡ cond (is_eq (atom_ord.ghosts.cmp k q)) (Some start) (start_at old.by_tag q)) → k ≡ template.tag → start.template ≡ template → start.from ≡ from → Begins template from old new
+pub begun : (old new : TagStarts) (k : Atom) (start : Start) (template : Template) (from : ℕ) → ((q : Atom) → start_at new.by_tag q ≡ cond (is_eq (atom_ord.ghosts.cmp k q)) (Some start) (start_at old.by_tag q)) → k ≡ template.tag → start.template ≡ template → start.from ≡ from → Begins template from old new
 begun old new k start template from updates tag same is bag passed next low none rights =
     all_set (IsKept bag passed next) old.by_tag new.by_tag k start updates
     (λ q one. (
@@ -184,12 +184,12 @@ begun old new k start template from updates tag same is bag passed next low none
     (λ q s off at. rights q s at)
 
 -- No start is right beside everything.
-pub none_right : (m : Starts) → ((q : Atom) → start_at m.by_tag q ≡ None) → (bag : Bagged) (passed : ℕ → Bool) (next : ℕ) → AreRight bag passed next m
+pub none_right : (m : TagStarts) → ((q : Atom) → start_at m.by_tag q ≡ None) → (bag : Bagged) (passed : ℕ → Bool) (next : ℕ) → AreBegun bag passed next m
 none_right m none bag passed next q s there = absurd (true≢false (ap is_some (sym there ∙ none q)))
 
 -- Right starts stay right where tuples come from the next id on alone, and none below is free that was not.
-pub stay_right : (bag new : Bagged) (passed after : ℕ → Bool) (next later : ℕ) (starts : Starts) → next ≤ later → ((k : ℕ) (row : Tuple) → map.get new k ≡ Some row → after k ≡ false → (next ≤ k) ⊎ ((map.get bag k ≡ Some row) × (passed k ≡ false))) → AreRight bag passed next starts → AreRight new after later starts
-stay_right bag new passed after next later starts grows known rights q s there =
+pub stay_begun : (bag new : Bagged) (passed after : ℕ → Bool) (next later : ℕ) (starts : TagStarts) → next ≤ later → ((k : ℕ) (row : Tuple) → map.get new k ≡ Some row → after k ≡ false → (next ≤ k) ⊎ ((map.get bag k ≡ Some row) × (passed k ≡ false))) → AreBegun bag passed next starts → AreBegun new after later starts
+stay_begun bag new passed after next later starts grows known rights q s there =
     let was = rights q s there in
     let low = was.1.below in (
       was.0,

@@ -1,4 +1,4 @@
--- How many bytes the tuples of a bag spell.
+-- Bytes that the tuples of a bag spell.
 use Rattle.std.specs.Prelude.{ℕ, length, Option, None, Some}
 use Rattle.std.specs.Ordering.{nat_cmp}
 use Rattle.std.specs.Map.{values_of}

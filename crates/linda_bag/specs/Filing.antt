@@ -1,5 +1,5 @@
--- What an index of ids represents: the ids of some rows, each filed under what its row has. A row
--- may be of any type, as a tuple or a request.
+-- Index of ids: the ids of some rows, each filed under what its row has. A row may be of any type,
+-- as a tuple or a request.
 use Rattle.std.specs.Prelude.{◌≡◌, ℕ, false, cond, Option, None, Some}
 use Rattle.std.specs.declared.cmp.Ordering.{Ordering}
 use Rattle.std.specs.Ordering.{is_eq, nat_cmp}

@@ -6,4 +6,5 @@ pub mod Ids
 pub mod Tuples
 pub mod Candidates
 pub mod Firsts
+pub mod Columns
 pub mod Starts

@@ -1,4 +1,4 @@
--- Tuples that stand behind boxes.
+-- Tuples in boxes.
 use Rattle.std.specs.Prelude.{ℕ, List, [], ◌∷◌, Box}
 use Rattle.std.specs.declared.alloc.Global.{Global}
 use Rattle.linda_tuple.specs.Tuple.{Tuple}

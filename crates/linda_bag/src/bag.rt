@@ -1,4 +1,4 @@
-//! What a bag promises, however it keeps its tuples.
+//! Bags of tuples: what each promises, however it keeps them.
 
 ghost use Rattle.std.specs.Prelude.{◌≡◌, ◌≤◌, ◌<◌, ◌+◌, ℕ, None, Some, IfNone, IfSome, IsSome};
 ghost use Rattle.std.specs.Prelude.{OnOk, OnErr};

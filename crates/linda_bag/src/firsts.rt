@@ -1,5 +1,5 @@
 //! The values that rows of one tag and one number of fields begin with, and the ids under each.
-//! Most are integers: those stand in a map of their own, whose entries are small, so that a look-up
+//! Most are integers: those are in a map of their own, whose entries are small, so that a look-up
 //! reads little memory.
 
 ghost use Rattle.std.specs.Prelude.{◌≡◌, ◌↔◌, Some, None, OnOk, OnErr, IsTrue};

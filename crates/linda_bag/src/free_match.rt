@@ -1,4 +1,4 @@
-//! What every bag looks up in the tree that has its tuples by their ids.
+//! Free matches, looked up in the tree that has a bag's tuples by their ids.
 
 ghost use Rattle.std.specs.Prelude.{◌≡◌, ◌≤◌, ◌<◌, ◌↔◌, ℕ, false, None, Some};
 ghost use Rattle.std.specs.Prelude.{IfNone, IfSome, IsSome, IsTrue};

@@ -1,4 +1,4 @@
-//! Rows by their heads: by the tag and, under it, by the number of fields. Under each head stands a
+//! Rows by their heads: by the tag and, under it, by the number of fields. Under each head is a
 //! shelf of any kind, with the rows that have it.
 
 ghost use Rattle.std.specs.Prelude.{◌≡◌, ◌<◌, ℕ, Option, None, Some, IfSome, IfNone};

@@ -1,5 +1,5 @@
-//! Ids of rows, often of a single one, which then takes no memory of its own: one tuple stands
-//! under a key of a queue of jobs or of a request.
+//! Ids of rows, often of a single one, which then takes no memory of its own: one tuple is under a
+//! key of a queue of jobs or of a request.
 
 ghost use Rattle.std.specs.Prelude.{◌≡◌, ℕ, true, IfOk};
 ghost use Rattle.std.specs.Ordering.{nat_cmp};

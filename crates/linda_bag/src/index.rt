@@ -1,5 +1,5 @@
 //! The index of a bag: which ids a template may be answered with, by its tag, by the number of its
-//! patterns, and by the value that stands first among them.
+//! patterns, and by the value that is first among them.
 
 ghost use Rattle.std.specs.Prelude.{◌≡◌, Some};
 ghost use Rattle.std.specs.Option.{option_copied};

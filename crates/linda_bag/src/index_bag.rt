@@ -1,16 +1,12 @@
 //! The bag of a server that has many tuples: a look-up looks at those alone that have the
 //! template's head, its tag, its number of fields and the value that it begins with.
 
-ghost use Rattle.std.specs.Prelude.{◌≡◌, ◌≤◌, ◌<◌, ◌↔◌, ℕ, None, true, IsTrue, IfSome, IfNone};
-ghost use Rattle.std.specs.Ordering.{nat_cmp};
-ghost use Rattle.std.specs.BTreeSet.{contains};
+ghost use Rattle.std.specs.Prelude.{◌≡◌};
 ghost use Rattle.std.specs.FinMap as map;
-ghost use Rattle.linda_bag.specs.FreeMatch.{IsFreeMatch};
 
+use crate::among::least_among;
 use crate::bag::{Bag, Found};
-use crate::free_match::is_free_match;
 use crate::id_set::IdSet;
-use crate::ids::Ids;
 use crate::index::{Index, candidates};
 use crate::shelf::Shelf;
 use crate::tuples::Tuples;
@@ -112,23 +108,8 @@ impl Bag for IndexBag {
     }
 
     fn least_match_from<P: IdSet>(&self, template: &Template, passed: &P, from: u64) -> Found {
-        match candidates(&self.index, template) {
-            None => nothing_found(),
-            Some(Ids::Nothing) => nothing_found(),
-            Some(Ids::One(id)) => {
-                if *id < from {
-                    return nothing_found();
-                }
-                if is_free(&self.tuples, template, passed, *id) {
-                    return Found {
-                        id: Some(*id),
-                        passed: 0,
-                    };
-                }
-                nothing_found()
-            }
-            Some(Ids::Many(ids)) => least_free(&self.tuples, template, passed, ids, from),
-        }
+        let ids = candidates(&self.index, template);
+        least_among(&self.tuples, template, passed, ids, from)
     }
 
     fn len(&self) -> usize {
@@ -145,59 +126,5 @@ impl Bag for IndexBag {
 
     fn entry_from(&self, id: u64) -> Option<(u64, &Tuple)> {
         self.tuples.entry_from(id)
-    }
-}
-
-// No tuple was looked at.
-fn nothing_found() -> Found
-    ensures { result.id ≡ None }
-{
-    Found {
-        id: None,
-        passed: 0,
-    }
-}
-
-// The least of the ids from `from` on whose tuple may answer the template.
-fn least_free<P: IdSet>(
-    tuples: &Tuples,
-    template: &Template,
-    passed: &P,
-    ids: &BTreeSet<u64>,
-    from: u64,
-) -> Found
-    ensures found { IfSome result.id
-        (IsFreeMatch tuples.now template.now (P.has passed.now)) }
-    ensures above { IfSome result.id (λ id. from ≤ id) }
-    ensures least { IfSome result.id
-        (λ id. (k : ℕ) → from ≤ k → k < id → contains nat_cmp ids.now k ≡ true
-        → IsFreeMatch tuples.now template.now (P.has passed.now) k → ⊥) }
-    ensures none { IfNone result.id ((k : ℕ) → from ≤ k → contains nat_cmp ids.now k ≡ true
-        → IsFreeMatch tuples.now template.now (P.has passed.now) k → ⊥) }
-{
-    let mut looks: usize = 0;
-    for id in ids.range(from..) {
-        if is_free(tuples, template, passed, *id) {
-            return Found {
-                id: Some(*id),
-                passed: looks,
-            };
-        }
-        looks = looks.saturating_add(1);
-    }
-    Found {
-        id: None,
-        passed: looks,
-    }
-}
-
-// Whether there is a tuple under the id that may answer the template.
-fn is_free<P: IdSet>(tuples: &Tuples, template: &Template, passed: &P, id: u64) -> bool
-    ensures { IsTrue result
-        ↔ IsFreeMatch tuples.now template.now (P.has passed.now) id }
-{
-    match tuples.get(id) {
-        Some(tuple) => is_free_match(template, passed, id, tuple),
-        None => false,
     }
 }

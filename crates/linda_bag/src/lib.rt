@@ -1,10 +1,9 @@
 //! The bag of a server: the tuples that are in the space, each under an id of its own.
 //!
-//! Whoever keeps tuples says what `Bag` says, and contracts see the bag as a finite map from ids to
+//! A keeper of tuples says what `Bag` says, and contracts see the bag as a finite map from ids to
 //! `Tuple`s. So a store is written and proved once, for every bag. `ListBag` is the plain one, and
 //! `IndexBag` the one whose look-ups stay fast: it looks at the tuples of the template's own tag
-//! and number of fields alone and, where the template begins with a value, at those that begin with
-//! it.
+//! and number of fields only and, if the template begins with a value, at those that begin with it.
 //!
 //! `specs/FreeMatch` says which tuples a template may be answered with; the answer is always the
 //! least id among them. `specs/Filing` and `specs/Candidates` say what an index has and what is
@@ -14,7 +13,10 @@
 //! A call that may take memory has a fault for that; no other call takes any.
 #![tactic(auto)]
 
+mod among;
 mod bag;
+mod column;
+mod columns;
 mod firsts;
 mod free_match;
 mod heads;
@@ -25,6 +27,7 @@ mod index_bag;
 mod list_bag;
 mod shelf;
 mod starts;
+mod tag_starts;
 mod tuples;
 
 pub use bag::{Bag, Found};

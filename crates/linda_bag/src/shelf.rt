@@ -1,5 +1,5 @@
 //! Ids that are filed under what their rows have: what each part of an index promises, and how a
-//! part is made of shelves that stand under keys. A row may be of any type: in a bag it is a tuple.
+//! part is made of shelves that are under keys. A row may be of any type: in a bag it is a tuple.
 
 ghost use Rattle.std.specs.Prelude.{◌≡◌, ℕ, ◌↔◌, Option, None, Some, OnOk, OnErr, IfOk, IsTrue};
 ghost use Rattle.std.specs.Prelude.{IfSome};

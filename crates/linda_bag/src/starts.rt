@@ -1,53 +1,45 @@
-//! Where searches for free tuples begin, so that those that are held are not looked at anew by each
-//! of them.
+//! Starts and columns, by which a search leaves out tuples: those that are held, so that they are
+//! not looked at anew, and those that have another value where the template asks for one.
 //!
-//! A template for which a search looked at many tuples in vain gets a start: an id, below which its
-//! free matches are those alone that came free again since. A start says what a search may leave
-//! out, and nothing else: it may go at any time.
+//! They may go at any time, and what is found is the same.
 
 ghost use Rattle.std.specs.Prelude.{◌≡◌, ◌≤◌, ◌<◌, ℕ, Bool, true, false, Some, IfSome, IfNone};
 ghost use Rattle.std.specs.FinMap as map;
-ghost use Rattle.linda_bag.specs.FreeMatch.{IsFreeMatch};
-ghost use Rattle.linda_bag.specs.Starts.{Bagged, Covers, AreRight, Begins};
+ghost use Rattle.linda_bag.specs.Columns.{AreColumns};
+ghost use Rattle.linda_bag.specs.FreeMatch.{Bagged, IsFreeMatch};
+ghost use Rattle.linda_bag.specs.Starts.{AreRight};
 
 use crate::bag::Bag;
+use crate::columns::Columns;
 use crate::id_set::IdSet;
-use linda_tuple::{Atom, Template, Tuple};
-use std::alloc::{AllocError, Global};
-use std::collections::{BTreeMap, BTreeSet};
+use crate::tag_starts::TagStarts;
+use linda_tuple::{Template, Tuple};
+use std::alloc::Global;
 
-// How many tuples a search looks at in vain before its template gets a start.
-const MANY: usize = 8;
-
-// How many tags have a start at most.
-const MAX_STARTS: usize = 1_024;
-
-/// Where the search for the tuples of a template begins.
-#[derive(Drop)]
-pub(crate) struct Start {
-    pub(crate) template: Template,
-    pub(crate) from: u64,
-    pub(crate) freed: BTreeSet<u64>,
-}
-
-/// The starts of templates, at most one for each tag.
+/// Where the searches for templates begin, and columns for those that begin with a formal and have
+/// a value later.
 pub struct Starts {
-    by_tag: BTreeMap<Atom, Start>,
+    tags: TagStarts,
+    columns: Columns,
 }
 
 impl Drop for Starts {
     fn drop(self) {
-        let Starts { by_tag: _ } = self;
+        let Starts {
+            tags: _,
+            columns: _,
+        } = self;
     }
 }
 
 impl Starts {
-    /// No starts.
+    /// Nothing is left out.
     pub fn new(alloc: Global) -> Starts
         ensures { (bag : Bagged) (passed : ℕ → Bool) (next : ℕ) → AreRight bag passed next result }
     {
         Starts {
-            by_tag: BTreeMap::new(alloc),
+            tags: TagStarts::new(alloc),
+            columns: Columns::new(alloc),
         }
     }
 
@@ -71,13 +63,41 @@ impl Starts {
             → IsFreeMatch (B.contents bag.now) template.now (P.has held.now) k → ⊥) }
         ensures right { AreRight (B.contents bag.now) (P.has held.now) next self.new }
     {
-        let first = self.first_for(template);
-        let found = bag.least_match_from(template, held, first);
+        let first = self.tags.first_for(template);
+        let found = self
+            .columns
+            .least_match_from(alloc, bag, template, held, first, next);
         if found.passed > 0 {
             let from = below(found.id, next);
-            self.note(alloc, template, from, found.passed);
+            self.tags.note(alloc, template, from, found.passed);
         }
         found.id
+    }
+
+    /// The least id of the bag outside `passed` whose tuple the template matches, as `least_match`
+    /// of the bag finds it; held tuples are not left out. Each id of the bag is below `next`. It
+    /// needs no memory.
+    pub fn read_match<B: Bag, P: IdSet>(
+        &mut self,
+        alloc: Global,
+        bag: &B,
+        template: &Template,
+        passed: &P,
+        next: u64,
+    ) -> Option<u64>
+        requires { AreColumns (B.contents bag.now) next self.old.columns }
+        ensures found { IfSome result
+            (IsFreeMatch (B.contents bag.now) template.now (P.has passed.now)) }
+        ensures least { IfSome result (λ id. (k : ℕ) → k < id
+            → IsFreeMatch (B.contents bag.now) template.now (P.has passed.now) k → ⊥) }
+        ensures none { IfNone result ((k : ℕ)
+            → IsFreeMatch (B.contents bag.now) template.now (P.has passed.now) k → ⊥) }
+        ensures right { (held : ℕ → Bool) → AreRight (B.contents bag.now) held next self.old
+            → AreRight (B.contents bag.now) held next self.new }
+    {
+        self.columns
+            .least_match_from(alloc, bag, template, passed, 0, next)
+            .id
     }
 
     /// The tuple under the id is held no more.
@@ -87,9 +107,7 @@ impl Starts {
             → ((k : ℕ) → (k ≡ id → ⊥) → after k ≡ false → before k ≡ false)
             → AreRight bag before next self.old → AreRight bag after next self.new }
     {
-        if let Some(start) = self.by_tag.get_mut(tuple.tag()) {
-            start.free(id);
-        }
+        self.tags.free(id, tuple);
     }
 
     /// The tuple under the id, which was found for the template, is held.
@@ -97,136 +115,7 @@ impl Starts {
         ensures { (bag : Bagged) (passed : ℕ → Bool) (next : ℕ) → passed id ≡ true
             → AreRight bag passed next self.old → AreRight bag passed next self.new }
     {
-        if let Some(start) = self.by_tag.get_mut(template.tag()) {
-            start.hold(id);
-        }
-    }
-
-    // No free match of the template is below this.
-    fn first_for(&self, template: &Template) -> u64
-        ensures { (bag : Bagged) (passed : ℕ → Bool) (next : ℕ) → AreRight bag passed next self.now
-            → (k : ℕ) → IsFreeMatch bag template.now passed k → result ≤ k }
-    {
-        match self.by_tag.get(template.tag()) {
-            Some(start) => {
-                if start.template == *template {
-                    start.first()
-                } else {
-                    0
-                }
-            }
-            None => 0,
-        }
-    }
-
-    // A search that found no free match below `from` looked at so many tuples in vain.
-    fn note(&mut self, alloc: Global, template: &Template, from: u64, passed: usize)
-        ensures { Begins template.now from self.old self.new }
-    {
-        if self.advance(template, from) {
-            return;
-        }
-        if passed >= MANY {
-            self.begin(alloc, template, from);
-        }
-    }
-
-    // The template's start, if it has one, moves on; whether it has one.
-    fn advance(&mut self, template: &Template, from: u64) -> bool
-        ensures { Begins template.now from self.old self.new }
-    {
-        match self.by_tag.get_mut(template.tag()) {
-            Some(start) => {
-                if start.template == *template {
-                    start.advance(from);
-                    true
-                } else {
-                    false
-                }
-            }
-            None => false,
-        }
-    }
-
-    // The template gets a start, in place of another one of its tag, where there is memory for it.
-    // Where there are too many starts all of them go.
-    fn begin(&mut self, alloc: Global, template: &Template, from: u64)
-        ensures { Begins template.now from self.old self.new }
-    {
-        if self.by_tag.len() < MAX_STARTS {
-            let _ = self.try_begin(alloc, template, from);
-        } else {
-            self.by_tag = BTreeMap::new(alloc);
-        }
-    }
-
-    fn try_begin(&mut self, alloc: Global, template: &Template, from: u64) -> Result<(), AllocError>
-        ensures { Begins template.now from self.old self.new }
-    {
-        let tag = template.tag().try_clone(alloc)?;
-        let start = Start {
-            template: template.try_clone(alloc)?,
-            from,
-            freed: BTreeSet::new(alloc),
-        };
-        self.by_tag.insert(tag, start)?;
-        Ok(())
-    }
-}
-
-impl Start {
-    // No match that is reached is below this.
-    fn first(&self) -> u64
-        ensures { (k : ℕ) → Covers self.now k → result ≤ k }
-    {
-        match self.freed.first() {
-            Some(first) => {
-                if *first < self.from {
-                    *first
-                } else {
-                    self.from
-                }
-            }
-            None => self.from,
-        }
-    }
-
-    // No free match is below `from`.
-    fn advance(&mut self, from: u64)
-        ensures template { self.new.template ≡ self.old.template }
-        ensures below { (next : ℕ) → from ≤ next → self.old.from ≤ next → self.new.from ≤ next }
-        ensures covers { (k : ℕ) → from ≤ k → Covers self.old k → Covers self.new k }
-    {
-        if from >= self.from {
-            self.from = from;
-            self.freed.clear();
-        }
-    }
-
-    // The id is free again.
-    fn free(&mut self, id: u64)
-        ensures template { self.new.template ≡ self.old.template }
-        ensures below { self.new.from ≤ self.old.from }
-        ensures covers { (k : ℕ) → Covers self.old k → Covers self.new k }
-        ensures here { Covers self.new id }
-    {
-        if id < self.from {
-            match self.freed.insert(id) {
-                Ok(_) => {}
-                Err(_) => {
-                    self.from = id;
-                }
-            }
-        }
-    }
-
-    // The id is free no more.
-    fn hold(&mut self, id: u64)
-        ensures template { self.new.template ≡ self.old.template }
-        ensures from { self.new.from ≡ self.old.from }
-        ensures covers { (k : ℕ) → (k ≡ id → ⊥) → Covers self.old k → Covers self.new k }
-    {
-        self.freed.remove(&id);
+        self.tags.hold(id, template);
     }
 }
 

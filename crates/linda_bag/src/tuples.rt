@@ -1,5 +1,4 @@
-//! Tuples by their ids, each behind a box: so the map's nodes are small, and a removal moves
-//! little.
+//! Tuples by their ids, each in a box: so the map's nodes are small, and a removal moves little.
 
 ghost use Rattle.std.specs.Prelude.{◌≡◌, ◌≤◌, ◌<◌, ℕ, None, Some, IfNone, IfSome, IsSome, OnOk};
 ghost use Rattle.std.specs.Prelude.{OnErr, IfOk};

@@ -1,5 +1,5 @@
--- How the number of a client's message stands to the last number that is kept for the client, 0 if
--- there is none, and whether the client left by that.
+-- Classes of a message's number: beside the last number that is kept for its client, 0 if there is
+-- none, and whether the client left by that.
 use Rattle.std.specs.Prelude.{◌≡◌, ℕ, ◌+◌, ◌<◌, ◌==◌, ◌⊎◌, Bool, true, false, nat_lt, ◌||◌}
 use Rattle.std.specs.Prelude.{if◌then◌else◌}
 use Rattle.linda_book.specs.declared.class.Class.{Class}

@@ -1,4 +1,4 @@
--- How a book is stored where a model's value holds one.
+-- Codes of a book, for a model's value that holds one.
 use Rattle.std.specs.Prelude.{◌≡◌, ℕ, ◌⊎◌, Bool, true, false, refl}
 use Rattle.std.specs.Coded.{Coded, code_by, coded×, coded⊎, coded_ℕ, coded_bool}
 use Rattle.std.specs.FinMap as map

@@ -1,4 +1,4 @@
--- What a book keeps for a client.
+-- Entries of a book, one for each client.
 use Rattle.std.specs.Prelude.{ℕ, Bool, true, false, Option, Some, None}
 use Rattle.linda_book.specs.declared.kept_reply.KeptReply.{KeptReply}
 use Rattle.linda_book.specs.declared.kept_reply.KeptReply.TheVariants.{Stored, Taken, Gone, Left}
@@ -21,7 +21,7 @@ is_left Left = true
 abbrev pub Entry : Type 0
 Entry = ℕ × KeptReply
 
--- the number in an entry, 0 where there is none
+-- the number in an entry, 0 if there is none
 abbrev pub number_in : Option Entry → ℕ
 number_in None = 0
 number_in (Some entry) = entry.0

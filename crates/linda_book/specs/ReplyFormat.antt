@@ -12,7 +12,7 @@ use Rattle.linda_book.specs.declared.kept_reply.KeptReply.{KeptReply}
 use Rattle.linda_book.specs.declared.kept_reply.KeptReply.TheVariants.{Stored, Taken, Gone, Left}
 use Rattle.linda_book.specs.declared.kinds.TheConstants as kind
 
--- Banks of the form have Leaves: those of the second form alone.
+-- Banks of the form have Leaves: only those of the second form.
 abbrev pub HasLeaves : Form → Type 0
 HasLeaves One = ⊥
 HasLeaves Two = Unit {0}
@@ -28,14 +28,14 @@ spell_reply form (Taken id tuple) = kind.TAKEN ∷ (placed form).spell (id, tupl
 spell_reply form Gone = kind.GONE ∷ []
 spell_reply form Left = kind.LEFT ∷ []
 
--- What has a spelling among kept replies; that to a Leave where the form has Leaves.
+-- What has a spelling among kept replies; that to a Leave if the form has Leaves.
 abbrev pub FitsReply : Form → KeptReply → Type 0
 FitsReply form (Stored id) = number.Fits id
 FitsReply form (Taken id tuple) = (placed form).Fits (id, tuple)
 FitsReply form Gone = Unit {0}
 FitsReply form Left = HasLeaves form
 
--- The kind of replies to Leaves with its body, where the form has Leaves.
+-- The kind of replies to Leaves with its body, if the form has Leaves.
 abbrev pub left_kinds : Form → List (ℕ × Reader KeptReply)
 left_kinds One = []
 left_kinds Two = (kind.LEFT, made_at (λ _. Left) nothing) ∷ []

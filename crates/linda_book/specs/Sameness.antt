@@ -1,4 +1,4 @@
--- Whether two kept replies are equal, as a test: what `==` computes.
+-- Equality of two kept replies as a test: what `==` computes.
 use Rattle.std.specs.Prelude.{◌≡◌, ℕ, ◌==◌, Bool, true, false, ◌&&◌, refl}
 use Rattle.std.specs.Bool.{Decides}
 use Rattle.std.specs.Cmp.{IsEquivalence, decided}

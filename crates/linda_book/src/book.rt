@@ -71,7 +71,7 @@ impl Book {
         }
     }
 
-    /// How the number of a message stands to the last one that is kept for the client.
+    /// How the number of a message compares to the last one that is kept for the client.
     #[tactic(auto, using(crate::proofs::MeaningLaws::class_means))]
     pub fn classify(&self, client: u32, n: u64) -> Class
         ensures class { result ≡ class_of (number_in (map.get self.now client))
@@ -97,8 +97,8 @@ impl Book {
     ///
     /// # Errors
     ///
-    /// `AllocError` where memory runs out, and then the book is as before. It comes only for a
-    /// client for which nothing is kept: to replace an entry takes no memory.
+    /// `AllocError` if memory runs out, and then the book is as before. It comes only for a client
+    /// for which nothing is kept: to replace an entry takes no memory.
     pub fn keep(&mut self, client: u32, n: u64, reply: KeptReply) -> Result<(), AllocError>
         ensures ok { OnOk result (self.new ≡ map.insert self.old client (n, reply)) }
         ensures err { OnErr result (self.new ≡ self.old) }
@@ -115,7 +115,7 @@ impl Book {
         self.entries.len()
     }
 
-    /// The least client of the book that is not below `client`; nothing only where there is none.
+    /// The least client of the book that is not below `client`; nothing only if there is none.
     pub fn next_from(&self, client: u32) -> Option<u32>
         ensures found { IfSome result (λ next. IsSome (map.get self.now next)) }
         ensures above { IfSome result (λ next. client ≤ next) }
@@ -127,7 +127,7 @@ impl Book {
         Some(next)
     }
 
-    /// The least client of the book that is above `client`; nothing only where there is none.
+    /// The least client of the book that is above `client`; nothing only if there is none.
     pub fn next_after(&self, client: u32) -> Option<u32>
         ensures found { IfSome result (λ next. IsSome (map.get self.now next)) }
         ensures above { IfSome result (λ next. client < next) }

@@ -1,5 +1,5 @@
-//! How the number of a client's message stands to the last number that is kept for the client, and
-//! to its Leave.
+//! Classes of a message's number: beside the last number that is kept for its client, and its
+//! Leave.
 
 ghost use Rattle.std.specs.Prelude.{◌≡◌};
 ghost use Rattle.linda_book.specs.Classes as spec;
@@ -19,7 +19,7 @@ pub enum Class {
     Gap(u64),
 }
 
-/// The class of the number after the last one that is kept, 0 if there is none, and where the
+/// The class of the number after the last one that is kept, 0 if there is none, and whether the
 /// client left by that one (`left`). Any two numbers have a class.
 pub fn class_of(last: u64, left: bool, n: u64) -> Class
     ensures { result ≡ spec.class_of last left n }

@@ -38,8 +38,8 @@ impl KeptReply {
     ///
     /// # Errors
     ///
-    /// `AllocError` where memory runs out. It comes only for a reply with a tuple: the others take
-    /// no memory.
+    /// `AllocError` if memory runs out. It comes only for a reply with a tuple: the others take no
+    /// memory.
     pub fn try_clone(&self, alloc: Global) -> Result<KeptReply, AllocError>
         ensures ok { IfOk result (λ copy. copy ≡ self.now) }
         ensures err { OnErr result (HasTuple self.now) }
@@ -61,7 +61,7 @@ impl PartialEq for KeptReply {
 
     ghost laws = { partial_equiv_from_equiv same_kept-equiv };
 
-    // Kept replies compare equal exactly where they are.
+    // Kept replies compare equal exactly if they are.
     fn eq(&self, other: &KeptReply) -> bool
         ensures test { result ≡ same_kept self.now other.now }
         ensures exact { (result ≡ true) ↔ (self.now ≡ other.now) }

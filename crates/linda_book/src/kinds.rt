@@ -1,4 +1,4 @@
-//! The bytes that stand for the kinds of kept replies.
+//! The bytes of the kinds of kept replies.
 
 ghost use Rattle.std.specs.Prelude.{◌↔◌, IsTrue};
 ghost use Rattle.linda_book.specs.ReplyFormat.{HasLeaves};

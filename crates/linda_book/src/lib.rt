@@ -2,7 +2,7 @@
 //!
 //! Clients number their messages 1, 2, 3, .. . Of each client the book keeps the last number that
 //! was answered, with the reply, so that a message that comes again gets its reply again and is not
-//! done twice. `Book::classify` says how a number stands to the last one, in the words of
+//! done twice. `Book::classify` says how a number compares to the last one, in the words of
 //! `specs/Classes`; contracts see the book as a finite map from clients to the entries of
 //! `specs/Entries`. A kept reply is `Spelled` in bytes by `specs/ReplyFormat`.
 //!

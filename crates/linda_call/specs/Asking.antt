@@ -1,4 +1,4 @@
--- How the reply that a server keeps is asked for.
+-- Requests for the reply that a server keeps.
 use Rattle.std.specs.Prelude.{ℕ, ◌==◌, Bool, false, ◌&&◌, Option, Some, None}
 use Rattle.linda_wire.specs.declared.message.Message.{Message}
 use Rattle.linda_wire.specs.declared.message.Message.TheVariants.{Accept}

@@ -1,4 +1,4 @@
--- What a call makes of lines, of the clock and of what comes from its servers.
+-- Party of a call: what it makes of lines, of the clock and of what comes from its servers.
 use Rattle.std.specs.Prelude.{◌≡◌, ℕ, Bool, true, false, if◌then◌else◌, List, [], Option, Some}
 use Rattle.std.specs.Prelude.{None, Ok}
 use Rattle.linda_wire.specs.declared.message.Message.{Message}

@@ -1,4 +1,4 @@
--- What is under way of the tuples that a call puts together.
+-- Ring of the puts that are under way together.
 use Rattle.std.specs.Prelude.{ℕ, ◌+◌, ◌-◌, ◌==◌, Bool, true, false, ◌&&◌, nat_lt, nat_le}
 use Rattle.std.specs.Prelude.{if◌then◌else◌, List, [], ◌∷◌, length, Option, Some, None, slice_get}
 use Rattle.std.specs.Prelude.{option_and_then, option_map}

@@ -4,7 +4,7 @@ use Rattle.linda_call.specs.declared.calling.fault.CallFault.{CallFault}
 use Rattle.linda_call.specs.declared.calling.fault.CallFault.TheVariants as calls
 
 -- 4 for a fault of a line of a client, 3 for one of a server, of the input, the output or the
--- clock, or where memory runs out outside of a line
+-- clock, or if memory runs out outside of a line
 abbrev pub status_of_call : CallFault → ℕ
 status_of_call (calls.Line n fault) = 4
 status_of_call (calls.NoConnection server) = 3

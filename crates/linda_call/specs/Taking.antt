@@ -1,4 +1,4 @@
--- What comes of what a server brings.
+-- Taking of what a server brings.
 use Rattle.std.specs.Prelude.{◌≡◌, ℕ, true, false, List, Result, Ok, Err, IfOk, IfErr}
 use Rattle.std.specs.List.{list_any}
 use Rattle.linda_net_proxy.specs.declared.arrivals.Arrival.{Arrival}

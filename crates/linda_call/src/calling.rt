@@ -52,9 +52,9 @@ const BUFFER: usize = 4096;
 /// `Line` with the number of the first line that was not done, from 1: the outcomes of the lines
 /// before it are written. `NoConnection` and `Refused` of the first server that is given up or that
 /// refuses a request; `NotAServer` of what answers a greeting as no server does; `Restored` of a
-/// server that has lost what it answered; `InUse` of one where another program uses the client's
-/// number. `Read`, `Turns`, `Write` and `Clock` where the input, the output or the clock fails.
-/// `Memory` where memory, or a thread, cannot be had outside of a line.
+/// server that has lost what it answered; `InUse` of one if another program uses the client's
+/// number. `Read`, `Turns`, `Write` and `Clock` if the input, the output or the clock fails.
+/// `Memory` if memory, or a thread, cannot be had outside of a line.
 pub fn call<
     S: Net<Listener = TcpListener, Stream = TcpStream> + Threads + Wait + Clock + Sync,
     R: Read,

@@ -1,4 +1,4 @@
--- What an event asks of the servers, its alarms, and what is ready at once.
+-- Asks of an event to the servers, its alarms, and what is ready at once.
 use Rattle.std.specs.Prelude.{ℕ, nat_le, true, false, if◌then◌else◌, List, Option, Some, None}
 use Rattle.std.specs.Prelude.{filter_map, find, option_map, slice_get}
 use Rattle.std.specs.List.{enumerate_from}

@@ -1,4 +1,4 @@
--- What a call that waits for an event finds before it asks a server.
+-- Beginning of a call that waits for an event: what it finds before it asks a server.
 use Rattle.std.specs.Prelude.{◌≡◌, ◌+◌, ◌≤◌, length, Option, Some, None, Result, Ok, Err}
 use Rattle.linda_wire.specs.declared.limits.TheConstants.{NUMBER_LIMIT}
 use Rattle.linda_event.specs.Limits.{IsWithinLimits}

@@ -77,7 +77,7 @@ with_pending c pending = record c { task = Syncing pending }
 abbrev pub OfPending : Client → (Pending → Type 0) → Type 0
 OfPending c P = IfSome (pending_in c.task) P
 
--- what is asked by a ticket, where it is open
+-- what is asked by a ticket, if it is open
 abbrev pub asked_in : Option Pending → ℕ → Option Ask
 asked_in None ticket = None
 asked_in (Some pending) ticket = ask_at pending ticket

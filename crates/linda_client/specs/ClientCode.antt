@@ -1,4 +1,4 @@
--- How a client is stored where a model's value holds one.
+-- Code of a client, for a model's value that holds one.
 use Rattle.std.specs.Prelude.{◌≡◌, ℕ, ◌⊎◌, List, Option, Some, None, refl}
 use Rattle.std.specs.Coded.{Coded, code_by, coded×, coded⊎, coded_ℕ, coded_option, coded_list}
 use Rattle.std.proofs.Common.{inl, inr}

@@ -1,4 +1,4 @@
--- How a synchronization ends: what it commits to, what that gets, and whom it cancels.
+-- Endings of a synchronization: what it commits to, what that gets, and whom it cancels.
 use Rattle.std.specs.Prelude.{◌≡◌, ℕ, ◌+◌, ◌<◌, ◌≤◌, false, true, ◌↔◌, List, Option, Some, None}
 use Rattle.std.specs.Prelude.{All, Contains, IsSomeAnd, slice_get}
 use Rattle.linda_tuple.specs.Tuple.{Tuple}
@@ -83,8 +83,7 @@ IsCancel (server, messages.Cancel ticket) = Unit {0}
 IsCancel _ = ⊥
 
 -- The end of the pending synchronization: nothing is pending after it, it ends as its event says,
--- and what is sent are Cancels: of each ticket to each server but where it is spared, and no
--- others.
+-- and what is sent are Cancels: of each ticket to each server unless it is spared, and no others.
 pub record IsEnd (c : Client) (pending : Pending) (r : Reaction) : Type 0 where
   pub idle : r.client.task ≡ Idle
   pub ends : EndsAs r.client.clock pending.event r.outcome

@@ -1,4 +1,4 @@
--- How a client leaves, and what it does once it has left.
+-- Leaving of a client, and what it does once it has left.
 use Rattle.std.specs.Prelude.{◌≡◌, true, false, List, ◌∷◌, ◌++◌, ◌↔◌, Some, None, All}
 use Rattle.linda_client.specs.declared.outcome.Outcome.TheVariants as outcomes
 use Rattle.linda_client.specs.Client.{Client, has_left}
@@ -12,7 +12,7 @@ pub record StaysAway (r : Reaction) : Type 0 where
   pub silent : r.outcome ≡ None
   pub only : All IsCancel r.packets
 
--- A client that has left stays away; and the outcome is Left exactly where the client leaves.
+-- A client that has left stays away; and the outcome is Left exactly if the client leaves.
 pub record LeavesForGood (c : Client) (r : Reaction) : Type 0 where
   pub stays : has_left c.task ≡ true → StaysAway r
   pub outcome : (r.outcome ≡ Some outcomes.Left)

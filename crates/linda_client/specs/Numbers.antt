@@ -1,5 +1,5 @@
--- How the numbered messages of a client go on at each server, an Out, an Accept or a Leave each:
--- which are sent, and which the server has not answered yet.
+-- Numbered messages of a client at each server, an Out, an Accept or a Leave each: which are sent,
+-- and which the server has not answered yet.
 use Rattle.std.specs.Prelude.{◌≡◌, ◌≢◌, ℕ, ◌+◌, ◌<◌, ◌≤◌, ◌⊎◌, [], ◌∷◌, Option, Some, None, All}
 use Rattle.std.specs.Prelude.{Contains}
 use Rattle.std.specs.Prelude.{IsSome}
@@ -53,8 +53,8 @@ pub record UsesNoNumber (c : Client) (call : Call) (r : Reaction) (server : ℕ)
 
 -- A number is used at the server, which is there: this numbered message is sent to it, under its
 -- next number, which then is one greater; and all that is sent goes so, each to its server under
--- the next number there, and unless the client leaves this one alone. Whatever was unanswered, at
--- any server, is answered, and what is sent is what is unanswered.
+-- the next number there, and unless the client lets this one be. Whatever was unanswered, at any
+-- server, is answered, and what is sent is what is unanswered.
 pub record UsesNumber (c : Client) (call : Call) (r : Reaction) (server : ℕ) (m : Message)
     : Type 0 where
   pub sent : Contains r.packets (server, m)

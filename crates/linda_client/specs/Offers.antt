@@ -1,5 +1,5 @@
--- What a client has in hand of what it was offered, what it does with an offer that comes, and what
--- becomes of one in hand.
+-- Offers that a client has in hand, what it does with one that comes, and what becomes of one in
+-- hand.
 use Rattle.std.specs.Prelude.{◌≡◌, ◌<◌, ℕ, [], ◌∷◌, ◌⊎◌, Some, None, Contains, IsSome, IsSomeAnd}
 use Rattle.std.specs.Prelude.{true}
 use Rattle.linda_tuple.specs.Tuple.{Tuple}
@@ -30,8 +30,8 @@ pub record IsAccepted (pending : Pending) (server ticket id : ℕ) : Type 0 wher
   pub id_is : own.id ≡ id
 
 -- An offer that comes, of a tuple for a ticket, from a server. If the ticket is not open, a Cancel
--- of it goes to that server, and that is all. If it is open and the offer fits, it is saved where
--- an Accept is unanswered, and accepted where none is.
+-- of it goes to that server, and that is all. If it is open and the offer fits, it is saved if an
+-- Accept is unanswered, and accepted if none is.
 pub record IsTreated (c : Client) (server ticket id : ℕ) (row : Tuple) (r : Reaction) : Type 0 where
   pub stray : asked_in (pending_in c.task) ticket ≡ None
       → r ≡ send ((server, messages.Cancel ticket) ∷ []) c

@@ -1,4 +1,4 @@
--- What a client sends for the tickets of a synchronization, and what it sends again.
+-- Packets that a client sends for the tickets of a synchronization, and those that it sends again.
 use Rattle.std.specs.Prelude.{ℕ, ◌==◌, Bool, false, ◌&&◌, not, if◌then◌else◌, List, [], ◌∷◌, ◌++◌}
 use Rattle.std.specs.Prelude.{Option, Some, None, map, filter, flat_map, option_to_list}
 use Rattle.std.specs.List.{enumerate_from, list_any, range_with_len}
@@ -55,13 +55,13 @@ abbrev pub is_spared : Option (ℕ × ℕ) → ℕ × ℕ → Bool
 is_spared None pair = false
 is_spared (Some own) pair = (own.0 == pair.0) && (own.1 == pair.1)
 
--- a Cancel of the ticket to each server where it is not spared
+-- a Cancel of the ticket to each server if it is not spared
 abbrev pub cancels_of : ℕ → Option (ℕ × ℕ) → ℕ → List Packet
 cancels_of count own ticket = map (λ s. (s, messages.Cancel ticket))
     (filter (λ s. not (is_spared own (s, ticket))) (all_servers count))
 
--- the Cancels of all tickets of a synchronization, but where they are spared: by rising ticket,
--- then rising server
+-- the Cancels of all tickets of a synchronization, unless they are spared: by rising ticket, then
+-- rising server
 abbrev pub cancels_but : ℕ → Option (ℕ × ℕ) → Pending → List Packet
 cancels_but count own pending = flat_map (cancels_of count own) (tickets pending)
 

@@ -21,7 +21,7 @@ pub record Pending : Type 0 where
   pub accepted : Option Accepted
   pub saved : List Arrival
 
--- What is asked by a ticket, where it is open: the k-th input or read base, from 0, has the first
+-- What is asked by a ticket, if it is open: the k-th input or read base, from 0, has the first
 -- ticket plus k.
 abbrev pub ask_at : Pending → ℕ → Option Ask
 ask_at pending ticket = if nat_lt ticket pending.first then None
@@ -58,11 +58,11 @@ abbrev pub FitsOpen : Pending → Arrival → Type 0
 FitsOpen pending arrival =
     IsSomeAnd (ask_at pending arrival.ticket) (λ ask. Matches ask.template arrival.tuple)
 
--- The oldest arrival that it saved, where it saved some, is saved no more.
+-- The oldest arrival that it saved, if it saved some, is saved no more.
 abbrev pub drop_oldest : Pending → Pending
 drop_oldest pending = record pending { saved = drop 1 pending.saved }
 
--- An offer is accepted: that oldest one, where it saved some.
+-- An offer is accepted: that oldest one, if it saved some.
 abbrev pub take_oldest : Accepted → Pending → Pending
 take_oldest a pending = record (drop_oldest pending) { accepted = Some a }
 

@@ -1,4 +1,4 @@
--- How a pending synchronization is stored where a model's value holds one.
+-- Code of a pending synchronization, for a model's value that holds one.
 use Rattle.std.specs.Prelude.{ℕ, List, Option, refl}
 use Rattle.std.specs.Coded.{Coded, code_by, coded×, coded_ℕ, coded_option, coded_list}
 use Rattle.linda_tuple.specs.Tuple.{Tuple}

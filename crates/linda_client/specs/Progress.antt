@@ -1,4 +1,4 @@
--- How what is pending goes on from call to call, in words.
+-- Progress of what is pending from call to call, in words.
 use Rattle.std.specs.Prelude.{◌≡◌, ◌+◌, ◌<◌, ◌⊎◌, List, [], ◌++◌, length, Option, Some, None}
 use Rattle.std.specs.Prelude.{IsSomeAnd, drop, option_map, slice_get}
 use Rattle.linda_event.specs.Trees.{Tree}
@@ -96,7 +96,7 @@ pub record Begins (c : Client) (call : Call) (r : Reaction) : Type 0 where
   pub silent : r.outcome ≡ None
 
 -- How a call finds and leaves what is pending: a synchronization that was pending ends or goes on,
--- with the next ticket as it was; where none was pending, none is, or one commits at once, with the
+-- with the next ticket as it was; if none was pending, none is, or one commits at once, with the
 -- next ticket as it was, or one begins.
 abbrev pub GoesOn : Client → Call → Option Pending → Reaction → Type 0
 GoesOn c call (Some pending) r =

@@ -33,9 +33,9 @@ use Rattle.linda_client.specs.Packets.{ask_packets, cancels, leave_packets, sent
 use Rattle.linda_client.specs.Reaction.{Answer, Reaction, commit, finish, hand_on, no_reaction}
 use Rattle.linda_client.specs.Reaction.{send}
 
--- A call: a tuple is put, an event is waited for, a reply of a server comes, the time is told, what
--- is unanswered is sent again, to all servers or to one, the synchronization is abandoned, and the
--- client leaves.
+-- A call: a tuple is put, an event is waited for, a reply of a server comes, the time is given,
+-- what is unanswered is sent again, to all servers or to one, the synchronization is abandoned, and
+-- the client leaves.
 pub data Call : Type 0 where
   Out : Tuple → Call
   Sync : Tree → Call
@@ -186,7 +186,7 @@ ask_of_taken pending None server n id = None
 ask_of_taken pending (Some a) server n id =
     (if is_answer a server n && (a.id == id) then ask_at pending a.ticket else None)
 
--- a tuple was taken, given what it was asked by: it commits where it fits
+-- a tuple was taken, given what it was asked by: it commits if it fits
 abbrev pub on_taken_for : Client → Pending → ℕ → ℕ → Tuple → Option Ask → Reaction
 on_taken_for c pending server id row None = no_reaction c
 on_taken_for c pending server id row (Some ask) =

@@ -1,4 +1,4 @@
--- What a call of a client comes to.
+-- Reactions, the results of a client's calls.
 use Rattle.std.specs.Prelude.{◌≡◌, ℕ, List, [], Option, Some, None, Result, Ok, Err, IsOk}
 use Rattle.linda_event.specs.Trees.{Tree}
 use Rattle.linda_event.specs.Paths as paths
@@ -63,7 +63,7 @@ abbrev pub shown : Told → Client → Reaction
 shown told c =
     record { packets = told.packets.items; outcome = told.outcome; fault = told.fault; client = c }
 
--- The refusal is that of the answer; `Memory` is returned only where the call is not refused.
+-- The refusal is that of the answer; `Memory` is returned only if the call is not refused.
 abbrev pub IsRefusal : ClientFault → Answer → Type 0
 IsRefusal faults.ServersRange answer = answer ≡ Err faults.ServersRange
 IsRefusal faults.Left answer = answer ≡ Err faults.Left
@@ -76,8 +76,8 @@ IsRefusal faults.Spent answer = answer ≡ Err faults.Spent
 IsRefusal faults.Memory answer = IsOk answer
 
 -- A call does what the answer says: what it returned and the client after it are the answer's
--- reaction, or it was refused as the answer says and the client is as before; or memory ran out
--- where the answer is no refusal, and the client is as before.
+-- reaction, or it was refused as the answer says and the client is as before; or memory ran out if
+-- the answer is no refusal, and the client is as before.
 abbrev pub Does : Client → Result Told ClientFault → Client → Answer → Type 0
 Does old (Ok told) new answer = answer ≡ Ok (shown told new)
 Does old (Err fault) new answer = IsRefusal fault answer × (new ≡ old)

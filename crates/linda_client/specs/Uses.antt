@@ -1,4 +1,5 @@
--- How often a client uses a number or a ticket. To send again what was sent before is no new use.
+-- Uses of a number or a ticket by a client, counted. To send again what was sent before is no new
+-- use.
 use Rattle.std.specs.Prelude.{◌≡◌, ℕ, ◌==◌, ◌≤◌, Bool, true, false, ◌&&◌, if◌then◌else◌}
 use Rattle.std.specs.Prelude.{List, [], ◌∷◌, ◌++◌, Option, Some, None, All, Contains, count_by}
 use Rattle.std.specs.Prelude.{flat_map}

@@ -1,4 +1,4 @@
--- How the fields of a pending synchronization and of a client are seen.
+-- Views of the fields of a pending synchronization and of a client.
 use Rattle.std.specs.Prelude.{◌≡◌}
 use Rattle.linda_event.specs.Trees.{tree_of}
 use Rattle.linda_client.specs.declared.pending.Pending.TheInside as pending

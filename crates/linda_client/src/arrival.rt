@@ -1,4 +1,4 @@
-//! What servers sent for the tickets of a synchronization.
+//! Arrivals: offers and copies that servers sent for the tickets of a synchronization.
 
 ghost use Rattle.std.specs.Prelude.{◌≡◌, IfOk};
 ghost use Rattle.linda_wire.specs.declared.message.Message.TheVariants as messages;

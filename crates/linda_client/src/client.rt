@@ -1,4 +1,4 @@
-//! The client: what it keeps, and how that changes. Its calls stand in the modules below, one in
+//! The client: what it keeps, and how that changes. Its calls are in the modules below, one in
 //! each.
 
 mod abandon;
@@ -80,11 +80,11 @@ impl Model for Client {
 
 impl Client {
     /// A client of this number, over so many servers, which are numbered from 0. Nothing is
-    /// pending, its clock stands at 0, and its numbers and tickets begin with 1.
+    /// pending, its clock is at 0, and its numbers and tickets begin with 1.
     ///
     /// # Errors
     ///
-    /// `ServersRange` where the servers are not 1 to 16; else `Memory` where memory runs out.
+    /// `ServersRange` if the servers are not 1 to 16; else `Memory` if memory runs out.
     pub fn new(alloc: Global, client: u32, servers: u32) -> Result<Client, ClientFault>
         ensures ok { IfOk result (λ c. c ≡ new_client client servers) }
         ensures range { IsErrOf result ClientFault.ServersRange
@@ -120,7 +120,7 @@ impl Client {
         self.next.len() as u32
     }
 
-    /// The greatest time that the client was told.
+    /// The greatest time that the client was given.
     pub fn clock(&self) -> u64
         ensures { result ≡ self.now.clock }
     {
@@ -225,8 +225,8 @@ impl Client {
         self.task = Task::Syncing(pending);
     }
 
-    // An offer is accepted, under the next number of its server: the oldest that is saved, where
-    // some are.
+    // An offer is accepted, under the next number of its server: the oldest that is saved, if some
+    // are.
     fn accept(&mut self, accepted: Accepted)
         requires server { accepted.server < servers self.old }
         requires number { accepted.n ≡ next_at self.old accepted.server }

@@ -1,4 +1,4 @@
-//! Why a call of the client is refused.
+//! Faults of the client's calls.
 
 ghost use Rattle.std.specs.Prelude.{◌≡◌};
 ghost use Rattle.linda_client.specs.declared.fault.ClientFault.TheVariants as faults;
@@ -25,7 +25,7 @@ pub enum ClientFault {
     /// There is no such server.
     #[error("no such server")]
     NoServer,
-    /// A leaf of the event stands under more than 64 nodes.
+    /// A leaf of the event is under more than 64 nodes.
     #[error("an event that is nested too deeply")]
     TooDeep,
     /// The event has more than 256 bases, or more than 64 of them are inputs or reads.

@@ -1,5 +1,5 @@
-//! What holds of a client at every call, and over many: each stated in the contract of a function
-//! that does nothing.
+//! Laws of a client, of each call and of many: each stated in the contract of a function that does
+//! nothing.
 //!
 //! `react` says case by case what a call comes to. These laws say in words of their own what never
 //! fails to hold, whatever is called and whatever servers reply, in whatever order and however
@@ -39,7 +39,7 @@ pub fn packets_are_sound()
 {}
 
 /// A client that has left stays so, and nothing comes of it but Cancels; and the outcome is Left
-/// exactly where it leaves. From a new client, whatever is called and whatever comes: after the
+/// exactly if it leaves. From a new client, whatever is called and whatever comes: after the
 /// outcome Left nothing but Cancels is sent.
 pub fn clients_leave_for_good()
     ensures leaves { AtEachCall (λ c call r. LeavesForGood c r) }
@@ -47,9 +47,9 @@ pub fn clients_leave_for_good()
 {}
 
 /// A pending synchronization goes on with its event and its tickets until it ends, with its
-/// Cancels, and a new one begins by a call of `sync` alone. Its Accept goes only by an answer;
-/// while it stays, what is saved only grows, and when its offer is gone exactly the oldest that was
-/// saved is saved no more.
+/// Cancels, and a new one begins only by a call of `sync`. Its Accept goes only by an answer; while
+/// it stays, what is saved only grows, and when its offer is gone exactly the oldest that was saved
+/// is saved no more.
 pub fn synchronizations_go_on()
     ensures { AtEachCall (λ c call r. GoesOn c call (pending_in c.task) r) }
 {}
@@ -61,7 +61,7 @@ pub fn only_a_taken_takes()
 {}
 
 /// An offer that comes for a ticket that is not open is cancelled, and that is all. One that fits
-/// an open ticket is saved where an Accept is unanswered, and accepted where none is.
+/// an open ticket is saved if an Accept is unanswered, and accepted if none is.
 pub fn offers_are_treated()
     ensures { AtEachCall TreatsOffers }
 {}

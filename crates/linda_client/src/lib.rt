@@ -2,7 +2,7 @@
 //!
 //! A `Client` puts tuples by `out` and waits for an event by `sync`, until it gives its number up
 //! by `leave`. Replies of the servers come in by `receive` and the time by `tick`; each call gives
-//! a `Reaction`: the packets to be sent, and the outcome where what was pending came to its end.
+//! a `Reaction`: the packets to be sent, and the outcome if what was pending came to its end.
 //! Packets may be lost, repeated and delayed: `resend` and `reconnected` give again what is not
 //! answered yet.
 //!

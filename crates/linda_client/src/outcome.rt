@@ -1,4 +1,4 @@
-//! How what was pending came to its end.
+//! Outcomes: how what was pending ended.
 
 ghost use Rattle.std.specs.Prelude.{◌≡◌, IfOk};
 ghost use Rattle.linda_event.specs.Trees.{tree_of};

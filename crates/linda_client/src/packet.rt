@@ -38,7 +38,7 @@ pub(crate) fn push_asked(
     Ok(())
 }
 
-/// Appends a Cancel of the ticket to each server in turn, but where server and ticket are spared.
+/// Appends a Cancel of the ticket to each server in turn, unless server and ticket are spared.
 pub(crate) fn push_cancelled(
     servers: u32,
     spared: Option<(u32, u64)>,

@@ -98,7 +98,7 @@ impl Pending {
         self.asks.len() as u64
     }
 
-    /// What is asked by the ticket, where it is open.
+    /// What is asked by the ticket, if it is open.
     pub(crate) fn ask_at(&self, ticket: u64) -> Option<&Ask>
         ensures ask { option_copied result ≡ ask_at self.now ticket }
         ensures keeps { IsPending self.now }
@@ -235,7 +235,7 @@ impl Pending {
         Ok(packets)
     }
 
-    /// The Cancels of all tickets to all servers but where they are spared: by rising ticket, then
+    /// The Cancels of all tickets to all servers unless they are spared: by rising ticket, then
     /// rising server.
     pub(crate) fn cancels(
         &self,
@@ -252,8 +252,8 @@ impl Pending {
         Ok(packets)
     }
 
-    /// The end of the synchronization by a commitment to the base, with the Cancels but where they
-    /// are spared.
+    /// The end of the synchronization by a commitment to the base, with the Cancels unless they are
+    /// spared.
     pub(crate) fn commit(
         &self,
         alloc: Global,
@@ -271,14 +271,14 @@ impl Pending {
         Ok(Reaction::ended(packets, outcome))
     }
 
-    /// What the synchronization raises where it is abandoned: all nack numbers, in tree order.
+    /// What the synchronization raises if it is abandoned: all nack numbers, in tree order.
     pub(crate) fn all_nacks(&self, alloc: Global) -> Result<Vec<u64>, AllocError>
         ensures { IfOk result (λ v. v.items ≡ all_nacks self.now.event) }
     {
         all_nacks(alloc, &self.event)
     }
 
-    /// Notes that an offer was accepted: the oldest that is saved, where some are.
+    /// Notes that an offer was accepted: the oldest that is saved, if some are.
     pub(crate) fn accept(&mut self, accepted: Accepted)
         requires { IsOpenInput self.old accepted.ticket }
         ensures accepted { self.new ≡ take_oldest accepted self.old }
@@ -292,7 +292,7 @@ impl Pending {
     ///
     /// # Errors
     ///
-    /// `AllocError` where memory runs out, and then the synchronization is as before.
+    /// `AllocError` if memory runs out, and then the synchronization is as before.
     pub(crate) fn save(&mut self, arrival: Arrival) -> Result<(), AllocError>
         requires fits { FitsOpen self.old arrival }
         requires accepted { is_some self.old.accepted ≡ true }
@@ -304,7 +304,7 @@ impl Pending {
         Ok(())
     }
 
-    /// Notes that the accepted offer is gone, where nothing is saved.
+    /// Notes that the accepted offer is gone, if nothing is saved.
     pub(crate) fn wait(&mut self)
         requires { self.old.saved ≡ [] }
         ensures waits { self.new ≡ let_go self.old }

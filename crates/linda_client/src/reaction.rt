@@ -1,4 +1,4 @@
-//! What a call of the client comes to.
+//! Reactions, the results of the client's calls.
 
 ghost use Rattle.std.specs.Prelude.{◌≡◌, [], None, Some};
 
@@ -11,7 +11,7 @@ use std::alloc::Global;
 pub struct Reaction {
     /// What is to be sent, with the server that it goes to, in order.
     pub packets: Vec<(u32, Message)>,
-    /// The end of what was pending, where it came to its end.
+    /// The end of what was pending, if it came to its end.
     pub outcome: Option<Outcome>,
     /// A refusal by a server: the server, and the code and the detail that it sent.
     pub fault: Option<(u32, u8, u64)>,

@@ -1,4 +1,4 @@
-//! What is ready without a server.
+//! Bases that are ready without a server, and what they give.
 
 ghost use Rattle.std.specs.Prelude.{◌≡◌, map, IfOk};
 ghost use Rattle.linda_event.specs.Bases.{kind_of};

@@ -1,4 +1,4 @@
-//! What a client is at.
+//! Tasks of a client: what is pending.
 
 ghost use Rattle.std.specs.Prelude.{◌≡◌};
 ghost use Rattle.linda_client.specs.Client.{is_out_of};

@@ -136,7 +136,7 @@ body_at [] other kind rest = other (kind ∷ rest)
 body_at (row ∷ rows) other kind rest =
     if kind == row.0 then row.1 rest else body_at rows other kind rest
 
--- A choice by a kind byte, after which a body of the table stands.
+-- A choice by a kind byte, before a body of the table.
 abbrev pub choice_at : {A : Type 0} → List (ℕ × Reader A) → Reader A → Reader A
 choice_at rows other [] = other []
 choice_at rows other (kind ∷ rest) = body_at rows other kind rest

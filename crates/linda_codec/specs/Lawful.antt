@@ -1,5 +1,5 @@
--- Which formats are lawful: what is read is so spelled, what is spelled is read again, and what is
--- left was there.
+-- Lawful formats: what is read is so spelled, what is spelled is read again, and what is left was
+-- there.
 use Rattle.std.specs.Prelude.{◌≡◌, ℕ, ◌<◌, ◌≤◌, List, ◌++◌, length, get_or, Ok, Err}
 use Rattle.linda_codec.specs.declared.fault.ReadFault.{ReadFault}
 use Rattle.linda_codec.specs.declared.fault.ReadFault.TheVariants.{Memory, Short, BadKind, BadBool}

@@ -8,7 +8,7 @@ use Rattle.linda_codec.specs.declared.fault.ReadFault.TheVariants.{TooMany, Long
 use Rattle.linda_codec.specs.Steps.{Read, Reader, Gives}
 use Rattle.linda_codec.specs.Formats.{Format}
 
--- A fault given by its offset, where so many bytes were there in all.
+-- A fault given by its offset, if so many bytes were there in all.
 abbrev pub placed : ℕ → ReadFault → ReadFault
 placed n Memory = Memory
 placed n Short = Short
@@ -42,8 +42,8 @@ abbrev pub IsSpelledAt : {A : Type 0} → Format A → List ℕ → ℕ → A ×
 IsSpelledAt f bytes at x =
     f.Fits x.0 × (x.1 ≤ length bytes) × (drop at bytes ≡ f.spell x.0 ++ drop x.1 bytes)
 
--- Where a value is spelled from the offset on, it is the answer, with the offset of the byte after
--- it, unless memory runs out.
+-- If a value is spelled from the offset on, it is the answer, with the offset of the byte after it,
+-- unless memory runs out.
 abbrev pub ReadsSpelled : {A : Type 0} → Format A → List ℕ → ℕ → Result (A × ℕ) ReadFault → Type 0
 ReadsSpelled {A = A} f bytes at answer =
     (value : A) (rest : List ℕ) → f.Fits value → drop at bytes ≡ f.spell value ++ rest
@@ -60,5 +60,5 @@ pub record IsReadAt {A : Type 0} (f : Format A) (bytes : List ℕ) (at : ℕ)
   pub exact : Gives (λ x. x) read (read_at f.read bytes at)
   -- The offset of a fault is within what was read.
   pub place : IfErr read (IsPlace at (length bytes))
-  -- Memory runs out only where a value stands at the offset.
+  -- Memory runs out only if a value is at the offset.
   pub memory : IsErrOf read Memory → IsOk (f.read (drop at bytes))

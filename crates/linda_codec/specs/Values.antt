@@ -59,7 +59,7 @@ spell_pattern form patterns.TextFormal = TEXT_FORMAL ∷ []
 spell_pattern form patterns.BoolFormal = BOOL_FORMAL ∷ []
 spell_pattern form patterns.Any = WILDCARD ∷ []
 
--- The kinds of patterns that are no atoms; each is its kind byte alone.
+-- The kinds of patterns that are no atoms; each is only its kind byte.
 abbrev pub formal_kinds : List (ℕ × Reader Pattern)
 formal_kinds =
     (INT_FORMAL, made_at (λ n. patterns.IntFormal) nothing)
@@ -82,7 +82,7 @@ pattern form = record {
   read = choice_at formal_kinds (value_at form);
 }
 
--- A tag, the count of the values behind it, and the values.
+-- A tag, the count of the values after it, and the values.
 abbrev pub tagged : {A : Type 0} → Form → Format A → Format (Atom × List A)
 tagged form f = both (atom form) (counted (most_fields form) f)
 

@@ -1,4 +1,4 @@
-//! Why bytes could not be read.
+//! Faults of bytes that could not be read.
 
 ghost use Rattle.std.specs.Prelude.{◌≡◌};
 ghost use Rattle.linda_codec.specs.declared.fault.ReadFault.TheVariants.{Memory};

@@ -1,5 +1,4 @@
-//! The bytes that stand for kinds: of atoms, and of what stands only in templates; and those of
-//! truth values.
+//! The bytes of kinds: of atoms, and of what is only in templates; and those of truth values.
 
 /// Of an integer.
 pub const INTEGER: u8 = 1;

@@ -1,4 +1,4 @@
-//! How many bytes atoms, tuples and templates spell in a form, counted without spelling them.
+//! Lengths of atoms, tuples and templates in a form, counted without spelling them.
 
 ghost use Rattle.std.specs.Prelude.{◌≡◌, ◌≤◌, ℕ, length};
 ghost use Rattle.linda_tuple.specs.Atom.{IsSound};

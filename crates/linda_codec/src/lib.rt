@@ -5,12 +5,11 @@
 //! `02`, a length and that many bytes of UTF-8, or `03` and `00` (false) or `01` (true). A tuple is
 //! a tag, a count byte, then that many atoms. A template is a tag, a count byte, then that many
 //! patterns: each is an atom, or one of the bytes `04` (any integer), `05` (any text), `06` (any
-//! truth value) and `07` (anything), which stand nowhere else. Numbers are big-endian. In the first
-//! form a text's length is one byte, in the second one it is two; the limits are those of
-//! `Form`.
+//! truth value) and `07` (anything), which are nowhere else. Numbers are big-endian. In the first
+//! form a text's length is one byte, in the second one it is two; the limits are those of `Form`.
 //!
 //! Whatever is put is read again, whatever is read is spelled so, and of bytes that spell nothing
-//! the first fault from the left is returned, also where memory is short. `specs/Formats` has what
+//! the first fault from the left is returned, also if memory is short. `specs/Formats` has what
 //! formats are made of, each with its spelling and its reader in one; `specs/Values` says what the
 //! formats of atoms, tuples and templates are.
 //!

@@ -1,4 +1,4 @@
-//! How many bytes the parts of a spelling take, and the most that a value takes.
+//! Sizes of the parts of a spelling, and the most bytes that a value takes.
 
 use linda_tuple::{MAX_FIELDS, MAX_TEXT};
 

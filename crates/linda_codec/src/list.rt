@@ -15,7 +15,7 @@ use std::alloc::{AllocError, Global};
 /// # Errors
 ///
 /// The first fault from the left, given by the count of bytes left. `Memory` may be returned before
-/// a fault that stands after it.
+/// a fault that is after it.
 pub fn read_list<V: Spelled>(
     alloc: Global,
     form: Form,
@@ -55,7 +55,7 @@ pub fn skip_list<V: Spelled>(form: Form, count: usize, bytes: &[u8]) -> Result<&
 ///
 /// # Errors
 ///
-/// Where memory runs out, a part of the spellings may stand after the old bytes.
+/// If memory runs out, a part of the spellings may be after the old bytes.
 pub fn push_list<V: Spelled>(form: Form, out: &mut Vec<u8>, values: &[V]) -> Result<(), AllocError>
     requires { All (V.format form).Fits values.now }
     ensures ok { OnOk result (out.new.items

@@ -10,7 +10,7 @@ use crate::fault::ReadFault;
 ///
 /// # Errors
 ///
-/// `Short` where there is none.
+/// `Short` if there is none.
 pub fn read_u8(bytes: &[u8]) -> Result<(u8, &[u8]), ReadFault>
     ensures { GivesAlways (λ x. (x.0, x.1.now)) result (format.byte.read bytes.now) }
 {
@@ -24,7 +24,7 @@ pub fn read_u8(bytes: &[u8]) -> Result<(u8, &[u8]), ReadFault>
 ///
 /// # Errors
 ///
-/// `Short` where there are fewer, `LongText` where it is above.
+/// `Short` if there are fewer, `LongText` if it is above.
 pub(crate) fn read_length(limit: usize, bytes: &[u8]) -> Result<(usize, &[u8]), ReadFault>
     ensures { GivesAlways (λ x. (x.0, x.1.now)) result
         ((format.short_length limit).read bytes.now) }
@@ -44,7 +44,7 @@ pub(crate) fn read_length(limit: usize, bytes: &[u8]) -> Result<(usize, &[u8]), 
 ///
 /// # Errors
 ///
-/// `Short` where there are fewer.
+/// `Short` if there are fewer.
 pub fn read_u32(bytes: &[u8]) -> Result<(u32, &[u8]), ReadFault>
     ensures { GivesAlways (λ x. (x.0, x.1.now)) result (format.short_number.read bytes.now) }
 {
@@ -60,7 +60,7 @@ pub fn read_u32(bytes: &[u8]) -> Result<(u32, &[u8]), ReadFault>
 ///
 /// # Errors
 ///
-/// `Short` where there are fewer.
+/// `Short` if there are fewer.
 pub fn read_u64(bytes: &[u8]) -> Result<(u64, &[u8]), ReadFault>
     ensures { GivesAlways (λ x. (x.0, x.1.now)) result (format.number.read bytes.now) }
 {
@@ -78,7 +78,7 @@ pub fn read_u64(bytes: &[u8]) -> Result<(u64, &[u8]), ReadFault>
 ///
 /// # Errors
 ///
-/// `Short` where there is none, `BadBool` where it is another one.
+/// `Short` if there is none, `BadBool` if it is another one.
 #[tactic(auto, unfolding(crate::specs::Formats::truth_at))]
 pub fn read_bool(bytes: &[u8]) -> Result<(bool, &[u8]), ReadFault>
     ensures { GivesAlways (λ x. (x.0, x.1.now)) result (format.truth.read bytes.now) }

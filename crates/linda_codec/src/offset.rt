@@ -16,7 +16,7 @@ use std::alloc::Global;
 ///
 /// # Errors
 ///
-/// The first fault from the left, given by its offset; `Memory` where a text finds none.
+/// The first fault from the left, given by its offset; `Memory` if a text finds none.
 pub fn get_atom(
     alloc: Global,
     form: Form,
@@ -33,7 +33,7 @@ pub fn get_atom(
 ///
 /// # Errors
 ///
-/// The first fault from the left, given by its offset; `Memory` where the values find none.
+/// The first fault from the left, given by its offset; `Memory` if the values find none.
 pub fn get_tuple(
     alloc: Global,
     form: Form,
@@ -50,7 +50,7 @@ pub fn get_tuple(
 ///
 /// # Errors
 ///
-/// The first fault from the left, given by its offset; `Memory` where the values find none.
+/// The first fault from the left, given by its offset; `Memory` if the values find none.
 pub fn get_template(
     alloc: Global,
     form: Form,
@@ -89,7 +89,7 @@ fn tail(bytes: &[u8], at: usize) -> &[u8]
 }
 
 impl ReadFault {
-    // The fault given by its offset, where it counts the bytes left of so many.
+    // The fault given by its offset, if it counts the bytes left of so many.
     fn placed(self, len: usize) -> ReadFault
         ensures value { result ≡ placed len self }
         ensures memory { result ≡ ReadFault.Memory → self ≡ ReadFault.Memory }

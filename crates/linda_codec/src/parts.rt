@@ -1,4 +1,4 @@
-//! What atoms, tuples and templates are read from: texts as they stand in the bytes, and counts.
+//! Parts of atoms, tuples and templates: texts as they are in the bytes, and counts.
 
 ghost use Rattle.std.specs.Prelude.{◌≡◌, true, false, MatchOption};
 ghost use Rattle.std.specs.Str.{is_utf8};
@@ -24,7 +24,7 @@ fn read_text_length(form: Form, bytes: &[u8]) -> Result<(usize, &[u8]), ReadFaul
     }
 }
 
-/// A text's length and that many bytes of UTF-8: the text, where it stands, and the bytes after it.
+/// A text's length and that many bytes of UTF-8: the text, if it is, and the bytes after it.
 pub(crate) fn split_text(form: Form, bytes: &[u8]) -> Result<(&str, &[u8]), ReadFault>
     ensures { GivesAlways (λ x. (x.0.now, x.1.now)) result ((format.text form).read bytes.now) }
 {

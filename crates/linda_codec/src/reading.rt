@@ -1,6 +1,6 @@
 //! Readers of atoms, tuples and templates, each of which gives the value and the bytes after it.
 //!
-//! `Memory` is returned last: only of bytes at whose front a whole value stands.
+//! `Memory` is returned last: only of bytes at whose front a whole value is.
 
 ghost use Rattle.std.specs.Prelude.{◌≡◌, ◌∷◌, IsOk, IsErrOf};
 ghost use Rattle.linda_tuple.specs.declared.atom.Atom.TheVariants as atoms;
@@ -22,8 +22,7 @@ use std::alloc::Global;
 ///
 /// # Errors
 ///
-/// The first fault from the left, given by the count of bytes left; `Memory` where a text finds
-/// none.
+/// The first fault from the left, given by the count of bytes left; `Memory` if a text finds none.
 pub fn read_atom(alloc: Global, form: Form, bytes: &[u8]) -> Result<(Atom, &[u8]), ReadFault>
     ensures value { Gives (λ x. (x.0, x.1.now)) result ((format.atom form).read bytes.now) }
     ensures memory { IsErrOf result ReadFault.Memory → IsOk ((format.atom form).read bytes.now) }
@@ -87,8 +86,8 @@ fn read_truth(bytes: &[u8]) -> Result<(Atom, &[u8]), ReadFault>
 ///
 /// # Errors
 ///
-/// The first fault from the left, given by the count of bytes left; `Memory` where a tuple stands
-/// there and finds none.
+/// The first fault from the left, given by the count of bytes left; `Memory` if a tuple is there
+/// and finds none.
 pub fn read_tuple(alloc: Global, form: Form, bytes: &[u8]) -> Result<(Tuple, &[u8]), ReadFault>
     ensures value { Gives (λ x. (x.0, x.1.now)) result ((format.tuple form).read bytes.now) }
     ensures memory { IsErrOf result ReadFault.Memory → IsOk ((format.tuple form).read bytes.now) }
@@ -108,8 +107,8 @@ pub fn read_tuple(alloc: Global, form: Form, bytes: &[u8]) -> Result<(Tuple, &[u
 ///
 /// # Errors
 ///
-/// The first fault from the left, given by the count of bytes left; `Memory` where a template
-/// stands there and finds none.
+/// The first fault from the left, given by the count of bytes left; `Memory` if a template is there
+/// and finds none.
 pub fn read_template(
     alloc: Global,
     form: Form,
@@ -130,7 +129,7 @@ pub fn read_template(
     }
 }
 
-// Reads a tuple; `Memory` may be returned before a fault that stands after it.
+// Reads a tuple; `Memory` may be returned before a fault that is after it.
 fn build_tuple(alloc: Global, form: Form, bytes: &[u8]) -> Result<(Tuple, &[u8]), ReadFault>
     ensures { Gives (λ x. (x.0, x.1.now)) result ((format.tuple form).read bytes.now) }
 {

@@ -1,5 +1,5 @@
-//! What a value with a spelling in bytes can do: be read, passed over, written and counted, in each
-//! of the two forms.
+//! Values with a spelling in bytes: they are read, passed over, written and counted, in each of the
+//! two forms.
 
 ghost use Rattle.std.specs.Prelude.{◌≡◌, ◌≤◌, ◌++◌, ℕ, length, take, IsOk, IsErrOf, OnOk};
 ghost use Rattle.linda_tuple.specs.declared.form.Form as forms;
@@ -29,8 +29,8 @@ pub trait Spelled: Drop {
     ///
     /// # Errors
     ///
-    /// The first fault from the left, given by the count of bytes left; `Memory` where a value
-    /// stands there and finds none.
+    /// The first fault from the left, given by the count of bytes left; `Memory` if a value is
+    /// there and finds none.
     fn read(alloc: Global, form: Form, bytes: &[u8]) -> Result<(Self, &[u8]), ReadFault>
         ensures value { Gives (λ x. (x.0, x.1.now)) result ((format form).read bytes.now) }
         ensures memory { IsErrOf result ReadFault.Memory → IsOk ((format form).read bytes.now) };
@@ -47,7 +47,7 @@ pub trait Spelled: Drop {
     ///
     /// # Errors
     ///
-    /// Where memory runs out, a part of the spelling may stand after the old bytes.
+    /// If memory runs out, a part of the spelling may be after the old bytes.
     fn push(&self, form: Form, out: &mut Vec<u8>) -> Result<(), AllocError>
         requires { (format form).Fits self.now }
         ensures ok { OnOk result (out.new.items ≡ out.old.items ++ (format form).spell self.now) }

@@ -19,7 +19,7 @@ use std::alloc::AllocError;
 ///
 /// # Errors
 ///
-/// Where memory runs out, `out` is left as it was.
+/// If memory runs out, `out` is left as it was.
 pub fn put_atom(form: Form, out: &mut Vec<u8>, atom: &Atom) -> Result<(), AllocError>
     requires { IsSoundIn form atom.now }
     ensures ok { OnOk result (out.new.items ≡ out.old.items ++ (format.atom form).spell atom.now) }
@@ -28,11 +28,11 @@ pub fn put_atom(form: Form, out: &mut Vec<u8>, atom: &Atom) -> Result<(), AllocE
     put(form, out, atom)
 }
 
-/// Appends the spelling of the tuple, which is one that has a spelling in the form: `fits` tells.
+/// Appends the spelling of the tuple, which is one that has a spelling in the form: `fits` says so.
 ///
 /// # Errors
 ///
-/// Where memory runs out, `out` is left as it was.
+/// If memory runs out, `out` is left as it was.
 pub fn put_tuple(form: Form, out: &mut Vec<u8>, tuple: &Tuple) -> Result<(), AllocError>
     requires { FitsIn form tuple.now }
     ensures ok { OnOk result (out.new.items
@@ -47,7 +47,7 @@ pub fn put_tuple(form: Form, out: &mut Vec<u8>, tuple: &Tuple) -> Result<(), All
 ///
 /// # Errors
 ///
-/// Where memory runs out, `out` is left as it was.
+/// If memory runs out, `out` is left as it was.
 pub fn put_template(form: Form, out: &mut Vec<u8>, template: &Template) -> Result<(), AllocError>
     requires { FitsTemplateIn form template.now }
     ensures ok { OnOk result (out.new.items
@@ -57,7 +57,7 @@ pub fn put_template(form: Form, out: &mut Vec<u8>, template: &Template) -> Resul
     put(form, out, template)
 }
 
-// Appends the spelling of the value; where memory runs out, `out` is left as it was.
+// Appends the spelling of the value; if memory runs out, `out` is left as it was.
 fn put<V: Spelled>(form: Form, out: &mut Vec<u8>, value: &V) -> Result<(), AllocError>
     requires { (V.format form).Fits value.now }
     ensures ok { OnOk result (out.new.items ≡ out.old.items ++ (V.format form).spell value.now) }
@@ -68,7 +68,7 @@ fn put<V: Spelled>(form: Form, out: &mut Vec<u8>, value: &V) -> Result<(), Alloc
     kept_or_cut(out, len, pushed)
 }
 
-// Cuts the bytes back to that length where what was pushed is not whole.
+// Cuts the bytes back to that length if what was pushed is not whole.
 fn kept_or_cut(
     out: &mut Vec<u8>,
     len: usize,
@@ -84,8 +84,7 @@ fn kept_or_cut(
     pushed
 }
 
-/// Appends the spelling of the tuple; where memory runs out, a part of it may stand after the old
-/// bytes.
+/// Appends the spelling of the tuple; if memory runs out, a part of it may be after the old bytes.
 pub(crate) fn push_tuple(form: Form, out: &mut Vec<u8>, tuple: &Tuple) -> Result<(), AllocError>
     requires { FitsIn form tuple.now }
     ensures ok { OnOk result (out.new.items
@@ -166,8 +165,8 @@ pub(crate) fn push_atom(form: Form, out: &mut Vec<u8>, atom: &Atom) -> Result<()
     }
 }
 
-// Appends the kind of an integer and the integer; where memory runs out, a part of it may stand
-// after the old bytes.
+// Appends the kind of an integer and the integer; if memory runs out, a part of it may be after the
+// old bytes.
 fn push_integer(out: &mut Vec<u8>, number: i64) -> Result<(), AllocError>
     ensures ok { OnOk result (out.new.items
         ≡ out.old.items ++ INTEGER ∷ formats.integer.spell number) }
@@ -199,7 +198,7 @@ fn push_truth(out: &mut Vec<u8>, truth: bool) -> Result<(), AllocError>
     Ok(())
 }
 
-// Appends the length of a text; where memory runs out, a part of it may stand after the old bytes.
+// Appends the length of a text; if memory runs out, a part of it may be after the old bytes.
 fn push_text_length(form: Form, out: &mut Vec<u8>, len: usize) -> Result<(), AllocError>
     requires { len ≤ longest_text form }
     ensures ok { OnOk result (out.new.items

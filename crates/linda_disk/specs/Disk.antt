@@ -1,4 +1,4 @@
--- What each call of a disk does to its view, and when a call reports a failure.
+-- Calls of a disk: what each does to its view, and when it reports a failure.
 use Rattle.std.specs.Prelude.{◌≡◌, ◌≢◌, ℕ, ◌+◌, ◌<◌, ◌≤◌, ◌⊎◌, List, length, take, Result, OnOk}
 use Rattle.std.specs.Prelude.{IsErrOf}
 use Rattle.linda_disk.specs.declared.fault.DiskFault.{DiskFault}
@@ -6,8 +6,8 @@ use Rattle.linda_disk.specs.declared.fault.DiskFault.TheVariants.{Device, Memory
 use Rattle.linda_disk.specs.View.{View, IsDurable, LeavesNoMore, Follows, Elapses}
 use Rattle.linda_disk.specs.Image.{overlay, TornWrite, TornCut}
 
--- The clock counts the calls that changed or synced the file: it goes on by one where the call was
--- done, and by one at most where it returns a fault.
+-- The clock counts the calls that changed or synced the file: it goes on by one if the call was
+-- done, and by one at most if it returns a fault.
 pub record Ticks {T : Type 0} (result : Result T DiskFault) (old new : View) : Type 0 where
   pub ok : OnOk result (new.moment ≡ old.moment + 1)
   pub most : new.moment ≤ old.moment + 1
@@ -34,7 +34,7 @@ pub record Cuts {T : Type 0} (n : ℕ) (result : Result T DiskFault) (old new : 
   pub time : Elapses old new
   pub clock : Ticks result old new
 
--- A sync. Where it fails, what a read gives is not promised to stay: a machine may drop what it had
+-- A sync. If it fails, what a read gives is not promised to stay: a machine may drop what it had
 -- not written.
 pub record Syncs {T : Type 0} (result : Result T DiskFault) (old new : View) : Type 0 where
   pub seen : OnOk result (new.seen ≡ old.seen)
@@ -43,20 +43,20 @@ pub record Syncs {T : Type 0} (result : Result T DiskFault) (old new : View) : T
   pub time : Elapses old new
   pub clock : Ticks result old new
 
--- The count of failures rises by one where the call reports a failure of the device, and stays
+-- The count of failures rises by one if the call reports a failure of the device, and stays
 -- elsewhere.
 pub record CountsFailure {T : Type 0} (result : Result T DiskFault) (old new : ℕ) : Type 0 where
   pub ok : OnOk result (new ≡ old)
   pub memory : IsErrOf result Memory → new ≡ old
   pub device : IsErrOf result Device → new ≡ old + 1
 
--- The fault says whether a device failed: where it is that of a device, the count of failures rose,
+-- The fault says whether a device failed: if it is that of a device, the count of failures rose,
 -- and with each other one it is as it was.
 pub record TellsFailures {F : Type 0} (device told : F) (old new : ℕ) : Type 0 where
   pub cause : told ≡ device → old < new
   pub others : told ≢ device → new ≡ old
 
--- The fault says whether one of two disks failed: where it is that of a device, the count of one of
+-- The fault says whether one of two disks failed: if it is that of a device, the count of one of
 -- them rose, and with each other fault both counts are as they were.
 pub record TellsFailuresOfTwo {F : Type 0} (device told : F)
     (old_left old_right new_left new_right : ℕ) : Type 0 where

@@ -1,5 +1,5 @@
--- What a disk in memory held at first and each call since, the newest first, and what follows from
--- it.
+-- History of a disk in memory: what it held at first and each call since, the newest first, and
+-- what follows from it.
 use Rattle.std.specs.Prelude.{◌≡◌, ℕ, ◌≤◌, ◌⊎◌, Bool, true, nat_le, ◌&&◌, List, [], ◌∷◌, length}
 use Rattle.std.specs.Prelude.{take, replicate}
 use Rattle.linda_disk.specs.declared.call.DeviceCall.{DeviceCall}
@@ -18,7 +18,7 @@ pub record History : Type 0 where
 abbrev pub after : DeviceCall → History → History
 after call h = record { first = h.first; calls = call ∷ h.calls }
 
--- What a call does to a file where it is done in full.
+-- What a call does to a file if it is done in full.
 abbrev pub done : DeviceCall → List ℕ → List ℕ
 done (Write at bytes) file = overlay at bytes file
 done (Cut n) file = take n file

@@ -1,5 +1,5 @@
--- What a read gives, and what the crashes of a disk in memory leave, are outcomes of a crash; and
--- moments are its calls.
+-- Laws of histories: what a read gives, and what the crashes of a disk in memory leave, are
+-- outcomes of a crash; and moments are its calls.
 use Rattle.std.proofs.Common.{◌≡◌, ℕ, zero, suc, ◌+◌, ◌≤◌, inl, inr, true, max, List, [], ◌∷◌, ◌++◌}
 use Rattle.std.proofs.Common.{length, take, drop, replicate, refl, ap, subst, ◌∙◌, arith}
 use Rattle.std.proofs.Common.{length-append, append_assoc, length-take, length-drop}

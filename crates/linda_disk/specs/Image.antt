@@ -1,5 +1,5 @@
--- What a write and a cut do to a file, and what a crash may make of them: each is a step from one
--- image to another.
+-- Images of a file: what a write and a cut do to it, and what a crash may make of them, each as a
+-- step from one image to another.
 use Rattle.std.specs.Prelude.{◌≡◌, ℕ, ◌+◌, ◌≤◌, max, min, List, ◌++◌, length, take, drop}
 
 -- The file with these bytes at this offset, over what was there and past the end.

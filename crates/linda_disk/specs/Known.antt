@@ -1,4 +1,4 @@
--- What is known of a file, as clauses speak of it.
+-- Knowledge of a file, as clauses speak of it.
 use Rattle.linda_disk.specs.declared.known.Known.{Known}
 use Rattle.linda_disk.specs.History.{History}
 use Rattle.linda_disk.specs.Past.{history_of}

@@ -37,7 +37,7 @@ answer_at Works = Ok tt
 answer_at Stops = Err Device
 answer_at Fails = Err Device
 
--- Where the machine stops inside a write or a cut, it is done in full. A sync in which it stops has
+-- If the machine stops inside a write or a cut, it is done in full. A sync in which it stops has
 -- not happened.
 abbrev pub history_at : Turn → DeviceCall → History → History
 history_at Works call h = after call h
@@ -46,13 +46,13 @@ history_at Stops (Cut n) h = after (Cut n) h
 history_at Stops Sync h = h
 history_at Fails call h = h
 
--- A call counts where it fails.
+-- A call counts if it fails.
 abbrev pub failures_at : Turn → ℕ → ℕ
 failures_at Works n = n
 failures_at Stops n = n + 1
 failures_at Fails n = n + 1
 
--- A call at this turn, which leaves this history: where memory runs out, all is as before.
+-- A call at this turn, which leaves this history: if memory runs out, all is as before.
 pub record GoesBy (turn : Turn × Trouble) (then : History) (result : Told) (old new : MemDisk)
     : Type 0 where
   pub memory : IsErrOf result Memory → new ≡ old

@@ -1,5 +1,4 @@
--- What the record of a file comes to: the bytes that it held when it was opened, and the calls
--- since.
+-- Record of a file: the bytes that it held when it was opened, and the calls since.
 use Rattle.std.specs.Prelude.{ℕ, zero, suc, List, [], ◌∷◌, ◌++◌}
 use Rattle.linda_disk.specs.declared.past.Spelling.{Spelling, fold-Spelling}
 use Rattle.linda_disk.specs.declared.past.Spelling.TheOpen.{Spelling-F}
@@ -29,7 +28,7 @@ history_step (Link-F.Wrote before at bytes) = after (Write at (bytes_of bytes.va
 history_step (Link-F.Cut before n) = after (Cut n) before.value
 history_step (Link-F.Synced before) = after Sync before.value
 
--- The history that a record tells.
+-- The history that a record says.
 abbrev pub history_of : Link → History
 history_of = fold-Link History history_step
 

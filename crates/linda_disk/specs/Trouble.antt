@@ -1,4 +1,4 @@
--- What is to go wrong on a disk in memory, and when.
+-- Troubles of a disk in memory: what is to go wrong, and when.
 use Rattle.std.specs.Prelude.{ℕ, zero, suc, Option, Some, None}
 use Rattle.linda_disk.specs.declared.trouble.Power.{Power}
 use Rattle.linda_disk.specs.declared.trouble.Power.TheVariants.{On, OnFor, Off}
@@ -6,14 +6,14 @@ use Rattle.linda_disk.specs.declared.trouble.Turn.{Turn}
 use Rattle.linda_disk.specs.declared.trouble.Turn.TheVariants.{Works, Stops, Fails}
 use Rattle.linda_disk.specs.declared.trouble.Trouble.{Trouble}
 
--- The turn of a call where the power is on: the one that is to fail once fails, and those before it
+-- The turn of a call if the power is on: the one that is to fail once fails, and those before it
 -- work.
 abbrev pub turn_with : Power → Option ℕ → Turn × Trouble
 turn_with power None = (Works, record { power = power; failing = None })
 turn_with power (Some zero) = (Fails, record { power = power; failing = None })
 turn_with power (Some (suc k)) = (Works, record { power = power; failing = Some k })
 
--- The turn of a length or a read: it fails where the power is off.
+-- The turn of a length or a read: it fails if the power is off.
 abbrev pub turn_of_read : Trouble → Turn × Trouble
 turn_of_read trouble = at_read trouble.power trouble.failing
   where
@@ -22,7 +22,7 @@ turn_of_read trouble = at_read trouble.power trouble.failing
     at_read (OnFor k) failing = turn_with (OnFor k) failing
     at_read Off failing = (Fails, record { power = Off; failing = failing })
 
--- The turn of a write, a cut or a sync: where no more of them pass, the power goes off inside this
+-- The turn of a write, a cut or a sync: if no more of them pass, the power goes off inside this
 -- one.
 abbrev pub turn_of_call : Trouble → Turn × Trouble
 turn_of_call trouble = at_call trouble.power trouble.failing

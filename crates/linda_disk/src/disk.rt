@@ -1,4 +1,4 @@
-//! A disk, as whoever keeps something on it sees it: what a read gives, and what a crash may leave.
+//! A disk, as its user sees it: what a read gives, and what a crash may leave.
 
 ghost use Rattle.std.specs.Prelude.{◌≡◌, ◌+◌, ◌≤◌, ◌↔◌, ℕ, length, take, drop, IfOk, OnOk};
 ghost use Rattle.linda_disk.specs.View.{View, IsTimed};
@@ -26,7 +26,7 @@ pub trait Disk: Drop {
     ///
     /// # Errors
     ///
-    /// `Device` where the device failed, which it counts.
+    /// `Device` if the device failed, which it counts.
     fn len(&mut self) -> Result<usize, DiskFault>
         ensures value { honest self.old → IfOk result (λ n. n ≡ length (view self.old).seen) }
         ensures keeps { honest self.old → Keeps (view self.old) (view self.new) }
@@ -38,7 +38,7 @@ pub trait Disk: Drop {
     ///
     /// # Errors
     ///
-    /// `Device` where the device failed, which it counts.
+    /// `Device` if the device failed, which it counts.
     fn read_at(&mut self, at: usize, buffer: &mut [u8]) -> Result<(), DiskFault>
         requires { honest self.old → at + length buffer.old ≤ length (view self.old).seen }
         ensures bytes { honest self.old
@@ -51,7 +51,7 @@ pub trait Disk: Drop {
     ///
     /// # Errors
     ///
-    /// `Device` where the device failed, which it counts: the write may be done, in part too.
+    /// `Device` if the device failed, which it counts: the write may be done, in part too.
     /// `Memory`.
     fn write_at(&mut self, at: usize, bytes: &[u8]) -> Result<(), DiskFault>
         requires { honest self.old → at ≤ length (view self.old).seen }
@@ -64,7 +64,7 @@ pub trait Disk: Drop {
     ///
     /// # Errors
     ///
-    /// `Device` where the device failed, which it counts: the cut may be done. `Memory`.
+    /// `Device` if the device failed, which it counts: the cut may be done. `Memory`.
     fn cut(&mut self, len: usize) -> Result<(), DiskFault>
         requires { honest self.old → len ≤ length (view self.old).seen }
         ensures cuts { honest self.old → Cuts len result (view self.old) (view self.new) }
@@ -75,7 +75,7 @@ pub trait Disk: Drop {
     ///
     /// # Errors
     ///
-    /// `Device` where the device failed, which it counts: some of it may be there. `Memory`.
+    /// `Device` if the device failed, which it counts: some of it may be there. `Memory`.
     fn sync(&mut self) -> Result<(), DiskFault>
         ensures syncs { honest self.old → Syncs result (view self.old) (view self.new) }
         ensures honest { honest self.old ↔ honest self.new }

@@ -1,4 +1,4 @@
-//! Why a call of a disk was not done.
+//! Faults of a disk's calls.
 
 ghost use Rattle.std.specs.Prelude.{◌≡◌};
 ghost use Rattle.linda_disk.specs.declared.fault.DiskFault.TheVariants.{Memory};
@@ -6,7 +6,7 @@ ghost use Rattle.linda_disk.specs.declared.fault.DiskFault.TheVariants.{Memory};
 use std::alloc::{AllocError, AllocFailed};
 use thiserror::Error;
 
-/// What a call of a disk returns where it was not done.
+/// What a call of a disk returns if it was not done.
 #[derive(Clone, Copy, Debug, PartialEq, Eq, Error)]
 pub enum DiskFault {
     /// The device failed, which it counts.

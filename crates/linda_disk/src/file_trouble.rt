@@ -1,4 +1,4 @@
-//! Why a file failed: which call of the system, and its error.
+//! Failures of a file: which call of the system, and its error.
 
 use std::io;
 

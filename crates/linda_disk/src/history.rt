@@ -66,7 +66,7 @@ impl History {
     ///
     /// # Errors
     ///
-    /// `AllocError` where memory runs out, and then all is as before.
+    /// `AllocError` if memory runs out, and then all is as before.
     pub(crate) fn make(&mut self, call: DeviceCall) -> Result<(), AllocError>
         ensures ok { OnOk result (self.new ≡ history.after call self.old) }
         ensures err { OnErr result (self.new ≡ self.old) }
@@ -86,7 +86,7 @@ impl History {
     ///
     /// # Errors
     ///
-    /// `AllocError` where memory runs out.
+    /// `AllocError` if memory runs out.
     pub(crate) fn crashed(&self, alloc: Global, torn: Torn) -> Result<History, AllocError>
         ensures { IfOk result (λ h. h ≡ record { first = history.left torn self.now; calls = [] }) }
     {

@@ -1,4 +1,4 @@
-//! What is known of a file with no call of the system.
+//! Facts known of a file without a call of the system.
 
 ghost use Rattle.std.specs.Prelude.{◌≡◌, ◌≤◌, [], true, length, take, IfOk, OnOk};
 ghost use Rattle.linda_disk.specs.History.{content, fits};

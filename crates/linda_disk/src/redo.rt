@@ -28,7 +28,7 @@ pub(crate) fn redone(
 ///
 /// # Errors
 ///
-/// `AllocError` where memory runs out, and then the file is as before.
+/// `AllocError` if memory runs out, and then the file is as before.
 pub(crate) fn redo(file: &mut Vec<u8>, call: &DeviceCall) -> Result<(), AllocError>
     ensures ok { OnOk result (file.new.items ≡ history.done call.now file.old.items) }
     ensures err { OnErr result (file.new.items ≡ file.old.items) }
@@ -68,7 +68,7 @@ fn fill(alloc: Global, file: &mut Vec<u8>, call: &DeviceCall, byte: u8) -> Resul
     Ok(())
 }
 
-/// How many calls there are up to the last sync, which is one of them: 0 where there was none.
+/// How many calls there are up to the last sync, which is one of them: 0 if there was none.
 pub(crate) fn settled_len(calls: &[DeviceCall]) -> usize
     ensures within { result ≤ length calls.now }
     ensures synced { (first : List ℕ) → history.content_from first (reverse (take result calls.now))

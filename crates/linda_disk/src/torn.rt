@@ -1,4 +1,4 @@
-//! How a disk in memory comes out of a crash.
+//! Torn writes: how a disk in memory comes out of a crash.
 
 /// What a crash leaves of what was not synced. Each of the three is an outcome that the model of a
 /// disk allows.

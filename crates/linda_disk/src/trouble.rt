@@ -1,4 +1,4 @@
-//! What is to go wrong on a disk in memory, and when.
+//! Troubles of a disk in memory: what is to go wrong, and when.
 
 ghost use Rattle.std.specs.Prelude.{◌≡◌, None};
 ghost use Rattle.linda_disk.specs.declared.trouble.Power.TheVariants.{On};
@@ -76,7 +76,7 @@ impl Trouble {
     }
 }
 
-/// How a call goes where the power is on, and what is to go wrong after it.
+/// How a call goes if the power is on, and what is to go wrong after it.
 fn turn_with(power: Power, failing: Option<u64>) -> (Turn, Trouble)
     ensures { result ≡ spec.turn_with power failing }
 {

@@ -1,4 +1,4 @@
-//! What a call returns at its turn, and how it counts.
+//! Turns of a disk's calls: what each returns, and how it counts.
 
 ghost use Rattle.std.specs.Prelude.{◌≡◌, ◌≢◌, ◌≤◌, ◌+◌, ◌^◌, if◌then◌else◌, IsTrue, IfOk, IfErr};
 ghost use Rattle.std.specs.Prelude.{OnErr};
@@ -20,7 +20,7 @@ pub(crate) fn told(turn: Turn) -> Result<(), DiskFault>
     }
 }
 
-/// Whether a call is done at this turn: where the machine stops inside a sync, it has not happened.
+/// Whether a call is done at this turn: if the machine stops inside a sync, it has not happened.
 pub(crate) fn is_done(turn: Turn, call: &DeviceCall) -> bool
     ensures history { (h : History)
         → history_at turn call.now h ≡ (if result then after call.now h else h) }
@@ -34,8 +34,7 @@ pub(crate) fn is_done(turn: Turn, call: &DeviceCall) -> bool
 }
 
 /// The count of failures after one more. A disk that has failed 2^64 - 1 times fails no more: it
-/// answers
-/// `Memory` in place of it, and the count never wraps.
+/// answers `Memory` in place of it, and the count never wraps.
 pub(crate) fn one_more(failures: u64) -> Result<u64, DiskFault>
     ensures ok { IfOk result (λ n. n ≡ failures + 1) }
     ensures err { IfErr result (λ fault. fault ≡ DiskFault.Memory) }

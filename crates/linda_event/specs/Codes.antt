@@ -1,4 +1,4 @@
--- How a base's kind and a tree are stored where a model's value holds one.
+-- Codes of a base's kind and of a tree, for a model's value that holds one.
 use Rattle.std.specs.Prelude.{◌≡◌, ℕ, ◌⊎◌, refl}
 use Rattle.std.specs.Coded.{Coded, code_by, coded⊎, coded_ℕ}
 use Rattle.std.proofs.Common.{inl, inr, ap}

@@ -13,7 +13,7 @@ is_ask (alarm time) = false
 is_ask (always value) = false
 is_ask never = false
 
--- Whether an event is nested too deeply: some leaf stands under more nodes than the limit.
+-- Whether an event is nested too deeply: some leaf is under more nodes than the limit.
 abbrev pub is_too_deep : Tree → Bool
 is_too_deep event = list_any (λ leaf. ltb MAX_DEPTH (length leaf.0)) (leaves event)
 

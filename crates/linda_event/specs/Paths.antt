@@ -1,23 +1,23 @@
--- The nodes of an event in tree order, and what stands above a base: its labels, and which nack
--- numbers are raised.
+-- The nodes of an event in tree order, and what is above a base: its labels, and which nack numbers
+-- are raised.
 use Rattle.std.specs.Prelude.{ℕ, ◌+◌, ◌==◌, Bool, true, false, ◌&&◌, not, List, [], ◌∷◌, ◌++◌}
 use Rattle.std.specs.Prelude.{Option, Some, None, option_map, map, filter, filter_map, reverse}
 use Rattle.std.specs.Prelude.{slice_get}
 use Rattle.linda_event.specs.Trees.{Kind, Tree, leaf, choose, wrap, nack, Trees, no_trees, and_tree}
 
--- What stands at a node.
+-- What is at a node.
 pub data Mark : Type 0 where
   at_base : Kind → Mark
   at_choice : Mark
   at_label : ℕ → Mark
   at_nack : ℕ → Mark
 
--- A place: the member numbers that lead there from the root. What stands under a label or a nack
--- number is its member 0.
+-- A place: the member numbers that lead there from the root. What is under a label or a nack number
+-- is its member 0.
 abbrev pub Place : Type 0
 Place = List ℕ
 
--- A node: its place, and what stands there.
+-- A node: its place, and what is there.
 pub record Node : Type 0 where
   pub place : Place
   pub mark : Mark
@@ -43,28 +43,28 @@ abbrev mutual
   member_nodes member no_trees = []
   member_nodes member (and_tree t ts) = map (under member) (nodes t) ++ member_nodes (member + 1) ts
 
--- the kind, where a base stands there
+-- the kind, if a base is there
 abbrev pub kind_at : Mark → Option Kind
 kind_at (at_base kind) = Some kind
 kind_at at_choice = None
 kind_at (at_label label) = None
 kind_at (at_nack number) = None
 
--- the label, where one stands there
+-- the label, if one is there
 abbrev pub label_at : Mark → Option ℕ
 label_at (at_base kind) = None
 label_at at_choice = None
 label_at (at_label label) = Some label
 label_at (at_nack number) = None
 
--- the nack number, where one stands there
+-- the nack number, if one is there
 abbrev pub nack_at : Mark → Option ℕ
 nack_at (at_base kind) = None
 nack_at at_choice = None
 nack_at (at_label label) = None
 nack_at (at_nack number) = Some number
 
--- the place and the kind, where a base stands there
+-- the place and the kind, if a base is there
 abbrev pub leaf_at : Node → Option (Place × Kind)
 leaf_at node = option_map (λ kind. (node.place, kind)) (kind_at node.mark)
 
@@ -86,7 +86,7 @@ leads_to [] place = true
 leads_to (m ∷ above) [] = false
 leads_to (m ∷ above) (n ∷ place) = (m == n) && leads_to above place
 
--- Whether the node is on the way to the place; no node is where there is no place.
+-- Whether the node is on the way to the place; no node is if there is no place.
 abbrev pub is_above : Option Place → Node → Bool
 is_above None node = false
 is_above (Some place) node = leads_to node.place place
@@ -112,10 +112,10 @@ abbrev pub labels : Tree → ℕ → List ℕ
 labels event number = reverse (labels_above (place_of event number) event)
 
 -- What a commitment to a base raises: the nack numbers of all nodes that are not above it, in tree
--- order. Where there is no base of this number, no node is above it.
+-- order. If there is no base of this number, no node is above it.
 abbrev pub raised : Tree → ℕ → List ℕ
 raised event number = nacks_beside (place_of event number) event
 
--- What is raised where nothing is chosen: all nack numbers of an event, in tree order.
+-- What is raised if nothing is chosen: all nack numbers of an event, in tree order.
 abbrev pub all_nacks : Tree → List ℕ
 all_nacks event = nacks_among (nodes event)

@@ -24,7 +24,7 @@ pub enum Base<'a> {
 ///
 /// # Errors
 ///
-/// `AllocError` where memory runs out.
+/// `AllocError` if memory runs out.
 pub fn bases<'a>(alloc: Global, event: &'a Event) -> Result<Vec<Base<'a>>, AllocError>
     ensures { IfOk result (λ v. map kind_of v.items ≡ bases_of (tree_of event.now)) }
 {

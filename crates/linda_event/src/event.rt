@@ -6,7 +6,7 @@ use linda_tuple::{Atom, Template};
 /// matches, a read copies one, an alarm is ready once the clock is there, a value is always ready,
 /// and `Never` never is. Of a choice at most one base is chosen. A label and a nack number leave
 /// the event under them as it is: labels say how to go on after a base below them, and a nack
-/// number is raised where what is chosen is not below it.
+/// number is raised if what is chosen is not below it.
 #[derive(Debug, Drop)]
 pub enum Event {
     Input(Template),

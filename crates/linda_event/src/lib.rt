@@ -1,13 +1,13 @@
 //! Events: what a client waits for, as trees whose leaves are bases.
 //!
 //! A base is an input, a read, an alarm, a value that is always ready, or nothing at all. Above the
-//! bases stand choices among members, labels and nack numbers. `check` keeps an event within its
+//! bases are choices among members, labels and nack numbers. `check` keeps an event within its
 //! limits; `bases` lists its leaves in tree order, which numbers them from 0, and `is_any_ready`
 //! says whether one of them is ready without a server. Once a client commits to a base, `labels_of`
 //! gives the labels above it, and `nacks_of` the nack numbers that are raised.
 //!
 //! Contracts see an event as a `Tree` of `specs/Trees`, which knows nothing of capacities or places
-//! in memory. `specs/Paths` says which nodes stand above a base.
+//! in memory. `specs/Paths` says which nodes are above a base.
 #![tactic(auto)]
 
 mod base;

@@ -1,4 +1,4 @@
-//! Whether an event is within its limits.
+//! Checks that an event is within its limits.
 
 ghost use Rattle.std.specs.Prelude.{◌≡◌, ◌↔◌, ◌+◌, min, length, ltb, true, count_by, IsOk, IsErrOf};
 ghost use Rattle.std.specs.List.{list_any};
@@ -14,7 +14,7 @@ use thiserror::Error;
 /// Why an event is refused. Its depth is judged first.
 #[derive(Clone, Copy, Debug, PartialEq, Eq, Error)]
 pub enum EventFault {
-    /// A leaf stands under more than 64 choices, labels and nack numbers.
+    /// A leaf is under more than 64 choices, labels and nack numbers.
     #[error("an event that is nested too deeply")]
     TooDeep,
     /// The event has more than 256 bases, or more than 64 of them are inputs or reads.
@@ -26,9 +26,9 @@ pub enum EventFault {
 ///
 /// # Errors
 ///
-/// `TooDeep` where a leaf stands under more than 64 choices, labels and nack numbers, however many
-/// stand above no leaf; else `TooManyBases` where the event has more than 256 bases, or more than
-/// 64 of them are inputs or reads.
+/// `TooDeep` if a leaf is under more than 64 choices, labels and nack numbers, however many are
+/// above no leaf; else `TooManyBases` if the event has more than 256 bases, or more than 64 of them
+/// are inputs or reads.
 pub fn check(event: &Event) -> Result<(), EventFault>
     ensures within { IsOk result ↔ IsWithinLimits (tree_of event.now) }
     ensures deep { IsErrOf result EventFault.TooDeep ↔ (is_too_deep (tree_of event.now) ≡ true) }
@@ -42,7 +42,7 @@ pub fn check(event: &Event) -> Result<(), EventFault>
     Ok(())
 }
 
-/// How many bases the event has, or `usize::MAX` where it has more. Takes no memory.
+/// How many bases the event has, or `usize::MAX` if it has more. Takes no memory.
 pub fn base_count(event: &Event) -> usize
     ensures { result ≡ min (length (bases_of (tree_of event.now))) usize.MAX }
 {
@@ -60,8 +60,8 @@ pub fn base_count(event: &Event) -> usize
     }
 }
 
-/// How many of the event's bases are inputs or reads, or `usize::MAX` where there are more. Takes
-/// no memory.
+/// How many of the event's bases are inputs or reads, or `usize::MAX` if there are more. Takes no
+/// memory.
 pub fn ask_count(event: &Event) -> usize
     ensures { result ≡ min (count_by is_ask (bases_of (tree_of event.now))) usize.MAX }
 {
@@ -81,8 +81,7 @@ pub fn ask_count(event: &Event) -> usize
     }
 }
 
-// Whether some leaf of the event stands under more than 64 nodes, of which so many are above the
-// event.
+// Whether some leaf of the event is under more than 64 nodes, of which so many are above the event.
 fn is_deep(event: &Event, above: usize) -> bool
     ensures { result ≡ list_any (λ leaf. ltb MAX_DEPTH (above + length leaf.0))
         (leaves (tree_of event.now)) }

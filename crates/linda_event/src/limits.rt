@@ -1,6 +1,6 @@
-//! How large an event may be.
+//! Limits of an event's size.
 
-/// The most choices, labels and nack numbers that may stand above a leaf.
+/// The most choices, labels and nack numbers that may be above a leaf.
 pub const MAX_DEPTH: usize = 64;
 
 /// The most bases of an event.

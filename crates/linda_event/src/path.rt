@@ -1,4 +1,4 @@
-//! What stands above a base: its labels, and the nack numbers that are raised.
+//! Paths to a base: its labels, and the nack numbers that are raised.
 
 ghost use Rattle.std.specs.Prelude.{◌≡◌, ◌++◌, not, map, filter, option_map, IfOk};
 ghost use Rattle.linda_event.specs.Trees.{tree_of};
@@ -9,12 +9,12 @@ ghost use Rattle.linda_event.specs.Ways.{IsFound, leaf_under, way_under};
 use crate::event::Event;
 use std::alloc::{AllocError, Global};
 
-/// The labels above the base of this number, innermost first; none where there is no such base.
-/// Time is linear in the event.
+/// The labels above the base of this number, innermost first; none if there is no such base. Time
+/// is linear in the event.
 ///
 /// # Errors
 ///
-/// `AllocError` where memory runs out.
+/// `AllocError` if memory runs out.
 pub fn labels_of(alloc: Global, event: &Event, base: usize) -> Result<Vec<u64>, AllocError>
     ensures { IfOk result (λ v. v.items ≡ labels (tree_of event.now) base) }
 {
@@ -26,12 +26,12 @@ pub fn labels_of(alloc: Global, event: &Event, base: usize) -> Result<Vec<u64>, 
 }
 
 /// What a commitment to the base of this number raises: the numbers of all nack nodes that are not
-/// above it, one for each node, in tree order, a node before those below it. Where there is no such
+/// above it, one for each node, in tree order, a node before those below it. If there is no such
 /// base, all of them. Time is linear in the event.
 ///
 /// # Errors
 ///
-/// `AllocError` where memory runs out.
+/// `AllocError` if memory runs out.
 pub fn nacks_of(alloc: Global, event: &Event, base: usize) -> Result<Vec<u64>, AllocError>
     ensures { IfOk result (λ v. v.items ≡ raised (tree_of event.now) base) }
 {
@@ -41,12 +41,12 @@ pub fn nacks_of(alloc: Global, event: &Event, base: usize) -> Result<Vec<u64>, A
     Ok(found)
 }
 
-/// What is raised where nothing is chosen: the numbers of all nack nodes, one for each node, in
-/// tree order, a node before those below it.
+/// What is raised if nothing is chosen: the numbers of all nack nodes, one for each node, in tree
+/// order, a node before those below it.
 ///
 /// # Errors
 ///
-/// `AllocError` where memory runs out.
+/// `AllocError` if memory runs out.
 pub fn all_nacks(alloc: Global, event: &Event) -> Result<Vec<u64>, AllocError>
     ensures { IfOk result (λ v. v.items ≡ all_nacks (tree_of event.now)) }
 {

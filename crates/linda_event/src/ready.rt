@@ -1,4 +1,4 @@
-//! What is ready without a server.
+//! Readiness without a server.
 
 ghost use Rattle.std.specs.Prelude.{◌≡◌};
 ghost use Rattle.std.specs.List.{list_any};

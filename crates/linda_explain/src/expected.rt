@@ -1,4 +1,4 @@
-//! What a text could go on with at a place.
+//! Expectations at a place: what a text could go on with there.
 
 use crate::reading::{Kind, Reading, read};
 use std::alloc::{AllocError, Global};

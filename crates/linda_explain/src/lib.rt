@@ -1,4 +1,4 @@
-//! Where a line of the input is no command, and what was expected there.
+//! Explanations of lines that are no commands: where each goes wrong, and what was expected there.
 //!
 //! - A `Keeper` is a reader that keeps the lines that it gave last, so that the one with a fault can
 //!   be looked at.

@@ -1,4 +1,4 @@
-//! How far a text of a tuple or an event is read.
+//! Readings of a tuple or an event: how far a text was read.
 
 use linda_shell_text::{EventTextFault, read_event};
 use linda_text::{TextFault, read_tuple};

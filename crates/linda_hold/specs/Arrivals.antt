@@ -1,4 +1,4 @@
--- Which number is the next one, of those that are to be looked at in order of arrival, and which
+-- Arrivals of requests: which number is the next one of those that are to be looked at, and which
 -- waits are still to be looked at.
 use Rattle.std.specs.Prelude.{◌≡◌, ℕ, ◌≤◌, ◌<◌, nat_le, Bool, true, false, List, Option, None, Some, filter}
 use Rattle.std.specs.Map.{values_of}

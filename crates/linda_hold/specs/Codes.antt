@@ -1,4 +1,4 @@
--- How a wait is stored where a model's value holds one.
+-- Code of a wait, for a model's value that holds one.
 use Rattle.std.specs.Prelude.{Bool, refl}
 use Rattle.std.specs.Coded.{Coded, code_by, coded×, coded_bool}
 use Rattle.linda_tuple.specs.Template.{Template}

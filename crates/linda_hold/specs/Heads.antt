@@ -1,4 +1,4 @@
--- Which requests a tuple may answer: those that ask for its tag and its number of fields and, if
+-- Heads of requests: a tuple may answer those that ask for its tag and its number of fields and, if
 -- their template has a value, for the field that is where the first one is.
 use Rattle.std.specs.Prelude.{ℕ, Bool, Option, length}
 use Rattle.linda_tuple.specs.declared.atom.Atom.{Atom}
@@ -11,7 +11,7 @@ use Rattle.linda_hold.specs.declared.positions.Positions.{Positions}
 use Rattle.linda_hold.specs.Positions.{HasPositions, is_met}
 use Rattle.linda_hold.specs.Waits.{Wait}
 
--- The wait under each number, where there is one.
+-- The wait under each number, if there is one.
 abbrev pub Waiting : Type 0
 Waiting = Rows Wait
 

@@ -9,7 +9,7 @@ use Rattle.linda_hold.specs.declared.long.LongHold.{LongHold}
 abbrev pub HeldFor : Type 0
 HeldFor = map.FinMap nat_cmp Request
 
--- The id of the tuple that is held for a request; none where nothing is held for it.
+-- The id of the tuple that is held for a request; none if nothing is held for it.
 abbrev pub IsHeldAt : HeldFor → Request → Option ℕ → Type 0
 IsHeldAt holds request (Some id) = map.get holds id ≡ Some request
 IsHeldAt holds request None = (id : ℕ) → map.get holds id ≡ Some request → ⊥

@@ -1,5 +1,5 @@
--- How the requests that wait are found: by themselves, by their client, and by the head of what
--- they ask for.
+-- Index of the requests that wait: by themselves, by their client, and by the head of what they ask
+-- for.
 use Rattle.std.specs.Prelude.{Option, None, Some}
 use Rattle.std.specs.Option.{option_map}
 use Rattle.linda_bag.specs.Filing.{Rows}

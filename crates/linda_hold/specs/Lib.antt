@@ -11,3 +11,4 @@ pub mod Group
 pub mod Positions
 pub mod Keys
 pub mod Numbered
+pub mod Ages

@@ -1,4 +1,4 @@
--- How requests that have a number are found: by their client and, there, by their ticket.
+-- Named requests, which have a number: found by their client and, there, by their ticket.
 use Rattle.std.specs.Prelude.{◌≡◌, ◌≢◌, ℕ, Option, None, Some, length}
 use Rattle.std.specs.Ordering.{nat_cmp}
 use Rattle.std.specs.BTreeMap as tree
@@ -34,7 +34,7 @@ number_in (Some tickets) ticket = tree.get nat_cmp tickets ticket
 abbrev pub number_at : Clients → Request → Option ℕ
 number_at clients request = number_in (tree.get nat_cmp clients request.client) request.ticket
 
--- No client stands there without a ticket.
+-- No client is there without a ticket.
 abbrev pub AreUsed : Clients → Type 0
 AreUsed clients =
     (client : ℕ) (tickets : Tickets)

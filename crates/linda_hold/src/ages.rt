@@ -1,6 +1,9 @@
 //! Since when each of some numbers is there.
 
-ghost use Rattle.std.specs.Prelude.{◌≤◌, IfOk, length};
+ghost use Rattle.std.specs.Prelude.{◌≡◌, ◌<◌, ℕ, [], None, IfOk, max, take};
+ghost use Rattle.std.specs.List.{flat_map};
+ghost use Rattle.linda_hold.specs.Ages.{IsForgotten, IsNoted, age_at, aged_at, in_order};
+ghost use Rattle.linda_hold.specs.Ages.{oldest_of};
 
 use std::alloc::{AllocError, Global};
 use std::collections::BTreeMap;
@@ -9,7 +12,8 @@ use std::collections::BTreeMap;
 /// outside, and never fall. Until one is set nothing is noted, which takes no memory and one
 /// comparison.
 ///
-/// It is for people who look on: no contract sees it, and no answer of a server depends on it.
+/// It is for people who look on: no contract of this crate's callers sees it, and no answer of a
+/// server depends on it.
 #[derive(Drop)]
 pub(crate) struct Ages {
     // The present second; 0 until one is set.
@@ -38,7 +42,11 @@ pub(crate) struct Age {
 
 impl Ages {
     /// Nothing is noted, and no second is set.
-    pub(crate) fn none(alloc: Global) -> Ages {
+    pub(crate) fn none(alloc: Global) -> Ages
+        ensures second { result.second ≡ 0 }
+        ensures none { (number : ℕ) → age_at result number ≡ None }
+        ensures order { in_order result ≡ [] }
+    {
         Ages {
             second: 0,
             noted: BTreeMap::new(alloc),
@@ -48,13 +56,18 @@ impl Ages {
     }
 
     /// Sets the present second. An earlier one than before changes nothing.
-    pub(crate) fn set_second(&mut self, second: u64) {
+    pub(crate) fn set_second(&mut self, second: u64)
+        ensures { self.new ≡ record self.old { second = max self.old.second second } }
+    {
         self.second = self.second.max(second);
     }
 
     /// Notes the number in the present second, also if it was noted before. If memory runs out, it
     /// is not noted.
-    pub(crate) fn note(&mut self, number: u64) {
+    pub(crate) fn note(&mut self, number: u64)
+        ensures unset { self.old.second ≡ 0 → self.new ≡ self.old }
+        ensures noted { 0 < self.old.second → IsNoted self.old self.new number }
+    {
         if self.second == 0 {
             return;
         }
@@ -74,7 +87,10 @@ impl Ages {
     }
 
     /// Notes the number no more.
-    pub(crate) fn forget(&mut self, number: u64) {
+    pub(crate) fn forget(&mut self, number: u64)
+        ensures unset { self.old.second ≡ 0 → self.new ≡ self.old }
+        ensures forgotten { 0 < self.old.second → IsForgotten self.old self.new number }
+    {
         if self.second == 0 {
             return;
         }
@@ -84,14 +100,18 @@ impl Ages {
     }
 
     /// How many seconds ago the number was noted; nothing if it is not.
-    pub(crate) fn age(&self, number: u64) -> Option<u64> {
+    pub(crate) fn age(&self, number: u64) -> Option<u64>
+        ensures { result ≡ age_at self.now number }
+    {
         let noted = self.noted.get(&number).copied()?;
         Some(self.second.saturating_sub(noted.second))
     }
 
     /// How many seconds ago the number was noted that is noted for longest. It walks over none of
     /// them.
-    pub(crate) fn oldest(&self) -> Option<u64> {
+    pub(crate) fn oldest(&self) -> Option<u64>
+        ensures { result ≡ oldest_of self.now }
+    {
         let (_, number) = self.order.first_key_value()?;
         self.age(*number)
     }
@@ -103,7 +123,8 @@ impl Ages {
     ///
     /// `AllocError` if memory runs out.
     pub(crate) fn longest(&self, alloc: Global, most: usize) -> Result<Vec<Age>, AllocError>
-        ensures { IfOk result (λ found. length found.items ≤ most) }
+        ensures { IfOk result (λ found.
+            found.items ≡ take most (flat_map (aged_at self.now) (in_order self.now))) }
     {
         let mut found = Vec::new(alloc);
         for number in self.order.values() {

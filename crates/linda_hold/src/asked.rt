@@ -1,4 +1,4 @@
-//! What a request asks of the space.
+//! Templates of requests: what is asked of the space, and whether to take it.
 
 ghost use Rattle.std.specs.Prelude.{◌≡◌, ◌&&◌, not};
 ghost use Rattle.std.specs.Option.{option_copied, option_map};

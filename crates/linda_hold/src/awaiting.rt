@@ -45,7 +45,7 @@ pub(crate) fn is_answering_one(mut waits: Arrivals<'_>, tuple: &Tuple) -> bool
 ///
 /// # Errors
 ///
-/// `AllocError` where memory runs out.
+/// `AllocError` if memory runs out.
 pub(crate) fn awaiting_among(
     alloc: Global,
     mut waits: Arrivals<'_>,

@@ -150,7 +150,7 @@ impl Holds {
     ///
     /// # Errors
     ///
-    /// `AllocError` where memory runs out.
+    /// `AllocError` if memory runs out.
     pub fn ids(&self, alloc: Global) -> Result<BTreeSet<u64>, AllocError>
         ensures { IfOk result (λ ids. (id : ℕ)
             → set.contains nat_cmp ids id ≡ is_some (map.get self.now id)) }
@@ -162,11 +162,11 @@ impl Holds {
         Ok(ids)
     }
 
-    /// The ids that are held for the client, rising. It looks at the holds of this client alone.
+    /// The ids that are held for the client, rising. It looks only at the holds of this client.
     ///
     /// # Errors
     ///
-    /// `AllocError` where memory runs out.
+    /// `AllocError` if memory runs out.
     pub fn of_client(&self, alloc: Global, client: u32) -> Result<Vec<u64>, AllocError>
         ensures { IfOk result (λ v. v.items ≡ held_in client (map.entries self.now)) }
     {
@@ -186,7 +186,7 @@ impl Holds {
     ///
     /// # Errors
     ///
-    /// `AllocError` where memory runs out, and then the holds are as before.
+    /// `AllocError` if memory runs out, and then the holds are as before.
     pub fn insert(&mut self, id: u64, request: Request) -> Result<(), AllocError>
         requires { IsHeldAt self.old request None }
         ensures ok { OnOk result (self.new ≡ map.insert self.old id request) }
@@ -209,7 +209,7 @@ impl Holds {
         }
     }
 
-    /// Lets the tuple be held for nobody; where it is not held, nothing changes.
+    /// Lets the tuple be held for nobody; if it is not held, nothing changes.
     pub fn remove(&mut self, id: u64)
         ensures { self.new ≡ map.remove self.old id }
     {

@@ -1,4 +1,4 @@
-//! How requests that wait are found: by themselves, by their client, and by what they ask for.
+//! Index of the requests that wait: by themselves, by their client, and by what they ask for.
 
 ghost use Rattle.std.specs.Prelude.{◌≡◌, None, Some, OnOk, OnErr};
 ghost use Rattle.linda_bag.specs.Filing.{no_rows, Refiles};
@@ -33,7 +33,7 @@ impl Index {
     ///
     /// # Errors
     ///
-    /// `AllocError` where memory runs out, and then each wait is found as before.
+    /// `AllocError` if memory runs out, and then each wait is found as before.
     pub(crate) fn put(&mut self, alloc: Global, number: u64, wait: &Wait) -> Result<(), AllocError>
         requires { number_at self.old.names.by_client wait.now.0 ≡ None }
         ensures ok { OnOk result (Refiles (HasWaits self.old) (HasWaits self.new)

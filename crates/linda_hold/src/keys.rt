@@ -1,4 +1,4 @@
-//! How the numbers of arrival are hashed.
+//! Keys of the hash of arrival numbers.
 
 ghost use Rattle.linda_hold.specs.Keys.{first_state};
 

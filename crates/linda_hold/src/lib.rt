@@ -1,5 +1,5 @@
-//! What a server keeps for its clients besides their replies: who waits for a tuple, and which
-//! tuples are held for whom.
+//! Waits and holds, which a server keeps for its clients beside their replies: who waits for a
+//! tuple, and which tuples are held for whom.
 //!
 //! A `Request` is named by its client and its ticket. `Waits` has the requests that no tuple has
 //! answered yet, in order of arrival, and `Holds` says which tuples were offered to a request and

@@ -1,4 +1,4 @@
-//! What waits or is held for long.
+//! Long waits and long holds.
 
 use crate::asked::Asked;
 use crate::request::Request;

@@ -54,7 +54,7 @@ impl Names {
         }
     }
 
-    /// The least ticket of the client's requests; nothing where it has none.
+    /// The least ticket of the client's requests; nothing if it has none.
     pub(crate) fn first_ticket(&self, client: u32) -> Option<u64>
         ensures some { IfSome result (λ ticket.
             IsSome (number_at self.now.by_client (request_of client ticket))) }
@@ -74,7 +74,7 @@ impl Names {
     ///
     /// # Errors
     ///
-    /// `AllocError` where memory runs out.
+    /// `AllocError` if memory runs out.
     pub(crate) fn of_client(&self, alloc: Global, client: u32) -> Result<BTreeSet<u64>, AllocError>
         ensures { IfOk result (λ numbers. (requests : Requests) → HasNames self.now requests
             → HasIds numbers (rows_at nat_cmp client_of client requests)) }
@@ -89,7 +89,7 @@ impl Names {
     ///
     /// # Errors
     ///
-    /// `AllocError` where memory runs out, and then each request has its number as before.
+    /// `AllocError` if memory runs out, and then each request has its number as before.
     pub(crate) fn put(
         &mut self,
         alloc: Global,
@@ -111,7 +111,7 @@ impl Names {
         Ok(())
     }
 
-    /// Takes the number from the request; where it has none, nothing changes.
+    /// Takes the number from the request; if it has none, nothing changes.
     pub(crate) fn remove(&mut self, request: Request)
         ensures gone { Sets (number_at self.old.by_client) (number_at self.new.by_client)
             request None }

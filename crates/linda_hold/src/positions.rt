@@ -111,8 +111,8 @@ fn next_at(
     }
 }
 
-// Files the number by the request `new`, whose first value is at this position, where it was filed
-// by `old`, if at all.
+// Files the number by the request `new`, whose first value is at this position, and no more by
+// `old`, if it was filed by that.
 fn put_later<'a>(
     later: &mut BTreeMap<usize, Group>,
     alloc: Global,
@@ -152,7 +152,7 @@ fn remove_later<'a>(later: &mut BTreeMap<usize, Group>, id: u64, old: Option<&'a
 }
 
 // Files the number by the request `new`, whose template begins with its first value or has none,
-// where it was filed by `old`, if at all.
+// and no more by `old`, if it was filed by that.
 fn put_early<'a>(
     early: &mut Group,
     alloc: Global,

@@ -1,6 +1,6 @@
 //! The requests that wait for a tuple.
 
-ghost use Rattle.std.specs.Prelude.{◌≡◌, ◌≤◌, ℕ, ◌+◌, ◌++◌, ◌∷◌, [], None, cond, false, true};
+ghost use Rattle.std.specs.Prelude.{◌≡◌, ◌≤◌, ℕ, ◌+◌, ◌^◌, ◌++◌, ◌∷◌, [], None, cond, false, true};
 ghost use Rattle.std.specs.Prelude.{All, filter, length, map, nat_eq};
 ghost use Rattle.std.specs.Prelude.{IfOk, OnOk, OnErr, IfSome, IfNone};
 ghost use Rattle.std.specs.Option.{option_map};
@@ -120,7 +120,7 @@ impl Waits {
         Ok(found)
     }
 
-    // Puts the request of this age behind the others, if it waits.
+    // Puts the request of this age after the others, if it waits.
     fn push_aged(
         &self,
         alloc: Global,
@@ -185,8 +185,8 @@ impl Waits {
     ///
     /// # Errors
     ///
-    /// `AllocError` where memory runs out, or the numbers do, which takes 2^64 arrivals; and then
-    /// the waits are as before and what was asked is dropped.
+    /// `AllocError` if memory runs out, or the numbers do, which takes 2^64 arrivals; and then the
+    /// waits are as before and what was asked is dropped.
     pub fn add(&mut self, request: Request, asked: Asked) -> Result<(), AllocError>
         requires { is_waiting request self.old ≡ false }
         ensures ok { OnOk result (self.new ≡ self.old ++ (request, asked) ∷ []) }
@@ -209,7 +209,7 @@ impl Waits {
         }
     }
 
-    /// Takes out the request; where it does not wait, nothing changes. The others keep their order.
+    /// Takes out the request; if it does not wait, nothing changes. The others keep their order.
     /// Takes no memory, and walks over nobody's waits.
     pub fn remove(&mut self, request: Request)
         ensures { self.new ≡ without request self.old }
@@ -223,7 +223,7 @@ impl Waits {
     }
 
     /// Takes out all waits of the client. The others keep their order. Takes no memory, and walks
-    /// over the client's own waits alone.
+    /// only over the client's own waits.
     pub fn remove_client(&mut self, client: u32)
         ensures { self.new ≡ without_client client self.old }
     {
@@ -232,7 +232,7 @@ impl Waits {
         }
     }
 
-    // The least ticket of the client's requests that wait; nothing where none does.
+    // The least ticket of the client's requests that wait; nothing if none does.
     fn first_ticket(&self, client: u32) -> Option<u64>
         ensures waits { IfSome result (λ ticket.
             is_waiting (request_of client ticket) self.now ≡ true) }
@@ -246,7 +246,7 @@ impl Waits {
     ///
     /// # Errors
     ///
-    /// `AllocError` where memory runs out, and then the waits are as before.
+    /// `AllocError` if memory runs out, and then the waits are as before.
     pub fn take_readers(&mut self, alloc: Global, tuple: &Tuple) -> Result<Vec<Request>, AllocError>
         ensures found { IfOk result (λ v. v.items ≡ map (λ w. w.0) (readers tuple.now self.old)) }
         ensures left { OnOk result (self.new ≡ without_readers tuple.now self.old) }
@@ -259,11 +259,11 @@ impl Waits {
     /// Takes out the reads that the tuple answers, and gives them in order of arrival, with the
     /// input that has waited longest of those that the tuple answers: it waits still. The others
     /// keep their order. It goes once through the requests that the tuple may answer, and takes no
-    /// memory where it answers no read.
+    /// memory if it answers no read.
     ///
     /// # Errors
     ///
-    /// `AllocError` where memory runs out, and then the waits are as before.
+    /// `AllocError` if memory runs out, and then the waits are as before.
     pub fn take_awaiting(&mut self, alloc: Global, tuple: &Tuple) -> Result<Awaiting, AllocError>
         ensures readers { IfOk result (λ a.
             a.readers.items ≡ map (λ w. w.0) (readers tuple.now self.old)) }
@@ -339,7 +339,8 @@ fn take_out(by_arrival: &mut IndexMap<u64, Wait, Keys>, number: u64) -> Option<W
 
 // The number of the one that arrives next after that of this number.
 fn number_after(number: u64) -> Result<u64, AllocError>
-    ensures { IfOk result (λ next. next ≡ number + 1) }
+    ensures ok { IfOk result (λ next. next ≡ number + 1) }
+    ensures err { OnErr result (2 ^ 64 ≤ number + 1) }
 {
     number.checked_add(1).ok_or(AllocError)
 }

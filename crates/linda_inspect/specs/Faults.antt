@@ -1,4 +1,4 @@
--- What is reported of two banks that no server opens.
+-- Faults of two banks that no server opens.
 use Rattle.std.specs.Prelude.{◌≡◌, ◌⊎◌, ℕ, List}
 use Rattle.linda_store_state.specs.State.{State}
 use Rattle.linda_disk.specs.declared.fault.DiskFault.{DiskFault}

@@ -1,4 +1,4 @@
--- What a state keeps, as JSON.
+-- JSON of what a state keeps.
 use Rattle.std.specs.Prelude.{◌≡◌, ℕ, ◌==◌, ◌+◌, ◌-◌, ◌/◌, ◌%◌, nat_lt, List, [], ◌∷◌, ◌++◌, codes}
 use Rattle.std.specs.Prelude.{Bool, Vec, true, false, if◌then◌else◌}
 use Rattle.std.specs.declared.alloc.Global.{Global}

@@ -1,4 +1,4 @@
--- What two banks come to, as one JSON object.
+-- Object of JSON for what two banks come to.
 use Rattle.std.specs.Prelude.{◌≡◌, ℕ, ◌+◌, ◌==◌, ◌&&◌, ◌⊎◌, Bool, true, false, if◌then◌else◌}
 use Rattle.std.specs.Prelude.{List, [], ◌++◌, length, codes}
 use Rattle.linda_tuple.specs.declared.form.Form.{Form}

@@ -1,4 +1,4 @@
-//! Why no bank stands, or why that was not reported to its end.
+//! Faults of an inspection: why no bank is in use, or why it was not reported to the end.
 
 ghost use Rattle.std.specs.Prelude.{◌≡◌};
 ghost use Rattle.linda_inspect.specs.Faults.{fault_of_choice, fault_of_disk, fault_of_output};

@@ -1,4 +1,4 @@
-//! What two banks come to, as one JSON object.
+//! JSON object of what two banks come to.
 
 mod head;
 mod listing;

@@ -1,11 +1,11 @@
-//! What the two banks of a store come to, read from their bytes alone and with no write: which one
-//! stands and why, its form, how much it keeps and takes, its tuples and clients; or what is
-//! damaged, and what is whole before that.
+//! Inspection of the two banks of a store, by their bytes only and without a write: which one is in
+//! use and why, its form, how much it keeps and takes, its tuples and clients; or what is damaged,
+//! and what is whole before that.
 //!
 //! `write_report` writes lines, and `write_json` one JSON object; `push_json_..` is for others that
-//! write values as it does. Each ends well exactly where a
-//! server would open such banks, unless memory runs out or the output fails: where a state stands
-//! on them, or both are empty. Else it returns the fault that the server would return.
+//! write values as it does. Each ends well exactly if a server would open such banks, unless memory
+//! runs out or the output fails: if they have a state, or both are empty. Else it returns the fault
+//! that the server would return.
 #![tactic(auto)]
 
 mod fault;

@@ -1,4 +1,4 @@
-//! What a state keeps, as lines.
+//! Lines of the tuples and clients that a state keeps.
 
 use crate::fault::OutputFault;
 use crate::output::write_lines;

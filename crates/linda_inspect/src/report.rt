@@ -1,4 +1,4 @@
-//! What two banks come to, line by line.
+//! Report on two banks, line by line.
 
 ghost use Rattle.std.specs.Prelude.{◌≡◌, ◌⊎◌, [], IfErr, OnOk};
 ghost use Rattle.linda_store_state.specs.State.{State};

@@ -1,4 +1,4 @@
-//! What the file of one bank begins with, in a line.
+//! Lines of the sides: what the file of one bank begins with.
 
 use linda_journal::{Heading, read_heading};
 use linda_tuple::Form;

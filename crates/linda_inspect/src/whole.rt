@@ -1,4 +1,4 @@
-//! What is whole before a damage.
+//! Whole front of a damaged bank.
 
 ghost use Rattle.std.specs.Prelude.{◌≡◌, ◌∷◌, ◌++◌, [], IfOk, IfSome};
 ghost use Rattle.linda_store_state.specs.State.{IsState};

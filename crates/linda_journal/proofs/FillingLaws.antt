@@ -96,19 +96,26 @@ module _ (form : Form) (generation : ℕ) (body : List ℕ) (rs : List (List Dee
 
 -- ---- the last bytes
 
+-- With them the new bank has so many bytes behind its first gate.
+pub last_long : (generation : ℕ) (body : List ℕ) (rs : List (List Deed)) (front bytes : List ℕ) → IsLast generation body rs front bytes → length front + length bytes ≡ MIN_BYTES + length body + length (spell_records written rs)
+last_long generation body rs front bytes last =
+    let behind = behind_gate written generation body in
+    let all = behind ++ spell_records written rs in
+    let long : length (front ++ bytes) ≡ length all + 1 = ap length last.parts ∙ length-append all (CLOSED ∷ []) in
+    let head : length behind + 1 ≡ MIN_BYTES + length body = omega (arith, front_length written generation body, length-append behind (CLOSED ∷ [])) in
+    let joined : length all ≡ length behind + length (spell_records written rs) = length-append behind (spell_records written rs) in
+    omega (arith, long, head, joined, length-append front bytes)
+
 -- Behind its closed first gate the new bank is whole then.
 pub last_whole : (generation : ℕ) (body : List ℕ) (rs : List (List Deed)) (front bytes : List ℕ) (at end : ℕ) (v : View) → IsLast generation body rs front bytes → IsFilled (front ++ bytes) at v → end + 1 ≡ at → IsWholeWith written generation body rs end v
 last_whole generation body rs front bytes at end v last filled end_is =
     let all = behind_gate written generation body ++ spell_records written rs in
-    let long : length (front ++ bytes) ≡ length all + 1 = ap length last.parts ∙ length-append all (CLOSED ∷ []) in
-    let behind : length (behind_gate written generation body ++ spell_records written rs) ≡ length (behind_gate written generation body) + length (spell_records written rs) = length-append (behind_gate written generation body) (spell_records written rs) in
-    let head : length (behind_gate written generation body) + 1 ≡ MIN_BYTES + length body = omega (arith, front_length written generation body, length-append (behind_gate written generation body) (CLOSED ∷ [])) in
     record {
       low = last.low;
       fits = last.fits;
       short = last.short;
       good = last.good;
-      place = omega (arith, end_is, filled.place, long, behind, head);
+      place = omega (arith, end_is, filled.place, length-append front bytes, last_long generation body rs front bytes last);
       ready = filled_ready all at v (subst (λ l. IsFilled l at v) last.parts filled);
     }
 

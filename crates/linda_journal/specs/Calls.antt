@@ -1,4 +1,4 @@
--- What the calls of a bank come to: it is opened, or a record is added to it.
+-- Calls of a bank: it is opened, or a record is added to it.
 use Rattle.std.specs.Prelude.{◌≡◌, ◌≢◌, ℕ, ◌+◌, ◌<◌, ◌≤◌, ◌⊎◌, ◌↔◌, true, false, List, [], ◌∷◌}
 use Rattle.std.specs.Prelude.{◌++◌, All, length}
 use Rattle.std.specs.Prelude.{Result, IfOk, IfErr, OnOk, IsErrOf}

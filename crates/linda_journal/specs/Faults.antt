@@ -1,4 +1,4 @@
--- What a bank returns for a disk's faults.
+-- Faults of a bank for those of its disk.
 use Rattle.linda_disk.specs.declared.fault.DiskFault.{DiskFault}
 use Rattle.linda_disk.specs.declared.fault.DiskFault.TheVariants as device
 use Rattle.linda_journal.specs.declared.fault.BankFault.{BankFault}

@@ -1,4 +1,4 @@
--- A gate on a disk: what stands before it, whether it is closed, and what stands after it.
+-- A gate on a disk: what is before it, whether it is closed, and what is after it.
 use Rattle.std.specs.Prelude.{◌≡◌, ◌≢◌, ◌≤◌, ℕ, ◌⊎◌, List, [], ◌∷◌, ◌++◌, length}
 use Rattle.linda_disk.specs.View.{View, IsDurable}
 use Rattle.linda_journal.specs.declared.kinds.TheConstants.{OPEN, CLOSED}

@@ -1,4 +1,4 @@
--- What a bank begins with.
+-- Headings, the first bytes of a bank.
 use Rattle.std.specs.Prelude.{◌≡◌, ℕ, ◌<◌, ◌≤◌, ◌^◌, List, length}
 use Rattle.linda_tuple.specs.declared.form.Form.{Form}
 use Rattle.linda_journal.specs.declared.limits.TheConstants.{MIN_BYTES}

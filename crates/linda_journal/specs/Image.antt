@@ -1,4 +1,4 @@
--- What the bytes of a disk say as a bank: what it holds, or why they are none.
+-- Images of a bank: what the bytes of a disk hold as one, or why they are none.
 use Rattle.std.specs.Prelude.{◌≡◌, ℕ, ◌+◌, ◌<◌, ◌≤◌, ◌^◌, ◌⊎◌, List, ◌++◌, length}
 use Rattle.linda_tuple.specs.declared.form.Form.{Form}
 use Rattle.linda_journal.specs.declared.heading.Heading.TheVariants as headings

@@ -1,4 +1,4 @@
--- A journal as a list of bytes: the records that stand in it, or where it is damaged.
+-- A journal as a list of bytes: the records that are in it, or where it is damaged.
 use Rattle.std.specs.Prelude.{◌≡◌, ◌≢◌, ℕ, ◌+◌, List, [], ◌∷◌, ◌++◌, All, length, map}
 use Rattle.linda_tuple.specs.declared.form.Form.{Form}
 use Rattle.linda_store_state.specs.declared.deed.Deed.{Deed}

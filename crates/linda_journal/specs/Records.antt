@@ -1,4 +1,4 @@
--- The records that deeds stand in.
+-- The records that deeds are in.
 use Rattle.std.specs.Prelude.{◌≡◌, ℕ, ◌+◌, ◌-◌, ◌*◌, ◌/◌, ◌≤◌, List, [], ◌∷◌, ◌++◌, All, length}
 use Rattle.std.specs.List.{flat_map}
 use Rattle.linda_codec.specs.Formats.{short_number}

@@ -1,5 +1,5 @@
--- How a disk that is not in use becomes a new bank: its gate is closed, then all stands after it,
--- then it opens.
+-- Renewal of a disk that is not in use: its gate is closed, then all is written after it, then it
+-- opens.
 use Rattle.std.specs.Prelude.{◌≡◌, ◌≢◌, ℕ, ◌+◌, ◌-◌, ◌/◌, ◌<◌, ◌≤◌, ◌^◌, ◌⊎◌, List, [], ◌∷◌}
 use Rattle.std.specs.Prelude.{◌++◌, All, length}
 use Rattle.linda_tuple.specs.declared.form.Form.{Form}

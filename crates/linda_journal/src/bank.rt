@@ -1,6 +1,6 @@
-//! A bank: what a server keeps on one disk, a body and then a journal. Its first letters tell the
-//! form in which it spells values: one that is made is in `BANK_FORM`, one that is opened stays in
-//! its own.
+//! A bank: what a server keeps on one disk, a body and then a journal. Its first letters are those
+//! of the form in which it spells values: one that is made is in `BANK_FORM`, one that is opened
+//! stays in its own.
 
 ghost use Rattle.std.specs.Prelude.{◌≡◌, ◌<◌, ◌≤◌, ◌+◌, ◌*◌, ◌^◌, [], ◌↔◌, ℕ, List, length};
 ghost use Rattle.std.specs.Prelude.{IfOk, IfErr, true, false};

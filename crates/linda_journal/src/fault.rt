@@ -1,4 +1,4 @@
-//! Why a call of a bank was not done.
+//! Faults of a bank's calls.
 
 ghost use Rattle.std.specs.Prelude.{◌≡◌, if◌then◌else◌};
 ghost use Rattle.linda_disk.specs.declared.fault.DiskFault as device;

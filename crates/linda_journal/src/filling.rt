@@ -1,4 +1,4 @@
-//! A new bank that is written in steps, behind a first gate that is closed. Each step ends synced,
+//! A new bank that is written in steps, after a first gate that is closed. Each step ends synced,
 //! and whatever a crash leaves in between is no bank. Once all is there, the gate is opened.
 
 ghost use Rattle.std.specs.Prelude.{◌≡◌, ◌∷◌, [], ◌++◌, ◌<◌, ◌≤◌, ◌+◌, ◌^◌, ◌↔◌, ℕ, List, length};
@@ -155,6 +155,9 @@ impl<D: Disk> Filling<D> {
             → IfOk result (λ b. IsSettled written generation body rs b.end (D.view b.disk)) }
         ensures new { IfOk result (λ b. (b.form ≡ written) × (b.generation ≡ generation)
             × (b.limit ≡ limit) × (b.is_spent ≡ false)) }
+        // The gate at its end is the last byte, and the bank counts so many records.
+        ensures place { IfOk result (λ b. b.end + 1 ≡ self.at + length bytes.now) }
+        ensures records { IfOk result (λ b. b.records ≡ min records b.end) }
         // At no moment a crash leaves another bank than the whole new one.
         ensures any_moment { (front body : List ℕ) (rs : List (List Deed)) → D.honest self.disk
             → IsFilled front self.at (D.view self.disk)

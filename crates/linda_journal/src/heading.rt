@@ -1,4 +1,4 @@
-//! What a bank begins with.
+//! Headings, the first bytes of a bank.
 
 ghost use Rattle.std.specs.Prelude.{◌≡◌, ◌∷◌, ◌++◌, ℕ, List, IfSome, IfNone};
 ghost use Rattle.linda_tuple.specs.declared.form.Form as forms;

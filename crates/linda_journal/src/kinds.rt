@@ -1,4 +1,4 @@
-//! The bytes that stand for gates.
+//! The bytes of gates.
 
 /// A gate of this byte is open; a gate of any other byte is closed.
 pub const OPEN: u8 = 0x01;

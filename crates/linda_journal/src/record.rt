@@ -5,7 +5,7 @@ ghost use Rattle.std.specs.Prelude.{IfSome, IfNone, OnOk};
 ghost use Rattle.linda_store_state.specs.declared.deed.Deed as deed;
 ghost use Rattle.linda_journal.specs.declared.limits.TheConstants.{MAX_DEEDS, MAX_RECORDS};
 ghost use Rattle.linda_journal.specs.Records.{FitsDeed, IsRecord, record_body, spell_record};
-ghost use Rattle.linda_journal.specs.Records.{payload, AreRecords, AreSpelled};
+ghost use Rattle.linda_journal.specs.Records.{payload, AreRecords, AreSpelled, IsUnspelled};
 ghost use Rattle.linda_journal.specs.Journal.{IsNoRecord};
 
 use crate::kinds::{CLOSED, OPEN};
@@ -80,7 +80,8 @@ pub(crate) fn spell_all(
 /// `AllocError` if memory runs out.
 pub fn spell_deeds(alloc: Global, form: Form, deeds: &[Deed]) -> Result<Option<Vec<u8>>, AllocError>
     requires { length deeds.now ≤ MAX_DEEDS * MAX_RECORDS }
-    ensures { IfOk result (λ o. IfSome o (λ v. AreRecords form deeds.now v.items)) }
+    ensures records { IfOk result (λ o. IfSome o (λ v. AreRecords form deeds.now v.items)) }
+    ensures none { IfOk result (λ o. IfNone o (IsUnspelled form deeds.now)) }
 {
     if !deeds_fit(form, deeds) {
         return Ok(None);

@@ -1,5 +1,4 @@
-//! How many records deeds take, and how many bytes these spell in a form, counted without spelling
-//! them.
+//! Sizes of records: how many deeds take, and their bytes in a form, counted without spelling them.
 
 ghost use Rattle.std.specs.Prelude.{◌≡◌, ◌<◌, ◌≤◌, ◌*◌, ◌^◌, length};
 ghost use Rattle.linda_journal.specs.declared.limits.TheConstants.{MAX_DEEDS, MAX_RECORDS};

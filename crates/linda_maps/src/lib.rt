@@ -3,6 +3,6 @@
 //! over the values gains by an insertion.
 //!
 //! The values are of any type, so that one law serves tuples, kept replies and whatever else has a
-//! number. There is no code here: the laws stand in `proofs/`, and the proofs of the crates above
+//! number. There is no code here: the laws are in `proofs/`, and the proofs of the crates above
 //! cite them.
 #![tactic(auto)]

@@ -2,7 +2,7 @@
 //!
 //! A `Moment<T>` takes no bytes and owns nothing: its ghost field names what was behind a reference
 //! when it was made. So it may go to another thread whatever `T` is, and a struct that keeps one is
-//! `Send` where its other fields are.
+//! `Send` if its other fields are.
 #![tactic(auto)]
 
 ghost use Rattle.std.specs.Prelude.{◌≡◌};

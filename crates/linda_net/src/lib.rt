@@ -1,43 +1,24 @@
-//! What stands between sockets and servers.
+//! Ways to serve a server that threads share: the front door of all that is between it and sockets.
 //!
-//! - `serve` gives each connection of a listener its threads, over a server that they share;
-//!   `serve_watched` also tells a
-//!   `Watcher` what happens, and answers what is asked over HTTP by the pages of a `Teller`.
-//! - The reading loop is that of linda_net_pump, and a client's connections are those of
-//!   linda_net_proxy: both are
-//!   named here too.
+//! - `serve_loop` serves all connections from a few loops (linda_net_loops); `linda serve` uses it.
+//! - `serve` gives each connection of a listener its threads (linda_net_threads); `serve_watched`
+//!   also reports to a `Watcher` what happens, and answers what is asked over HTTP by the pages of
+//!   a `Teller` (linda_net_watch).
+//! - The reading loop of linda_net_pump, and a client's connections of linda_net_proxy, are named
+//!   here too.
 #![tactic(auto)]
 
-mod busy;
-mod coming;
-mod frames;
-mod limits;
-mod listeners;
-mod loops;
-mod marks;
-mod reader;
-mod refusals;
-mod seconds;
-mod seen;
 mod serving;
-mod snapshots;
-mod status;
-mod troubles;
-mod watching;
-mod writer;
 
-pub use limits::Limits;
+pub use linda_net_marks::{Notice, Refused, Tally, Why};
 pub use linda_net_proxy::{
     Arrival, FIRST_TRIES, Inbox, Link, MAX_TRIES, Proxy, ProxyFault, end, send,
 };
 pub use linda_net_pump::{Intake, pump};
+pub use linda_net_relays::{Limits, Listeners};
+pub use linda_net_watch::{Asked, Listener, Status, Teller, Told, Watcher};
 pub use linda_shared::{
     ClientPage, Gauge, KindPage, ListedClient, ListedKind, ListedReply, ListedTuple, Longest,
     MOST_KINDS, Shared, SharedFault, TakenCount, TuplePage, TupleQuery,
 };
-pub use listeners::Listeners;
-pub use marks::Tally;
-pub use refusals::{Refused, Why};
 pub use serving::{serve, serve_loop, serve_watched};
-pub use status::{Asked, Listener, Status, Teller, Told};
-pub use watching::{Notice, Watcher};

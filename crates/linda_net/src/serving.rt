@@ -1,35 +1,24 @@
 //! Serving the connections of a listener.
 
-ghost use Rattle.std.specs.Prelude.{◌≡◌, ◌*◌, ◌-◌, ◌<◌, ◌≤◌, ◌^◌, min, true, false, Some, None};
+ghost use Rattle.std.specs.Prelude.{◌≡◌, true, false};
 ghost use Rattle.std.specs.Prelude.{IsOk, IsErrOf};
-ghost use Rattle.std.specs.Duration.{as_nanos};
 
-use crate::coming::{REST, one_less};
-use crate::limits::Limits;
-use crate::listeners::Listeners;
-use crate::loops::{Loops, Relays};
-use crate::marks::{Marks, Tally};
-use crate::reader::read_messages;
-use crate::seconds::Seconds;
-use crate::status::{Station, Status, Teller, Unasked};
-use crate::watching::{Notice, Silent, Watcher, take_snapshot, tell, watch};
-use crate::writer::{Writer, write_news};
 use linda_disk::Disk;
+use linda_net_loops::Loops;
+use linda_net_marks::{Marks, Notice, Tally};
+use linda_net_relays::{Limits, Listeners, Relays};
+use linda_net_threads::accept_all;
+use linda_net_watch::{
+    Seconds, Silent, Station, Status, Teller, Unasked, Watcher, take_snapshots, tell, watch,
+};
 use linda_shared::{Shared, SharedFault};
 use std::alloc::Global;
-use std::net::{Net, TcpListener, TcpStream};
+use std::net::{Net, TcpListener};
 use std::sync::ledger::Ledger;
 use std::sync::{Mutex, Wait};
 use std::thread::{Scope, Threads};
-use std::time::{Clock, Duration};
+use std::time::Clock;
 use std::{io, thread};
-
-/// How often it is looked whether a snapshot pays for itself, and what happened, in milliseconds.
-const LOOK: u64 = 100;
-
-/// How many times as long as a snapshot took it is waited before the next one is looked for:
-/// however full the bank is, messages are served most of the time.
-const PAUSES: u64 = 3;
 
 /// Serves the connections that come, each in two threads of its own: one reads, submits what came,
 /// 64 messages at most at once, and writes what that led to; the other writes what others' messages
@@ -112,9 +101,9 @@ fn serve_beside<
 /// in a thread of its own, read what came and write what is sent. A loop takes what its connections
 /// have to the server as one group, those messages first of which no deed comes. An idle connection
 /// costs no thread. A client that holds a tuple and says nothing for longer than the limits allow
-/// has its connection ended. No connection has more of a turn than its share. If the server goes down
-/// all connections end, and so does this call. If the system has no room for a loop, and there is neither such a
-/// limit nor a unix socket, it serves as `serve_watched` does.
+/// has its connection ended. No connection has more of a turn than its share. If the server goes
+/// down all connections end, and so does this call. If the system has no room for a loop, and there
+/// is neither such a limit nor a unix socket, it serves as `serve_watched` does.
 ///
 /// # Errors
 ///
@@ -276,20 +265,6 @@ fn begin_station<
     }
 }
 
-// Serves the connections to their ends.
-fn accept_all<D: Disk + Send, L: Ledger + Send + Sync, R: Threads + Wait + Clock + Sync>(
-    rt: &R,
-    alloc: Global,
-    listener: &TcpListener,
-    shared: &Shared<D, L>,
-    marks: &Marks,
-    sessions: Option<u32>,
-) {
-    thread::scope(thread::scope_env(), rt, |scope| {
-        begin_all(scope, rt, alloc, listener, shared, marks, sessions);
-    });
-}
-
 // How it ended, with a server that is down or is up.
 fn ended(is_down: bool) -> Result<(), SharedFault>
     ensures down { is_down ≡ true → IsErrOf result SharedFault.Down }
@@ -299,124 +274,4 @@ fn ended(is_down: bool) -> Result<(), SharedFault>
         return Err(SharedFault::Down);
     }
     Ok(())
-}
-
-// Begins to serve each connection that comes, so many if a number is given, while the server is up.
-fn begin_all<'s, E, D: Disk + Send, L: Ledger + Send + Sync, R: Threads + Wait + Clock + Sync>(
-    scope: &'s Scope<'s, E>,
-    rt: &'s R,
-    alloc: Global,
-    listener: &TcpListener,
-    shared: &'s Shared<D, L>,
-    marks: &'s Marks,
-    sessions: Option<u32>,
-) {
-    let mut left = sessions;
-    if left == Some(0) {
-        return;
-    }
-    for stream in listener.incoming() {
-        if shared.is_down(rt) {
-            return;
-        }
-        match stream {
-            Ok(stream) => {
-                begin(scope, rt, alloc, shared, marks, stream);
-                left = one_less(left);
-            }
-            Err(_) => {
-                marks.misses();
-                thread::sleep(rt, Duration::from_millis(REST));
-            }
-        }
-        if left == Some(0) {
-            return;
-        }
-    }
-}
-
-// Begins to serve a connection. If no thread can be had it is closed.
-fn begin<'s, E, D: Disk + Send, L: Ledger + Send + Sync, R: Threads + Wait + Clock + Sync>(
-    scope: &'s Scope<'s, E>,
-    rt: &'s R,
-    alloc: Global,
-    shared: &'s Shared<D, L>,
-    marks: &'s Marks,
-    stream: TcpStream,
-) {
-    marks.comes();
-    let begun = scope.spawn(move || converse(rt, alloc, shared, marks, stream));
-    if begun.is_err() {
-        marks.closes();
-        marks.ends();
-    }
-}
-
-// Serves one connection to its end.
-fn converse<D: Disk + Send, L: Ledger + Send + Sync, R: Threads + Wait + Clock + Sync>(
-    rt: &R,
-    alloc: Global,
-    shared: &Shared<D, L>,
-    marks: &Marks,
-    stream: TcpStream,
-) {
-    let _ = stream.set_nodelay(true);
-    let writer = Writer::new(alloc, stream);
-    let lent = &writer;
-    thread::scope(thread::scope_env(), rt, |scope| {
-        let news = move || write_news(rt, alloc, shared, marks, lent);
-        if scope.spawn(news).is_ok() {
-            read_messages(rt, alloc, shared, marks, lent);
-        } else {
-            marks.closes();
-        }
-    });
-    marks.ends();
-}
-
-// Takes a snapshot whenever one is to be taken, and has receipts forgotten, until it is over.
-fn take_snapshots<D: Disk, L: Ledger, R: Wait + Clock>(
-    rt: &R,
-    shared: &Shared<D, L>,
-    marks: &Marks,
-    is_over: &Mutex<bool>,
-) {
-    let mut pause: u64 = 0;
-    for _ in rt.forever() {
-        if *is_over.lock(rt) {
-            return;
-        }
-        shared.forget(rt);
-        pause = match left_of(pause) {
-            Some(left) => left,
-            None if shared.pays(rt) => pause_after(take_snapshot(rt, shared, marks, is_over)),
-            None => 0,
-        };
-        thread::sleep(rt, look());
-    }
-}
-
-// What is left of a pause of so many milliseconds after a look. Nothing where it is over.
-fn left_of(pause: u64) -> Option<u64>
-    ensures more { 100 ≤ pause → result ≡ Some (pause - 100) }
-    ensures over { pause < 100 → result ≡ None }
-{
-    if pause >= LOOK {
-        return Some(pause - LOOK);
-    }
-    None
-}
-
-// For how many milliseconds no snapshot is looked for after one that took so many.
-fn pause_after(millis: u64) -> u64
-    ensures { result ≡ min (3 * millis) (2 ^ 64 - 1) }
-{
-    millis.saturating_mul(PAUSES)
-}
-
-/// How long it is until the next look: a tenth of a second.
-pub(crate) fn look() -> Duration
-    ensures { as_nanos result ≡ 100_000_000 }
-{
-    Duration::from_millis(LOOK)
 }

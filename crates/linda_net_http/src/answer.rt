@@ -1,5 +1,11 @@
-//! What goes before a page.
+//! Answers: the head that goes before a page.
 
+ghost use Rattle.std.specs.Prelude.{◌≡◌, ◌++◌, IfOk, true};
+ghost use Rattle.std.specs.String.{string_bytes};
+ghost use Rattle.linda_net_http.specs.Answer.{code_of, fields_text, head_text, kind_of};
+ghost use Rattle.linda_net_http.specs.Answer.{length_text, line_of, plain, text_of};
+
+use crate::pages::Told;
 use std::alloc::AllocError;
 
 /// What text is that is no page.
@@ -27,71 +33,36 @@ pub(crate) struct Answer {
 }
 
 impl Answer {
-    /// There is a page of this kind, which follows or does not.
-    pub(crate) fn found(kind: &'static str, is_whole: bool) -> Answer {
+    /// This was said to somebody who asked for a page, or only for what goes before it.
+    pub(crate) fn said(told: Told, is_whole: bool) -> Answer
+        ensures code { result.code ≡ code_of told }
+        ensures kind { result.kind.now ≡ kind_of told }
+        ensures whole { result.is_whole ≡ is_whole }
+    {
         Answer {
-            code: Code::Found,
-            kind,
+            code: code_of(told),
+            kind: kind_of(told),
             is_whole,
         }
     }
 
-    /// There is such a page, but not for this query; why follows or does not.
-    pub(crate) fn wrong(is_whole: bool) -> Answer {
+    /// There is a text in place of a page.
+    pub(crate) fn refusal(code: Code) -> Answer
+        ensures code { result.code ≡ code }
+        ensures kind { result.kind.now ≡ plain }
+        ensures whole { result.is_whole ≡ true }
+    {
         Answer {
-            code: Code::Wrong,
-            kind: PLAIN,
-            is_whole,
-        }
-    }
-
-    /// There is such a page, but not now; why follows or does not.
-    pub(crate) fn not_now(is_whole: bool) -> Answer {
-        Answer {
-            code: Code::NotNow,
-            kind: PLAIN,
-            is_whole,
-        }
-    }
-
-    /// There is no such page.
-    pub(crate) fn missing(is_whole: bool) -> Answer {
-        Answer {
-            code: Code::Missing,
-            kind: PLAIN,
-            is_whole,
-        }
-    }
-
-    /// Nothing else can be asked for than pages.
-    pub(crate) fn only_read() -> Answer {
-        Answer {
-            code: Code::OnlyRead,
-            kind: PLAIN,
-            is_whole: true,
-        }
-    }
-
-    /// Nothing is asked for under the name of another machine.
-    pub(crate) fn foreign() -> Answer {
-        Answer {
-            code: Code::Foreign,
-            kind: PLAIN,
-            is_whole: true,
-        }
-    }
-
-    /// What was sent is no head.
-    pub(crate) fn malformed() -> Answer {
-        Answer {
-            code: Code::Malformed,
+            code,
             kind: PLAIN,
             is_whole: true,
         }
     }
 
     /// The text in place of a page, if there is none and none was spelled.
-    pub(crate) fn text(&self) -> &'static str {
+    pub(crate) fn text(&self) -> &'static str
+        ensures { result.now ≡ text_of self.now.code }
+    {
         match self.code {
             Code::Found => "",
             Code::Wrong => "",
@@ -103,18 +74,44 @@ impl Answer {
         }
     }
 
-    /// Writes it behind what is there, with a page of so many bytes.
-    pub(crate) fn spell(&self, out: &mut String, length: usize) -> Result<(), AllocError> {
-        out.push_str("HTTP/1.1 ")?;
-        out.push_str(line_of(self.code))?;
-        write!(out, "\r\nContent-Type: {}", self.kind)?;
-        write!(out, "\r\nContent-Length: {length}")?;
-        out.push_str("\r\nCache-Control: no-store\r\nConnection: close\r\n\r\n")
+    /// Writes it after what is there, with a page of so many bytes.
+    #[tactic(auto, unfolding(crate::specs::Answer::head_text))]
+    pub(crate) fn spell(&self, out: &mut String, length: usize) -> Result<(), AllocError>
+        ensures { IfOk result (λ _. string_bytes out.new
+            ≡ string_bytes out.old ++ head_text self.now.code self.now.kind.now length) }
+    {
+        let line = line_of(self.code);
+        write!(out, "HTTP/1.1 {line}")?;
+        push_fields(out, self.kind, length)
     }
 }
 
+// Writes of which kind a page is, and how long.
+#[tactic(auto, unfolding(crate::specs::Answer::fields_text))]
+fn push_fields(out: &mut String, kind: &str, length: usize) -> Result<(), AllocError>
+    ensures { IfOk result (λ _. string_bytes out.new
+        ≡ string_bytes out.old ++ fields_text kind.now length) }
+{
+    write!(out, "\r\nContent-Type: {kind}")?;
+    push_length(out, length)
+}
+
+// Writes how long a page is, and what all answers end with before their page.
+#[tactic(auto, unfolding(crate::specs::Answer::length_text))]
+fn push_length(out: &mut String, length: usize) -> Result<(), AllocError>
+    ensures { IfOk result (λ _. string_bytes out.new
+        ≡ string_bytes out.old ++ length_text length) }
+{
+    write!(
+        out,
+        "\r\nContent-Length: {length}\r\nCache-Control: no-store\r\nConnection: close\r\n\r\n"
+    )
+}
+
 // The number of a code, its words, and what has to be said with it.
-fn line_of(code: Code) -> &'static str {
+fn line_of(code: Code) -> &'static str
+    ensures { result.now ≡ line_of code }
+{
     match code {
         Code::Found => "200 OK",
         Code::Wrong => "400 Bad Request",
@@ -123,5 +120,29 @@ fn line_of(code: Code) -> &'static str {
         Code::Missing => "404 Not Found",
         Code::OnlyRead => "405 Method Not Allowed\r\nAllow: GET, HEAD",
         Code::Foreign => "403 Forbidden",
+    }
+}
+
+// The code of what was said to somebody who asked for a page.
+fn code_of(told: Told) -> Code
+    ensures { result ≡ code_of told }
+{
+    match told {
+        Told::Page(_) => Code::Found,
+        Told::Wrong => Code::Wrong,
+        Told::NotNow => Code::NotNow,
+        Told::Nothing => Code::Missing,
+    }
+}
+
+// Of which kind is what was said.
+fn kind_of(told: Told) -> &'static str
+    ensures { result.now ≡ kind_of told }
+{
+    match told {
+        Told::Page(kind) => kind,
+        Told::Wrong => PLAIN,
+        Told::NotNow => PLAIN,
+        Told::Nothing => PLAIN,
     }
 }

@@ -1,14 +1,14 @@
 //! One connection that asks, and its answer.
 
-ghost use Rattle.std.specs.Prelude.{◌≤◌, vec_len};
-
-use crate::answer::Answer;
+use crate::exchange::Exchange;
+use crate::pages::Pages;
 use crate::stream::Stream;
 use std::alloc::Global;
 use std::io::ErrorKind;
-use std::time::{Duration, Instant};
+use std::sync::Wait;
+use std::time::{Clock, Duration, Instant};
 
-/// How many bytes are read of one connection at most: those behind its head are not looked at.
+/// How many bytes are read of one connection at most: those after its head are not looked at.
 const MOST_TAKEN: usize = 65_536;
 
 /// For how many seconds a connection is there at most.
@@ -18,22 +18,17 @@ const MOST_SECONDS: u64 = 10;
 #[derive(Drop)]
 pub(crate) struct Caller {
     stream: Stream,
-    // What it sent, until it is answered.
-    head: Vec<u8>,
+    exchange: Exchange,
     // How many bytes it sent.
     taken: usize,
-    out: Vec<u8>,
-    sent: usize,
     // Since when it is there, if the clock said so.
     came: Option<Instant>,
     /// Something happened at it.
     pub(crate) is_awake: bool,
-    is_answered: bool,
     // It sends no more.
     is_shut: bool,
     // It can be neither read nor written.
     is_broken: bool,
-    ghost written: { sent ≤ vec_len out },
 }
 
 impl Caller {
@@ -41,13 +36,10 @@ impl Caller {
     pub(crate) fn new(alloc: Global, stream: Stream, came: Option<Instant>) -> Caller {
         Caller {
             stream,
-            head: Vec::new(alloc),
+            exchange: Exchange::new(alloc),
             taken: 0,
-            out: Vec::new(alloc),
-            sent: 0,
             came,
             is_awake: true,
-            is_answered: false,
             is_shut: false,
             is_broken: false,
         }
@@ -58,18 +50,10 @@ impl Caller {
         &mut self.stream
     }
 
-    /// What it sent, if it was not answered.
-    pub(crate) fn head(&self) -> Option<&[u8]> {
-        if self.is_answered || self.is_broken {
-            return None;
-        }
-        Some(&self.head)
-    }
-
     /// Whether it is over: it can be neither read nor written, sent too much, or sends no more and
     /// has its answer, if there is one.
     pub(crate) fn is_over(&self) -> bool {
-        self.is_broken || self.taken > MOST_TAKEN || (self.is_shut && !self.has_unsent())
+        self.is_broken || self.taken > MOST_TAKEN || (self.is_shut && !self.exchange.has_unsent())
     }
 
     /// Whether it is there for too long.
@@ -80,18 +64,13 @@ impl Caller {
         }
     }
 
-    // Whether some of its answer is still to be written.
-    fn has_unsent(&self) -> bool {
-        self.sent < self.out.len()
-    }
-
     /// Reads some of what is there. Says whether there may be more.
     pub(crate) fn read(&mut self, buffer: &mut [u8]) -> bool {
         match self.stream.read(buffer) {
             Ok(0) => self.is_shut = true,
             Ok(len) => {
                 self.taken = self.taken.saturating_add(len);
-                if !self.is_answered && self.head.extend_from_slice(&buffer[..len]).is_err() {
+                if self.exchange.heard(&buffer[..len]).is_err() {
                     self.is_broken = true;
                 }
                 return !self.is_over();
@@ -105,49 +84,43 @@ impl Caller {
         false
     }
 
-    /// It is answered so, with this page.
-    pub(crate) fn answer(&mut self, answer: &Answer, page: &str, text: &mut String) {
-        self.is_answered = true;
-        text.clear();
-        let spelled = answer.spell(text, page.len());
-        let put = self.put(text, page, answer.is_whole);
-        self.is_broken = self.is_broken || spelled.is_err() || !put;
-    }
-
-    // Keeps what is to be written. Says whether there was memory for it.
-    fn put(&mut self, head: &str, page: &str, is_whole: bool) -> bool {
-        if self.out.extend_from_slice(head.as_bytes()).is_err() {
-            return false;
+    /// Answers it by these pages, once its head is there and if it can be answered.
+    pub(crate) fn answer<R: Wait + Clock, P: Pages>(
+        &mut self,
+        rt: &R,
+        pages: &P,
+        page: &mut String,
+        text: &mut String,
+    ) {
+        if self.is_broken {
+            return;
         }
-        !is_whole || self.out.extend_from_slice(page.as_bytes()).is_ok()
-    }
-
-    /// It cannot be answered.
-    pub(crate) fn fail(&mut self) {
-        self.is_broken = true;
+        if self.exchange.answer(rt, pages, page, text).is_err() {
+            self.is_broken = true;
+        }
     }
 
     /// Writes what it can take. Once all is written it is said that no more comes.
     pub(crate) fn flush(&mut self) {
-        if self.is_broken || !self.has_unsent() {
+        if self.is_broken || !self.exchange.has_unsent() {
             return;
         }
-        for _ in 0..self.out.len() {
-            if !self.has_unsent() || !self.write() {
+        for _ in 0..self.exchange.unsent().len() {
+            if !self.exchange.has_unsent() || !self.write() {
                 break;
             }
         }
-        if !self.has_unsent() {
+        if !self.exchange.has_unsent() {
             self.stream.end_writing();
         }
     }
 
     // Writes some of what is to be written. Whether more can be written now.
     fn write(&mut self) -> bool {
-        match self.stream.write(&self.out[self.sent..]) {
+        match self.stream.write(self.exchange.unsent()) {
             Ok(0) => self.is_broken = true,
             Ok(len) => {
-                self.sent += len;
+                self.exchange.sent(len);
                 return true;
             }
             Err(error) => match error.kind() {

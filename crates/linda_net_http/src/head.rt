@@ -1,9 +1,15 @@
-//! What a connection asks for.
+//! Heads of requests: what a connection asks for.
 
-use crate::host::is_for_us;
+ghost use Rattle.std.specs.Prelude.{◌≡◌, ◌↔◌, length, map, take, All, IsTrue};
+ghost use Rattle.httparse.specs.Spans.{IsHeaderWithin, IsRequestWithin, header_bytes, span_bytes};
+ghost use Rattle.linda_net_http.specs.Head.{front, Asks, IsForUs, IsHeadOf, IsReadAs};
+ghost use Rattle.linda_net_http.specs.Target.{host_of};
+
+use crate::host::{is_own, name_us};
 use crate::pages::Asked;
+use crate::target::{asked_by, host_of};
 use httparse::Status;
-use httparse::spans::{EMPTY_HEADER_SPAN, parse_request};
+use httparse::spans::{EMPTY_HEADER_SPAN, HeaderSpan, RequestSpans, parse_request};
 
 /// How many bytes a head may have.
 const MOST_HEAD: usize = 8_192;
@@ -27,56 +33,74 @@ pub(crate) enum Head<'a> {
 }
 
 /// What these bytes come to, which a connection sent so far.
-pub(crate) fn read_head(bytes: &[u8]) -> Head<'_> {
-    let front = &bytes[..bytes.len().min(MOST_HEAD)];
+pub(crate) fn read_head(sent: &[u8]) -> Head<'_>
+    ensures { IsHeadOf sent.now result }
+{
+    let front = front(sent);
     let mut fields = [EMPTY_HEADER_SPAN; MOST_FIELDS];
     match parse_request(front, &mut fields) {
-        Ok(Status::Complete(head)) => {
-            if is_for_us(front, &fields[..head.headers.min(MOST_FIELDS)]) {
-                head_of(head.method.of(front), head.path.of(front))
-            } else {
-                Head::Foreign
-            }
-        }
+        Ok(Status::Complete(head)) => head_at(front, &fields, head),
         Ok(Status::Partial) => {
-            if front.len() == MOST_HEAD {
-                Head::Nothing
-            } else {
+            if sent.len() < MOST_HEAD {
                 Head::Partly
+            } else {
+                Head::Nothing
             }
         }
         Err(_) => Head::Nothing,
     }
 }
 
-// What a method and what is behind it come to.
-fn head_of<'a>(method: &[u8], target: &'a [u8]) -> Head<'a> {
-    let asked = asked_by(target);
-    if method == b"GET".as_slice() {
-        Head::Page {
-            asked,
-            is_whole: true,
-        }
-    } else if method == b"HEAD".as_slice() {
-        Head::Page {
-            asked,
-            is_whole: false,
-        }
-    } else {
-        Head::Other
+// As much of what was sent as may be a head.
+fn front(sent: &[u8]) -> &[u8]
+    ensures { result.now ≡ front sent.now }
+{
+    match sent.split_at_checked(MOST_HEAD) {
+        Some((front, _)) => front,
+        None => sent,
     }
 }
 
-// What is before the first question mark, and what is behind it.
-fn asked_by(target: &[u8]) -> Asked<'_> {
-    match target.iter().position(|byte| *byte == b'?') {
-        Some(at) => Asked {
-            path: &target[..at],
-            query: &target[at + 1..],
-        },
-        None => Asked {
-            path: target,
-            query: &[],
-        },
+// What the head with these parts asks for.
+fn head_at<'a>(front: &'a [u8], fields: &[HeaderSpan], head: RequestSpans) -> Head<'a>
+    requires { IsRequestWithin front.now fields.now head }
+    ensures { Asks (span_bytes front.now head.method) (span_bytes front.now head.path)
+        (map (header_bytes front.now) (take head.headers fields.now)) result }
+{
+    let target = head.path.of(front);
+    if is_for_us(front, &fields[..head.headers], target) {
+        read_by(head.method.of(front), target)
+    } else {
+        Head::Foreign
     }
+}
+
+// Whether a target is asked for under a name of this machine, or under none.
+fn is_for_us(front: &[u8], fields: &[HeaderSpan], target: &[u8]) -> bool
+    requires { All (IsHeaderWithin (length front.now)) fields.now }
+    ensures { IsTrue result ↔ IsForUs (host_of target.now) (map (header_bytes front.now) fields.now) }
+{
+    match host_of(target) {
+        Some(host) => is_own(host),
+        None => name_us(front, fields),
+    }
+}
+
+// What a method asks for at a target that is asked for under no other name.
+fn read_by<'a>(method: &[u8], target: &'a [u8]) -> Head<'a>
+    ensures { IsReadAs method.now target.now result }
+{
+    if method == b"GET".as_slice() {
+        return Head::Page {
+            asked: asked_by(target),
+            is_whole: true,
+        };
+    }
+    if method == b"HEAD".as_slice() {
+        return Head::Page {
+            asked: asked_by(target),
+            is_whole: false,
+        };
+    }
+    Head::Other
 }

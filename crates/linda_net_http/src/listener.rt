@@ -1,4 +1,4 @@
-//! Where connections come in: a port of this machine, or a unix socket.
+//! Listeners: a port of this machine, or a unix socket.
 
 use crate::stream::Stream;
 use mio::{Interest, Registry, Token, net};

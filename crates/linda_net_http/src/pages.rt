@@ -1,10 +1,14 @@
-//! Who has the pages that are asked for.
+//! Pages that are asked for, as a trait of those who have them.
+
+ghost use Rattle.std.specs.Prelude.{ℕ, List, IfOk};
+ghost use Rattle.std.specs.String.{string_bytes};
+ghost use Rattle.linda_net_http.specs.declared.pages.Told.{Told};
 
 use std::alloc::AllocError;
 use std::sync::Wait;
 use std::time::Clock;
 
-/// Which page is asked for: what is before the first question mark, and what is behind it, as it
+/// Which page is asked for: what is before the first question mark, and what is after it, as it
 /// was sent. Both are any bytes.
 #[derive(Clone, Copy)]
 pub struct Asked<'a> {
@@ -27,7 +31,10 @@ pub enum Told {
 
 /// Who has the pages that are asked for.
 pub trait Pages {
-    /// Writes the page that is asked for behind what is there, and returns of which kind it is; or
+    // What is said of a path and a query, what was there, and what is there then.
+    ghost tells: { Self → List ℕ → List ℕ → Told → List ℕ → List ℕ → Type 0 };
+
+    /// Writes the page that is asked for after what is there, and returns of which kind it is; or
     /// why there is none.
     ///
     /// # Errors
@@ -38,5 +45,7 @@ pub trait Pages {
         rt: &R,
         asked: Asked<'_>,
         page: &mut String,
-    ) -> Result<Told, AllocError>;
+    ) -> Result<Told, AllocError>
+        ensures { IfOk result (λ told. tells self.now asked.entry.path.now asked.entry.query.now
+            told (string_bytes page.old) (string_bytes page.new)) };
 }

@@ -1,13 +1,11 @@
 //! A listener where pages are asked for, and the connections that ask.
 
-use crate::answer::Answer;
 use crate::caller::Caller;
-use crate::head::{Head, read_head};
 use crate::listener::{Door, Listener};
-use crate::pages::{Pages, Told};
+use crate::pages::Pages;
 use crate::stream::Stream;
 use mio::{Events, Poll, Registry, Token};
-use std::alloc::{AllocError, Global};
+use std::alloc::Global;
 use std::io;
 use std::io::ErrorKind;
 use std::net::Net;
@@ -57,11 +55,11 @@ pub struct HttpServer {
     room: Room,
 }
 
-/// Where a page is spelled, and what goes before it.
+/// Where a page is spelled, and then the whole answer.
 #[derive(Drop)]
 struct Room {
     page: String,
-    head: String,
+    text: String,
     buffer: Vec<u8>,
 }
 
@@ -91,7 +89,7 @@ impl HttpServer {
             places,
             room: Room {
                 page: String::with_capacity(alloc, PAGE)?,
-                head: String::new(alloc),
+                text: String::new(alloc),
                 buffer: Vec::from_elem(alloc, 0u8, PIECE)?,
             },
         })
@@ -231,43 +229,7 @@ fn serve<R: Wait + Clock, P: Pages>(rt: &R, pages: &P, room: &mut Room, caller: 
             caller.is_awake = false;
             break;
         }
-        answer(rt, pages, room, caller);
+        caller.answer(rt, pages, &mut room.page, &mut room.text);
     }
     caller.flush();
-}
-
-// Answers the connection, once its head is there.
-fn answer<R: Wait + Clock, P: Pages>(rt: &R, pages: &P, room: &mut Room, caller: &mut Caller) {
-    let Some(head) = caller.head() else {
-        return;
-    };
-    match judge(rt, pages, &mut room.page, head) {
-        Ok(Some(answer)) => caller.answer(&answer, &room.page, &mut room.head),
-        Ok(None) => {}
-        Err(_) => caller.fail(),
-    }
-}
-
-// The answer to what was sent, with its page; none as long as the head is not whole.
-fn judge<R: Wait + Clock, P: Pages>(
-    rt: &R,
-    pages: &P,
-    page: &mut String,
-    head: &[u8],
-) -> Result<Option<Answer>, AllocError> {
-    page.clear();
-    let answer = match read_head(head) {
-        Head::Partly => return Ok(None),
-        Head::Page { asked, is_whole } => match pages.spell(rt, asked, page)? {
-            Told::Page(kind) => Answer::found(kind, is_whole),
-            Told::Wrong => Answer::wrong(is_whole),
-            Told::NotNow => Answer::not_now(is_whole),
-            Told::Nothing => Answer::missing(is_whole),
-        },
-        Head::Other => Answer::only_read(),
-        Head::Foreign => Answer::foreign(),
-        Head::Nothing => Answer::malformed(),
-    };
-    page.push_str(answer.text())?;
-    Ok(Some(answer))
 }

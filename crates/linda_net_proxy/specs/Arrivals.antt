@@ -1,4 +1,4 @@
--- What waits in an inbox.
+-- Arrivals that wait in an inbox.
 use Rattle.std.specs.Prelude.{◌≡◌, ℕ, ◌⊎◌, ◌∷◌, ◌++◌, [], true}
 use Rattle.linda_net_proxy.specs.declared.arrivals.Arrival.{Arrival}
 use Rattle.linda_net_proxy.specs.declared.arrivals.Arrivals.{Arrivals}

@@ -1,4 +1,4 @@
--- How a link goes on after a greeting: which Hello it sends, and what follows of a fault.
+-- Course of a link after a greeting: which Hello it sends, and what follows a fault.
 use Rattle.std.specs.Prelude.{ℕ, ◌-◌, ◌==◌, Bool, true, false, ◌&&◌, ◌||◌, not, nat_lt}
 use Rattle.std.specs.Prelude.{if◌then◌else◌}
 use Rattle.std.specs.Prelude.{Result, Ok, Err}

@@ -1,4 +1,4 @@
-//! What came from all servers of a client and waits to be taken.
+//! Arrivals from all servers of a client that wait to be taken.
 
 ghost use Rattle.std.specs.Prelude.{◌≡◌, ◌↔◌, ◌++◌, ◌∷◌, [], Some, false, true, option_to_list};
 ghost use Rattle.linda_net_proxy.specs.declared.arrivals.Arrival.TheVariants as arrival;

@@ -1,4 +1,4 @@
-//! How a link goes on: which Hello it sends, and what follows where a greeting fails.
+//! Course of a link: which Hello it sends, and what follows if a greeting fails.
 
 ghost use Rattle.std.specs.Prelude.{◌≡◌};
 ghost use Rattle.linda_net_proxy.specs.Course as spec;

@@ -1,4 +1,4 @@
-//! Why a connection does not go on.
+//! Faults that end a connection.
 
 use std::alloc::AllocError;
 use thiserror::Error;

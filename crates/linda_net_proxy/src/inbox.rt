@@ -1,4 +1,4 @@
-//! What comes from all servers of a client, in order of arrival.
+//! Inbox for what comes from all servers of a client, in order of arrival.
 
 use crate::arrivals::{Arrival, Arrivals};
 use std::alloc::Global;

@@ -1,7 +1,7 @@
 //! The connections of a client to its servers.
 //!
 //! - A `Proxy` is a connection to one server: it greets, sends messages and receives replies.
-//! - A `Link` keeps one up, greets again where it was lost, and brings what comes into an `Inbox`.
+//! - A `Link` keeps one up, greets again if it was lost, and brings what comes into an `Inbox`.
 //! - An `Inbox` has what came from all servers, in order of arrival.
 //!
 //! Every call that waits for nobody ends. What goes over a socket no contract can say: tests over

@@ -1,4 +1,4 @@
-//! The connection of a client to one of its servers, greeted again where it was lost.
+//! The connection of a client to one of its servers, greeted again if it was lost.
 
 ghost use Rattle.std.specs.Prelude.{◌≡◌, None, Some};
 

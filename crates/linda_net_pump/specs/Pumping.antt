@@ -1,5 +1,5 @@
--- What came of a stream that was pumped: the bytes that were read, the messages that they spell,
--- and those that were taken.
+-- Pumping of a stream: the bytes that were read, the messages that they spell, and those that were
+-- taken.
 use Rattle.std.specs.Prelude.{◌≡◌, ℕ, ◌≤◌, List, ◌++◌, ◌∷◌, All, length, take, ⊤}
 use Rattle.std.specs.Prelude.{Option, Some, None, Result, Ok, Err}
 use Rattle.std.specs.List.{flat_map}

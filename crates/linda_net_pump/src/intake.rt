@@ -1,4 +1,4 @@
-//! Who takes the messages of a stream, and a list in memory that does.
+//! Intakes of a stream's messages, and a list in memory that is one.
 
 ghost use Rattle.std.specs.Prelude.{◌≤◌, Option, List, IfErr, OnOk, vec_len};
 ghost use Rattle.linda_wire.specs.declared.message.Message.{Message as MessageValue};

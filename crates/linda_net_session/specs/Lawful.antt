@@ -1,4 +1,4 @@
--- What holds of each session, whatever was called before.
+-- Laws of each session, whatever was called before.
 use Rattle.std.specs.Prelude.{◌≡◌, ℕ, ◌≤◌, true, List, [], ◌∷◌, ◌++◌, All}
 use Rattle.std.specs.Prelude.{Some, None}
 use Rattle.std.specs.List.{flat_map}

@@ -1,4 +1,4 @@
--- What contracts see of a session: what it received, took, told and wrote, and how far it is.
+-- Sessions as contracts see them: what one received, took, reported and wrote, and how far it is.
 use Rattle.std.specs.Prelude.{ℕ, ◌==◌, ◌&&◌, nat_le, Bool, true, false, not, if◌then◌else◌}
 use Rattle.std.specs.Prelude.{List, [], ◌∷◌, ◌++◌, length, map, take, drop, Option, Some, None}
 use Rattle.std.specs.List.{flat_map}

@@ -1,4 +1,4 @@
--- What the calls of a session do.
+-- Turns of a session, which its calls make.
 use Rattle.std.specs.Prelude.{◌≡◌, ◌⊎◌, ℕ, nat_lt, Bool, true, false, List, Option, Some, None}
 use Rattle.linda_wire.specs.declared.message.Message.{Message}
 use Rattle.linda_wire.specs.declared.refusal.Refusal.TheVariants as refusals

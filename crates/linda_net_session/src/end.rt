@@ -1,4 +1,4 @@
-//! Whether a session goes on, and how it ends.
+//! Ends of sessions: whether one goes on, and how it ends.
 
 ghost use Rattle.std.specs.Prelude.{◌≡◌};
 ghost use Rattle.linda_net_session.specs.Session.{is_open, is_closed, ended_by, shut_by, rested};

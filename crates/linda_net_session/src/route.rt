@@ -1,4 +1,4 @@
-//! Where a message of a session goes.
+//! Routes of a session's messages.
 
 ghost use Rattle.std.specs.Prelude.{◌≡◌};
 ghost use Rattle.linda_net_session.specs.Place as spec;

@@ -1,4 +1,4 @@
--- How an exchange of lines stands, and what its steps lead to.
+-- Exchanges of lines, and where their steps lead.
 use Rattle.std.specs.Prelude.{◌≡◌, ℕ, ◌≤◌, Bool, true, false, List, [], ◌++◌, map, length}
 use Rattle.std.specs.Prelude.{Option, Some, Result, Ok, Err}
 use Rattle.std.specs.List.{flat_map, concat}

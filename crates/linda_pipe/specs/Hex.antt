@@ -1,4 +1,4 @@
--- What a line of hexadecimal digits says.
+-- Hexadecimal lines, and the bytes that they spell.
 use Rattle.std.specs.Prelude.{ℕ, List, Option}
 use Rattle.std.specs.Result.{result_ok}
 use Rattle.std.specs.Io.BufRead.{strip_last}

@@ -17,7 +17,7 @@ pub record IsCut (text : List ℕ) (lines : List (List ℕ)) (more : List ℕ) :
   pub spelled : text ≡ flat_map ended lines ++ more
   pub whole : All HasNoFeed lines
 
--- An unfinished line gets the front of a text. Behind that front the text has a line feed and a
+-- An unfinished line gets the front of a text. After that front the text has a line feed and a
 -- rest; with no line feed in the text, it all goes to the line.
 abbrev pub Extends : List ℕ → List ℕ → List ℕ → Option (List ℕ) → Type 0
 Extends line text longer (Some rest) =

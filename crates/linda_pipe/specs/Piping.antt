@@ -1,4 +1,4 @@
--- What the pipe does: from lines to pieces, from pieces to a conversation, from replies to lines.
+-- Piping: from lines to pieces, from pieces to a conversation, from replies to lines.
 use Rattle.std.specs.Prelude.{◌≡◌, ℕ, ◌+◌, ◌≤◌, false, List, [], ◌++◌, map, length, take, ◌⊎◌}
 use Rattle.std.specs.Prelude.{Option, Some, None, Result, Ok, Err}
 use Rattle.std.specs.List.{flat_map, concat}
@@ -53,8 +53,8 @@ IsDone stages.Open more left = (more ≡ []) × IsAtEnd left
 IsDone (stages.Malformed detail) more left = Unit {0}
 IsDone stages.Down more left = ⊥
 
--- How the pipe ends, after so many lines of a text of so many bytes, with so much of the text
--- behind them and such bytes left to the reader. Where reading failed, all whole lines were taken.
+-- How the pipe ends, after so many lines of a text of so many bytes, with so much of the text after
+-- them and such bytes left to the reader. If reading failed, all whole lines were taken.
 abbrev pub EndsAs : Result Unit PipeFault → ℕ → ℕ → List ℕ → Option (List ℕ) → Stage → Type 0
 EndsAs (Ok done) count size more left stage = IsDone stage more left
 EndsAs (Err (faults.NotHexadecimal n)) count size more left stage =
@@ -65,7 +65,7 @@ EndsAs (Err faults.Write) count size more left stage = Unit {0}
 EndsAs (Err faults.Turns) count size more left stage =
     (HasNoFeed more × (stage ≡ stages.Open)) × (MAX_READS ≤ size)
 
--- What has gone out: all reply lines, or, where writing failed, some first bytes of them.
+-- What has gone out: all reply lines, or, if writing failed, some first bytes of them.
 abbrev pub GoesOut : Result Unit PipeFault → List ℕ → List ℕ → Type 0
 GoesOut (Ok done) all written = written ≡ all
 GoesOut (Err (faults.NotHexadecimal n)) all written = written ≡ all
@@ -86,7 +86,7 @@ pub record HasEnded (first : Node) (text written : List ℕ) (left : Option (Lis
   pub ending : EndsAs result (length lines) (length text) more left stage
   pub out : GoesOut result (flat_map reply_line said) written
 
--- The text that was read; where the input has ended, its last line may lack the line feed, which is
+-- The text that was read; if the input has ended, its last line may lack the line feed, which is
 -- then added.
 abbrev pub IsTextOf : List ℕ → Option (List ℕ) → List ℕ → Type 0
 IsTextOf read left text = (text ≡ read) ⊎ (IsAtEnd left × (text ≡ ended read))

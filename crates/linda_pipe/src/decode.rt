@@ -12,10 +12,10 @@ use std::alloc::{AllocError, Global};
 pub(crate) const CARRIAGE_RETURN: u8 = b'\r';
 
 /// The bytes that a line says, in digits of either case; a carriage return at its end is passed
-/// over. `None` where the line is not hexadecimal, also where memory is short.
+/// over. `None` if the line is not hexadecimal, also if memory is short.
 pub fn decode_line(alloc: Global, line: &[u8]) -> Result<Option<Vec<u8>>, AllocError>
     ensures piece { IfOk result (λ piece. option_map (λ p. p.items) piece ≡ piece_of line.now) }
-    // Memory runs out only where the line is hexadecimal.
+    // Memory runs out only if the line is hexadecimal.
     ensures memory { IsErr result → IsSome (piece_of line.now) }
 {
     let text = without_return(line);
@@ -38,7 +38,7 @@ fn is_hexadecimal(text: &[u8]) -> bool
     text.len() % 2 == 0 && are_digits(text)
 }
 
-// Whether the text has digits alone.
+// Whether the text has only digits.
 fn are_digits(text: &[u8]) -> bool
     ensures { IsTrue result ↔ AllPass is_hex_digit text.now }
 {
@@ -52,7 +52,7 @@ fn is_digit(byte: u8) -> bool
     byte.is_ascii_hexdigit()
 }
 
-/// The line without the carriage return at its end, where there is one.
+/// The line without the carriage return at its end, if there is one.
 pub fn without_return(line: &[u8]) -> &[u8]
     ensures { result.now ≡ digits_of line.now }
 {

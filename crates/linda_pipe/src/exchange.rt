@@ -120,8 +120,8 @@ impl<N: Node> Exchange<N> {
         Ok(true)
     }
 
-    // Takes the end of a line. Where nothing of the line came before, it is decoded where it
-    // stands, and is reported as not hexadecimal even where memory is short.
+    // Takes the end of a line. If nothing of the line came before, it is decoded where it stands,
+    // and is reported as not hexadecimal even if memory is short.
     fn take_end(&mut self, alloc: Global, end: &[u8]) -> Result<bool, PipeFault>
         requires few { self.old.lines + 1 < 2 ^ 64 }
         requires no_feed { HasNoFeed end.now }
@@ -171,7 +171,7 @@ impl<N: Node> Exchange<N> {
     }
 
     // Takes a whole line, which is not kept here, as a piece of the stream. One that is not
-    // hexadecimal is reported as such even where memory is short.
+    // hexadecimal is reported as such even if memory is short.
     fn take_line(&mut self, alloc: Global, line: &[u8]) -> Result<bool, PipeFault>
         requires few { self.old.lines + 1 < 2 ^ 64 }
         requires none_kept { self.old.line.items ≡ [] }
@@ -197,8 +197,8 @@ impl<N: Node> Exchange<N> {
         Ok(goes_on)
     }
 
-    // Takes a piece of the stream and says whether the conversation goes on. Where memory runs out,
-    // in the server too, no reply to the piece is kept.
+    // Takes a piece of the stream and says whether the conversation goes on. If memory runs out, in
+    // the server too, no reply to the piece is kept.
     fn take_piece(&mut self, alloc: Global, piece: &[u8]) -> Result<bool, AllocError>
         ensures ok { IfOk result (λ goes_on.
             Continues N.shown piece.now goes_on self.old self.new) }

@@ -1,11 +1,11 @@
-//! Why the pipe gives up.
+//! Faults that end the pipe.
 
 ghost use Rattle.std.specs.Prelude.{◌≡◌};
 ghost use Rattle.linda_pipe.specs.Statuses.{status_of};
 
 use thiserror::Error;
 
-/// The exit status where standard input or output fails, or memory runs out outside of a line.
+/// The exit status if standard input or output fails, or memory runs out outside of a line.
 pub const REFUSED: u8 = 3;
 
 /// The exit status for a fault of a line.

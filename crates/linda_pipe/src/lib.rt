@@ -1,8 +1,8 @@
 //! `linda pipe`: one connection to one server in memory, over lines of hexadecimal digits.
 //!
 //! `pipe` serves it, for every reader and writer: the bytes of the lines are one stream, and the
-//! lines written are the replies to it. Where it ends otherwise a `PipeFault` says why, and all
-//! replies to the lines before are written, or some first bytes of them where the output failed.
+//! lines written are the replies to it. If it ends otherwise a `PipeFault` says why, and all
+//! replies to the lines before are written, or some first bytes of them if the output failed.
 //! `specs/Piping` says all of it.
 //!
 //! What other commands need stands here as well: `extend_line` and `without_return`, which cut a

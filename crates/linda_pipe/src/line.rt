@@ -13,7 +13,7 @@ use std::alloc::AllocError;
 /// What ends a line.
 pub(crate) const LINE_FEED: u8 = b'\n';
 
-/// The text before its first line feed and the text behind it; `None` where it has none.
+/// The text before its first line feed and the text after it; `None` if it has none.
 pub fn split_line<'a>(text: &'a [u8]) -> Option<(&'a [u8], &'a [u8])>
     ensures { MatchOption result (HasNoFeed text.entry.now)
         (λ parts. HasNoFeed parts.0.now
@@ -28,7 +28,7 @@ pub fn split_line<'a>(text: &'a [u8]) -> Option<(&'a [u8], &'a [u8])>
 /// Moves the front of a text to the end of an unfinished line: all bytes before the first line
 /// feed.
 ///
-/// Answers what follows that line feed, and then the line is whole; or `None` where the text has no
+/// Answers what follows that line feed, and then the line is whole; or `None` if the text has no
 /// line feed, and then the whole text has gone to the line. After an error the line is unchanged.
 pub fn extend_line<'a>(line: &mut Vec<u8>, text: &'a [u8]) -> Result<Option<&'a [u8]>, AllocError>
     ensures ok { IfOk result (λ rest.

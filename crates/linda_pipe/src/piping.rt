@@ -19,15 +19,15 @@ const BUFFER: usize = 65536;
 /// in hexadecimal digits; each reply is a line of them too, and it is written and flushed before
 /// more is read.
 ///
-/// It ends well at the end of the input, where the last line may lack its line feed, and after a
-/// reply that ends the connection; then nothing more is read.
+/// It ends well at the end of the input, whose last line may lack its line feed, and after a reply
+/// that ends the connection; then nothing more is read.
 ///
 /// # Errors
 ///
-/// `NotHexadecimal` at the first such line and `Memory` at the line where memory runs out: the
-/// replies to all lines before it are written. `Read` and `Turns` where the input fails, or has not
-/// ended after 4,294,967,295 reads: all replies are written. `Write` where the output fails: some
-/// first bytes of the replies are.
+/// `NotHexadecimal` at the first such line and `Memory` at the line if memory runs out: the replies
+/// to all lines before it are written. `Read` and `Turns` if the input fails, or has not ended
+/// after 4,294,967,295 reads: all replies are written. `Write` if the output fails: some first
+/// bytes of the replies are.
 pub fn pipe<R: Read, W: Write>(
     alloc: Global,
     reader: &mut R,

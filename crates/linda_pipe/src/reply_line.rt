@@ -14,7 +14,7 @@ const LINE_FEED: u8 = b'\n';
 ///
 /// # Errors
 ///
-/// Where memory runs out, `lines` is left as it was.
+/// If memory runs out, `lines` is left as it was.
 pub fn push_reply_lines(
     alloc: Global,
     lines: &mut Vec<u8>,
@@ -32,7 +32,7 @@ pub fn push_reply_lines(
     pushed
 }
 
-// Appends the lines of some replies; where memory runs out, some of them.
+// Appends the lines of some replies; if memory runs out, some of them.
 fn push_each(alloc: Global, lines: &mut Vec<u8>, replies: &[Reply]) -> Result<(), AllocError>
     ensures ok { OnOk result (lines.new.items
         ≡ lines.old.items ++ flat_map reply_line replies.now) }
@@ -44,7 +44,7 @@ fn push_each(alloc: Global, lines: &mut Vec<u8>, replies: &[Reply]) -> Result<()
     Ok(())
 }
 
-// Appends the line of one reply; where memory runs out, some of it.
+// Appends the line of one reply; if memory runs out, some of it.
 fn push_reply_line(alloc: Global, lines: &mut Vec<u8>, reply: &Reply) -> Result<(), AllocError>
     ensures ok { OnOk result (lines.new.items ≡ lines.old.items ++ reply_line reply.now) }
     ensures err { OnErr result (IsFront lines.old.items lines.new.items) }

@@ -1,4 +1,4 @@
--- Where a server listens, and what it prints of that.
+-- Address of a server, and the line that it prints once it listens.
 use Rattle.std.specs.Prelude.{◌≡◌, ◌++◌, ℕ, List, [], ◌∷◌, codes}
 use Rattle.std.specs.Fmt.{decimal}
 use Rattle.std.specs.Net.Addr.{ipv4_octets}

@@ -1,4 +1,4 @@
--- Why a folder is not served, or not inspected, or served no more.
+-- Faults of a folder that is not served, or not inspected, or served no more.
 use Rattle.std.specs.Prelude.{◌==◌, if◌then◌else◌, Bool, true, false, Result, Ok, Err}
 use Rattle.linda_disk.specs.declared.fault.DiskFault.{DiskFault}
 use Rattle.linda_disk.specs.declared.fault.DiskFault.TheVariants as disks

@@ -1,9 +1,3 @@
 pub mod Faults
 pub mod Address
 pub mod Minutes
-pub mod Status
-pub mod Listed
-pub mod Tags
-pub mod Longest
-pub mod About
-pub mod Tagged

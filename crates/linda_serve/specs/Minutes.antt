@@ -1,17 +1,13 @@
--- What a line of a minute says, and what a log keeps for the next one.
-use Rattle.std.specs.Prelude.{ℕ, ◌+◌, ◌-◌, ◌^◌, min}
-use Rattle.linda_net.specs.declared.marks.Tally.{Tally}
-use Rattle.linda_net.specs.Counting.{more_than, none_refused}
+-- Minutes of a log: what the line of each says, and what is kept for the next one.
+use Rattle.std.specs.Prelude.{ℕ, ◌-◌}
+use Rattle.linda_net_marks.specs.declared.marks.Tally.{Tally}
+use Rattle.linda_net_marks.specs.Counting.{more_than, none_refused}
+use Rattle.linda_status.specs.Status.{unserved}
 use Rattle.linda_serve.specs.declared.serving.minutes.Counted.{Counted}
 
 -- nothing was counted
 abbrev pub none_counted : Counted
 none_counted = record { deeds = 0; refused = 0; unserved = 0; turned = none_refused; late = 0 }
-
--- how many connections were not served: those for which no thread could be had, and those that
--- could not be had
-abbrev pub unserved : Tally → ℕ
-unserved tally = min (tally.closed + tally.missed) (2 ^ 64 - 1)
 
 -- what there is in all, with so many deeds
 abbrev pub counted : ℕ → Tally → Counted

@@ -1,4 +1,4 @@
-//! What may be a bank: a regular file, and another one than the other bank.
+//! Files that may be a bank: a regular one, and another one than the other bank's.
 
 use crate::serving::ServingFault;
 use std::fs::{File, Files, Metadata};
@@ -7,13 +7,24 @@ use std::os::unix::fs::MetadataExt;
 use std::{fs, io};
 
 /// Refuses what is there under this path and is no regular file: to open a pipe may wait for ever,
-/// and a device keeps nothing. Nothing is opened.
+/// and a device keeps nothing. A link to nothing is refused too. Nothing is opened.
 ///
 /// # Errors
 ///
 /// `Disk`, also if the path cannot be looked at; `Memory`.
 pub(crate) fn check_kind<F: Files<File = File>>(files: &F, path: &str) -> Result<(), ServingFault> {
     match fs::metadata(files, path) {
+        Ok(found) if found.is_file() => Ok(()),
+        Ok(_) => Err(ServingFault::Disk),
+        Err(error) if error.kind() == ErrorKind::NotFound => check_missing(files, path),
+        Err(error) => Err(fault_of(&error)),
+    }
+}
+
+// Refuses a link to nothing: what it names may be on a device that is not mounted. A file that came
+// meanwhile may be a bank.
+fn check_missing<F: Files<File = File>>(files: &F, path: &str) -> Result<(), ServingFault> {
+    match fs::symlink_metadata(files, path) {
         Ok(found) if found.is_file() => Ok(()),
         Ok(_) => Err(ServingFault::Disk),
         Err(error) if error.kind() == ErrorKind::NotFound => Ok(()),

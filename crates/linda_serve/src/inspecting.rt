@@ -23,8 +23,8 @@ const PIECE: usize = 65_536;
 /// # Errors
 ///
 /// As a server returns them that is not kept from the folder by another one: `NoStore`, `Damaged`,
-/// `Disk` where the folder or a file in it cannot be read, `Memory`; `Io` where the output fails.
-/// `InUse` where a server went over to its other bank at each reading.
+/// `Disk` if the folder or a file in it cannot be read, `Memory`; `Io` if the output fails. `InUse`
+/// if a server went over to its other bank at each reading.
 pub fn inspect_folder<F: Files<File = File>, W: Write>(
     files: &F,
     alloc: Global,

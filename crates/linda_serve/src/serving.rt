@@ -10,7 +10,6 @@ mod minutes;
 mod socket;
 mod stamp;
 mod start;
-mod status;
 mod store;
 mod unwaited;
 mod waiting;
@@ -31,12 +30,12 @@ use linda_net::{
 use linda_server::Durable;
 pub use linda_server::InUse;
 use linda_shared_accounts::PARTS;
+use linda_status::{About, Pages};
 pub use log::{Cause, Log};
 pub use socket::Place;
 use socket::{OwnFile, file_at, listen_at, remove};
 pub use stamp::stamp_of;
 use start::{BankTrouble, Begun, Course};
-use status::{About, Numbers};
 use std::alloc::Global;
 use std::fs::{File, Files};
 use std::hash::RandomState;
@@ -428,9 +427,9 @@ fn status_at<'a, S: Clock>(
     asked: Option<Listener>,
     about: About<'a>,
     metrics: &'a [String],
-) -> Option<Status<Numbers<'a>>> {
+) -> Option<Status<Pages<'a>>> {
     let listener = asked?;
-    let teller = Numbers {
+    let teller = Pages {
         alloc,
         about,
         metrics,

@@ -1,6 +1,6 @@
 -- How the next bank goes on while it is written in steps.
-use Rattle.std.proofs.Common.{◌≡◌, ℕ, zero, suc, take, ◌+◌, ◌≤◌, Bool, true, false, List, [], ◌∷◌, ◌++◌, length, Option, Some, None, option_to_list, refl, sym, ap, subst, ◌∙◌, true≢false, arith}
-use Rattle.std.specs.Prelude.{IfSome, ◌||◌}
+use Rattle.std.proofs.Common.{◌≡◌, ℕ, zero, suc, take, ◌+◌, ◌≤◌, Bool, true, false, List, [], ◌∷◌, ◌++◌, length, Option, Some, None, Result, Ok, Err, option_to_list, refl, sym, ap, subst, ◌∙◌, true≢false, arith}
+use Rattle.std.specs.Prelude.{IfOk, IfErr, IfSome, ◌||◌}
 use Rattle.std.specs.List.{AllByRecursion}
 use Rattle.std.specs.Cmp.{unsigned_Decides}
 use Rattle.std.proofs.Math.Logic.{∥∥₁_map}
@@ -28,7 +28,7 @@ use Rattle.linda_server.specs.declared.served.Served.{Served}
 use Rattle.linda_server.specs.Disks.{AreRelated}
 use Rattle.linda_server.specs.Next.{IsBegunOn, IsNextFor, IsSafeIn, IsSpared, AreSpared, KeepsUp}
 use Rattle.linda_server.specs.Served.{AreAnswered, deeds_of, IsServed}
-use Rattle.linda_server.specs.Server.{IsBesideStill}
+use Rattle.linda_server.specs.Server.{IsBesideStill, limit_in_use}
 
 -- ---- what is taken is what was spared
 
@@ -98,50 +98,57 @@ served_safe (Some n) now st soft ms served new then is spared id taken =
 
 -- ---- it keeps up
 
+-- What holds of the one that is handed back holds of the one that is kept.
+pub if_kept : {E : Type 0} (P : NextBank → Type 0) (told : Result (Option NextBank) E) (next : Option NextBank) → IfOk told (λ o. next ≡ o) × IfErr told (λ _. next ≡ None) → IfOk told (λ o. IfSome o P) → IfSome next P
+if_kept P (Ok o) next is holds = subst (λ o. IfSome o P) (sym is.0) holds
+if_kept P (Err e) next is holds = subst (λ o. IfSome o P) (sym is.1) tt
+
 module _ {D : Type 0} {g : Ghosts D} where
   -- The disk that is not in use is as it was.
-  begun_still : (next : NextBank) (old new : Disks (Bank D g) D) (st : State) → IsBesideStill old new → IsBegunOn next old st → IsBegunOn next new st
-  begun_still next (InUse pair) (InUse other) st still begun = (
+  begun_still : (next : NextBank) (old new : Disks (Bank D g) D) (st : State) → IsBesideStill old new → limit_in_use new ≡ limit_in_use old → IsBegunOn next old st → IsBegunOn next new st
+  begun_still next (InUse pair) (InUse other) st still limit begun = (
     record {
       front = begun.0.front;
       follows = begun.0.follows;
-      low = begun.0.low;
+      place = begun.0.place;
       filled = subst (λ d. g.honest d → IsFilled begun.0.front next.at (g.view d)) (sym still.1.0) begun.0.filled;
     },
     begun.1 ∙ ap (λ n. n + 1) (sym still.0),
+    begun.2 ∙ sym limit,
   )
-  begun_still next (InUse pair) (Shut left right) st still begun = absurd still
-  begun_still next (InUse pair) Away st still begun = absurd still
-  begun_still next (Shut left right) new st still begun = absurd begun
-  begun_still next Away new st still begun = absurd begun
+  begun_still next (InUse pair) (Shut left right) st still limit begun = absurd still
+  begun_still next (InUse pair) Away st still limit begun = absurd still
+  begun_still next (Shut left right) new st still limit begun = absurd begun
+  begun_still next Away new st still limit begun = absurd begun
 
-  begun_on : (was next : NextBank) (disks : Disks (Bank D g) D) (st now : State) → next.successor.generation ≡ was.successor.generation → next.at ≡ was.at
+  begun_on : (was next : NextBank) (disks : Disks (Bank D g) D) (st now : State) → next.successor.generation ≡ was.successor.generation → next.successor.limit ≡ was.successor.limit → next.at ≡ was.at
       → ((front : List ℕ) → Follows was.successor front st → Follows next.successor front now) → IsBegunOn was disks st → IsBegunOn next disks now
-  begun_on was next (InUse pair) st now generation place follows begun = (
+  begun_on was next (InUse pair) st now generation limit place follows begun = (
     record {
       front = begun.0.front;
       follows = follows begun.0.front begun.0.follows;
-      low = omega (arith, place, begun.0.low);
+      place = place ∙ begun.0.place;
       filled = subst (λ n. g.honest pair.other → IsFilled begun.0.front n (g.view pair.other)) (sym place) begun.0.filled;
     },
     generation ∙ begun.1,
+    limit ∙ begun.2,
   )
-  begun_on was next (Shut left right) st now generation place follows begun = absurd begun
-  begun_on was next Away st now generation place follows begun = absurd begun
+  begun_on was next (Shut left right) st now generation limit place follows begun = absurd begun
+  begun_on was next Away st now generation limit place follows begun = absurd begun
 
   keeps_up : (old new : Option NextBank) (disks : Disks (Bank D g) D) (st now : State) → IfSome new (λ n. KeepsUp old st n now) → IsNextFor old disks st → IsNextFor new disks now
   keeps_up old None disks st now keeps begun = tt
-  keeps_up old (Some n) disks st now keeps begun = begun_on keeps.was n disks st now keeps.generation keeps.place keeps.follows (subst (λ o. IsNextFor o disks st) keeps.is begun)
+  keeps_up old (Some n) disks st now keeps begun = begun_on keeps.was n disks st now keeps.generation keeps.limit keeps.place keeps.follows (subst (λ o. IsNextFor o disks st) keeps.is begun)
 
   pub next_up : (old new : Option NextBank) (disks : Disks (Bank D g) D) (st now : State) → IfSome new (λ n. KeepsUp old st n now) → ∥ IsNextFor old disks st ∥₁ → ∥ IsNextFor new disks now ∥₁
   next_up old new disks st now keeps begun = ∥∥₁_map begun (keeps_up old new disks st now keeps)
 
-  next_still : (next : Option NextBank) (old new : Disks (Bank D g) D) (st : State) → IsBesideStill old new → IsNextFor next old st → IsNextFor next new st
-  next_still None old new st still begun = tt
-  next_still (Some n) old new st still begun = begun_still n old new st still begun
+  next_still : (next : Option NextBank) (old new : Disks (Bank D g) D) (st : State) → IsBesideStill old new → limit_in_use new ≡ limit_in_use old → IsNextFor next old st → IsNextFor next new st
+  next_still None old new st still limit begun = tt
+  next_still (Some n) old new st still limit begun = begun_still n old new st still limit begun
 
-  pub next_beside : (next : Option NextBank) (old new : Disks (Bank D g) D) (st : State) → IsBesideStill old new → ∥ IsNextFor next old st ∥₁ → ∥ IsNextFor next new st ∥₁
-  next_beside next old new st still begun = ∥∥₁_map begun (next_still next old new st still)
+  pub next_beside : (next : Option NextBank) (old new : Disks (Bank D g) D) (st : State) → IsBesideStill old new → limit_in_use new ≡ limit_in_use old → ∥ IsNextFor next old st ∥₁ → ∥ IsNextFor next new st ∥₁
+  next_beside next old new st still limit begun = ∥∥₁_map begun (next_still next old new st still limit)
 
   pub beside_itself : (disks : Disks (Bank D g) D) → IsBesideStill disks disks
   beside_itself (InUse pair) = (refl, (refl, refl))
@@ -152,18 +159,19 @@ module _ {D : Type 0} {g : Ghosts D} where
   pub next_as : {H : Type 0} (history : D → H) (next : Option NextBank) (old new : Disks (Bank D g) D) (st : State) → ((d e : D) → history e ≡ history d → g.honest e → g.honest d)
       → ((front : List ℕ) (at : ℕ) (d e : D) → history e ≡ history d → IsFilled front at (g.view d) → IsFilled front at (g.view e))
       → AreRelated (λ b c. (c.form ≡ b.form) × ((c.generation ≡ b.generation) × ((c.end ≡ b.end) × (history c.disk ≡ history b.disk)))) (λ d e. history e ≡ history d) old new
-      → IsNextFor next old st → IsNextFor next new st
-  next_as history None old new st honest filled same begun = tt
-  next_as history (Some n) (InUse pair) (InUse other) st honest filled same begun = (
+      → limit_in_use new ≡ limit_in_use old → IsNextFor next old st → IsNextFor next new st
+  next_as history None old new st honest filled same limit begun = tt
+  next_as history (Some n) (InUse pair) (InUse other) st honest filled same limit begun = (
     record {
       front = begun.0.front;
       follows = begun.0.follows;
-      low = begun.0.low;
+      place = begun.0.place;
       filled = λ h. filled begun.0.front n.at pair.other other.other same.1.0 (begun.0.filled (honest pair.other other.other same.1.0 h));
     },
     begun.1 ∙ ap (λ k. k + 1) (sym same.0.1.0),
+    begun.2 ∙ sym limit,
   )
-  next_as history (Some n) (InUse pair) (Shut left right) st honest filled same begun = absurd same
-  next_as history (Some n) (InUse pair) Away st honest filled same begun = absurd same
-  next_as history (Some n) (Shut left right) new st honest filled same begun = absurd begun
-  next_as history (Some n) Away new st honest filled same begun = absurd begun
+  next_as history (Some n) (InUse pair) (Shut left right) st honest filled same limit begun = absurd same
+  next_as history (Some n) (InUse pair) Away st honest filled same limit begun = absurd same
+  next_as history (Some n) (Shut left right) new st honest filled same limit begun = absurd begun
+  next_as history (Some n) Away new st honest filled same limit begun = absurd begun

@@ -1,6 +1,6 @@
 -- What crashes leave while the next bank is written in steps beside the bank in use, and what is
 -- known of it then.
-use Rattle.std.proofs.Common.{◌≡◌, ℕ, ◌+◌, ◌≤◌, inr, List, length, sym, subst}
+use Rattle.std.proofs.Common.{◌≡◌, ℕ, ◌+◌, ◌<◌, ◌≤◌, inr, List, length, sym, subst, arith}
 use Rattle.std.proofs.Math.Logic.{∥∥₁_map, ∥∥₁_elim}
 use Rattle.std.proofs.Props.{props}
 use Rattle.std.proofs.lemmas.Grind.{not_there}
@@ -16,14 +16,16 @@ use Rattle.linda_journal.specs.declared.filling.Filling.{Filling}
 use Rattle.linda_journal.specs.Renewal.{IsNoBank, IsSameOrNone, IsFilled}
 use Rattle.linda_journal.proofs.FillingLaws.{step_within}
 use Rattle.linda_snap.specs.Stands.{Stands, IsUp, StandsBeside}
-use Rattle.linda_snap.specs.Successor.{Follows}
+use Rattle.linda_snap.specs.declared.successor.Successor.{Successor}
+use Rattle.linda_snap.specs.Successor.{Follows, Completes}
+use Rattle.linda_snap.proofs.SuccessorLaws.{counts}
 use Rattle.linda_server.specs.declared.disks.Disks.{Disks}
 use Rattle.linda_server.specs.declared.disks.Disks.TheVariants.{InUse, Shut, Away}
 use Rattle.linda_server.specs.declared.next.NextBank.{NextBank}
 use Rattle.linda_server.specs.Next.{IsBegunOn, IsFilledOn, IsWithin}
 use Rattle.linda_server.specs.Pairs.{PairsSince}
 use Rattle.linda_server.specs.Calls.{StandsFor}
-use Rattle.linda_server.specs.Server.{both_of, generation_in_use, BothHonest, IsUpFor, IsKeptFor}
+use Rattle.linda_server.specs.Server.{both_of, generation_in_use, limit_in_use, BothHonest, IsUpFor, IsKeptFor}
 use Rattle.linda_server.proofs.CallLaws.{at_most, from_some, up_for}
 use Rattle.linda_server.proofs.SwitchLaws.{emptied_beside}
 
@@ -47,23 +49,24 @@ module _ {D : Type 0} {g : Ghosts D} where
   pub record Parts (next : NextBank) (disks : Disks (Bank D g) D) (st : State) : Type 0 where
     pub front : List ℕ
     pub follows : Follows next.successor front st
-    pub low : 1 ≤ next.at
+    pub place : next.at ≡ 1 + length front
     pub filled : IsFilledOn front next.at disks
     pub generation : next.successor.generation ≡ generation_in_use disks + 1
+    pub limit : next.successor.limit ≡ limit_in_use disks
 
   pub parts_of : (next : NextBank) (disks : Disks (Bank D g) D) (st : State) → IsBegunOn next disks st → Parts next disks st
-  parts_of next (InUse pair) st begun = record { front = begun.0.front; follows = begun.0.follows; low = begun.0.low; filled = begun.0.filled; generation = begun.1 }
+  parts_of next (InUse pair) st begun = record { front = begun.0.front; follows = begun.0.follows; place = begun.0.place; filled = begun.0.filled; generation = begun.1; limit = begun.2 }
   parts_of next (Shut left right) st begun = absurd begun
   parts_of next Away st begun = absurd begun
 
-  pub begun_of : (next : NextBank) (disks : Disks (Bank D g) D) (st : State) (front : List ℕ) → Follows next.successor front st → 1 ≤ next.at → IsFilledOn front next.at disks → next.successor.generation ≡ generation_in_use disks + 1 → IsBegunOn next disks st
-  begun_of next (InUse pair) st front follows low filled generation = (record { front = front; follows = follows; low = low; filled = filled }, generation)
-  begun_of next (Shut left right) st front follows low filled generation = absurd filled
-  begun_of next Away st front follows low filled generation = absurd filled
+  pub begun_of : (next : NextBank) (disks : Disks (Bank D g) D) (st : State) (front : List ℕ) → Follows next.successor front st → next.at ≡ 1 + length front → IsFilledOn front next.at disks → next.successor.generation ≡ generation_in_use disks + 1 → next.successor.limit ≡ limit_in_use disks → IsBegunOn next disks st
+  begun_of next (InUse pair) st front follows place filled generation limit = (record { front = front; follows = follows; place = place; filled = filled }, generation, limit)
+  begun_of next (Shut left right) st front follows place filled generation limit = absurd filled
+  begun_of next Away st front follows place filled generation limit = absurd filled
 
   -- Where only that there is one is known:
   pub low_of : (next : NextBank) (disks : Disks (Bank D g) D) (st : State) → ∥ IsBegunOn next disks st ∥₁ → 1 ≤ next.at
-  low_of next disks st begun = at_most 1 next.at (∥∥₁_map begun (λ b. (parts_of next disks st b).low))
+  low_of next disks st begun = at_most 1 next.at (∥∥₁_map begun (λ b. omega (arith, (parts_of next disks st b).place)))
 
   pub within_of : (next : NextBank) (disks : Disks (Bank D g) D) (st : State) → ∥ IsBegunOn next disks st ∥₁ → IsWithin next.at disks
   within_of next (InUse pair) st begun = λ honest. at_most next.at (length (g.view pair.other).seen) (∥∥₁_map begun (λ b. step_within b.0.front next.at (g.view pair.other) (b.0.filled honest)))
@@ -72,6 +75,15 @@ module _ {D : Type 0} {g : Ghosts D} where
 
   pub generation_of : (next : NextBank) (disks : Disks (Bank D g) D) (st : State) → ∥ IsBegunOn next disks st ∥₁ → next.successor.generation ≡ generation_in_use disks + 1
   generation_of next disks st begun = ∥∥₁_elim begun (Coded-set coded_ℕ _ _) (λ b. (parts_of next disks st b).generation)
+
+  -- With its last bytes it keeps within the limit, and has more bytes than records.
+  pub fits_of : (next : NextBank) (s : Successor) (bytes : List ℕ) (disks : Disks (Bank D g) D) (st : State) → s.limit ≡ next.successor.limit → ((front : List ℕ) → Follows next.successor front st → Completes s front bytes st) → ∥ IsBegunOn next disks st ∥₁ → next.at + length bytes ≤ limit_in_use disks
+  fits_of next s bytes disks st limit ends begun =
+      at_most (next.at + length bytes) (limit_in_use disks) (∥∥₁_map begun (λ b. let p = parts_of next disks st b in omega (arith, p.place, p.limit, limit, (ends p.front p.follows).within)))
+
+  pub counts_of : (next : NextBank) (s : Successor) (bytes : List ℕ) (disks : Disks (Bank D g) D) (st : State) → ((front : List ℕ) → Follows next.successor front st → Completes s front bytes st) → ∥ IsBegunOn next disks st ∥₁ → s.records < next.at + length bytes
+  counts_of next s bytes disks st ends begun =
+      omega (arith, at_most (s.records + 1) (next.at + length bytes) (∥∥₁_map begun (λ b. let p = parts_of next disks st b in omega (arith, p.place, counts s p.front bytes st (ends p.front p.follows)))))
 
 module _ {D : Type 0} {g : Ghosts D} (timed : (d : D) → g.honest d → IsTimed (g.view d)) where
   -- The state stands at each moment of a step.

@@ -1,4 +1,4 @@
--- What a crash within a call of a server may leave of its two banks.
+-- Crashes within the calls of a server: what one may leave of its two banks.
 use Rattle.std.specs.Prelude.{ℕ, ◌+◌, ◌<◌, ◌≤◌, ◌⊎◌, List, ◌++◌, length}
 use Rattle.linda_tuple.specs.declared.form.Form.{Form}
 use Rattle.linda_wire.specs.declared.message.Message.{Message}

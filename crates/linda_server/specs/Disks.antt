@@ -1,5 +1,5 @@
--- The two disks of a server: which is which, and the state that stands on them. What a bank and a
--- disk say is handed in.
+-- The two disks of a server: which is which, and the state that is on them. What a bank and a disk
+-- say is handed in.
 use Rattle.std.specs.Prelude.{◌≡◌, ℕ, ◌+◌, Bool, true, false, not, [], if◌then◌else◌, Option, Some}
 use Rattle.std.specs.Prelude.{None}
 use Rattle.linda_tuple.specs.declared.form.Form.{Form}

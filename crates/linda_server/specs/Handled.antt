@@ -1,7 +1,7 @@
--- What calls of a server keep to: those that take messages, and those that write the same state
+-- Results of a server's calls: of those that take messages, and of those that write the same state
 -- anew.
 use Rattle.std.specs.Prelude.{◌≡◌, ℕ, ◌<◌, ◌⊎◌, ◌↔◌, List, [], length, true, false, Result, IfOk}
-use Rattle.std.specs.Prelude.{IfErr, OnOk, IsErrOf, None, IsSome}
+use Rattle.std.specs.Prelude.{◌+◌, IfErr, OnOk, IsErrOf, Some, None, IsSome}
 use Rattle.std.specs.Global.{Vec}
 use Rattle.std.specs.Vec.{vec_len}
 use Rattle.linda_wire.specs.declared.message.Message.{Message}
@@ -22,6 +22,8 @@ use Rattle.linda_server.specs.declared.progress.Progress.TheVariants.{Idle, Goin
 use Rattle.linda_server.specs.Calls.{IsBeforeOrAfter, HasHandled, HasNoRoom, StandsFor}
 use Rattle.linda_server.specs.Lives.{GoesOn}
 use Rattle.linda_server.specs.Next.{HasGrown}
+use Rattle.linda_server.specs.declared.next.NextBank.{NextBank}
+use Rattle.linda_snap.specs.declared.entry.TheConstants.{MAX_KEPT_BYTES}
 use Rattle.linda_server.specs.Node.{shown}
 use Rattle.linda_server.specs.Served.{IsServed}
 use Rattle.linda_server.specs.Switch.{HasNoNext, IsTakenOver}
@@ -131,12 +133,21 @@ module _ {D : Type 0} {g : Ghosts D} where
   abbrev pub HasBegun : Durable D g → Durable D g → Type 0
   HasBegun old new = IsSome new.next × IsBankStill old.disks new.disks
 
-  -- A step of a snapshot came to this (`advance`, `step`): none is begun, and nothing changed; one
-  -- that is begun goes on, beside the bank in use; or it came to its end, and its bank is in use.
-  abbrev pub CameTo : Durable D g → Durable D g → Progress → Type 0
-  CameTo old new Idle = (old.next ≡ None) × (new.next ≡ None) × (new.disks ≡ old.disks)
-  CameTo old new Going = HasGrown old.next new.next × IsBankStill old.disks new.disks
-  CameTo old new Done = IsSome old.next × (new.next ≡ None) × IsTakenOver old.disks new.disks
+  -- A snapshot in steps came to its end: its bank is in use, with the records that were noted, and
+  -- the last step wrote so many bytes at most, and one entry of a snapshot.
+  pub record HasEnded (most : ℕ) (old new : Durable D g) : Type 0 where
+    pub was : NextBank
+    pub were : old.next ≡ Some was
+    pub none : new.next ≡ None
+    pub taken : IsTakenOver was.successor.records old.disks new.disks
+    pub few : end_in_use new.disks < was.at + (most + MAX_KEPT_BYTES)
+
+  -- A step of a snapshot, of so many bytes, came to this (`advance`, `step`): none is begun, and
+  -- nothing changed; one that is begun goes on, beside the bank in use; or it came to its end.
+  abbrev pub CameTo : ℕ → Durable D g → Durable D g → Progress → Type 0
+  CameTo most old new Idle = (old.next ≡ None) × (new.next ≡ None) × (new.disks ≡ old.disks)
+  CameTo most old new Going = HasGrown most old.next new.next × IsBankStill old.disks new.disks
+  CameTo most old new Done = HasEnded most old new
 
   -- It is down where it says so, and says so where it was, as a node does; and every life goes on
   -- by it (`snapshot`, `trim`, `begin_steps`, `step`).

@@ -7,6 +7,7 @@ use Rattle.linda_disk.specs.View.{View}
 use Rattle.linda_disk.specs.declared.disk.Disk.{Ghosts}
 use Rattle.linda_journal.specs.declared.bank.Bank.{Bank}
 use Rattle.linda_journal.specs.Renewal.{IsFilled}
+use Rattle.linda_snap.specs.declared.entry.TheConstants.{MAX_KEPT_BYTES}
 use Rattle.linda_snap.specs.declared.successor.Successor.{Successor}
 use Rattle.linda_snap.specs.Draft.{Tuples}
 use Rattle.linda_snap.specs.Successor.{Follows, IsSafeFor}
@@ -20,14 +21,16 @@ use Rattle.linda_server.specs.declared.next.NextBank.{NextBank}
 pub record IsBegun (next : NextBank) (is_honest : Type 0) (other : View) (st : State) : Type 0 where
   pub front : List ℕ
   pub follows : Follows next.successor front st
-  pub low : 1 ≤ next.at
+  pub place : next.at ≡ 1 + length front
   pub filled : is_honest → IsFilled front next.at other
 
 module _ {D : Type 0} {g : Ghosts D} where
-  -- It is begun so on the disk that is not in use, and is of the next generation.
+  -- It is begun so on the disk that is not in use, is of the next generation, and has the same
+  -- limit.
   abbrev pub IsBegunOn : NextBank → Disks (Bank D g) D → State → Type 0
   IsBegunOn next (InUse pair) st = IsBegun next (g.honest pair.other) (g.view pair.other) st
       × (next.successor.generation ≡ pair.bank.generation + 1)
+      × (next.successor.limit ≡ pair.bank.limit)
   IsBegunOn next (Shut left right) st = ⊥
   IsBegunOn next Away st = ⊥
 
@@ -47,13 +50,14 @@ module _ {D : Type 0} {g : Ghosts D} where
   IsWithin at (Shut left right) = ⊥
   IsWithin at Away = ⊥
 
--- There is one still, and more of it is written.
-pub record HasGrown (old new : Option NextBank) : Type 0 where
+-- There is one still, and more of it is written: so many bytes at most, and one entry of a snapshot.
+pub record HasGrown (most : ℕ) (old new : Option NextBank) : Type 0 where
   pub was : NextBank
   pub now : NextBank
   pub were : old ≡ Some was
   pub are : new ≡ Some now
   pub more : was.at < now.at
+  pub few : now.at ≤ was.at + (most + MAX_KEPT_BYTES)
 
 -- ---- what is done meanwhile
 
@@ -74,13 +78,14 @@ IsSpared s now (Leave n) = Unit {0}
 abbrev pub AreSpared : Successor → Tuples → List (ℕ × Message) → Type 0
 AreSpared s now ms = All (λ m. IsSpared s now m.1) ms
 
--- It is the bank of before, of the same generation and at the same place, and what followed the one
--- state follows the other.
+-- It is the bank of before, of the same generation and limit and at the same place, and what followed
+-- the one state follows the other.
 pub record KeepsUp (old : Option NextBank) (st : State) (next : NextBank) (now : State)
     : Type 0 where
   pub was : NextBank
   pub is : old ≡ Some was
   pub generation : next.successor.generation ≡ was.successor.generation
+  pub limit : next.successor.limit ≡ was.successor.limit
   pub place : next.at ≡ was.at
   pub follows : (front : List ℕ) → Follows was.successor front st
       → Follows next.successor front now

@@ -1,4 +1,4 @@
--- Why a server is not opened.
+-- Openings that fail, and why.
 use Rattle.std.specs.Prelude.{ℕ, List}
 use Rattle.linda_snap.specs.declared.choice.ChoiceFault.{ChoiceFault}
 use Rattle.linda_snap.specs.declared.choice.ChoiceFault.TheVariants as choices

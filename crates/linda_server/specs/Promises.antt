@@ -1,4 +1,4 @@
--- What holds after every life of a server.
+-- Promises that hold after every life of a server.
 use Rattle.std.specs.Prelude.{◌≡◌, ℕ, false, if◌then◌else◌}
 use Rattle.std.specs.Prelude.{List, [], ◌∷◌, ◌++◌, All, Some, IsSome}
 use Rattle.std.specs.FinMap.{get}

@@ -1,4 +1,4 @@
--- What a server comes back with that went down.
+-- Reopening of a server that went down, and what it comes back with.
 use Rattle.std.specs.Prelude.{◌≡◌, ◌⊎◌, ◌-◌, Bool, false, nat_le, List, [], length, Option, Some}
 use Rattle.std.specs.Prelude.{None}
 use Rattle.std.specs.List.{slice_get}

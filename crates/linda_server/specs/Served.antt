@@ -1,4 +1,4 @@
--- What messages of clients led to, each by itself.
+-- Results of clients' messages, each by itself.
 use Rattle.std.specs.Prelude.{◌≡◌, ℕ, List, [], ◌∷◌, ◌++◌, map, length, option_to_list}
 use Rattle.std.specs.Option.{is_some}
 use Rattle.std.specs.List.{flat_map}

@@ -1,4 +1,4 @@
--- How a server takes its other disk into use, and how it empties that disk.
+-- Switch of a server to its other disk, and how it empties that disk.
 use Rattle.std.specs.Prelude.{◌≡◌, ℕ, ◌+◌, ◌<◌, ◌≤◌, ◌^◌, ◌⊎◌, not, length}
 use Rattle.linda_store_state.specs.State.{State}
 use Rattle.linda_disk.specs.View.{IsDurable}
@@ -42,16 +42,18 @@ module _ {D : Type 0} {g : Ghosts D} where
   IsSwitched (Shut left right) new = ⊥
   IsSwitched Away new = ⊥
 
-  -- The two have changed places: the bank in use is in the form of new banks and of the next
-  -- generation, and the disk of the bank that was in use is the other one, as it was.
-  abbrev pub IsTakenOver : Disks (Bank D g) D → Disks (Bank D g) D → Type 0
-  IsTakenOver (InUse old) (InUse new) =
+  -- The two have changed places: the bank in use is in the form of new banks, of the next
+  -- generation, has so many records and ends within its limit, and the disk of the bank that was in
+  -- use is the other one, as it was.
+  abbrev pub IsTakenOver : ℕ → Disks (Bank D g) D → Disks (Bank D g) D → Type 0
+  IsTakenOver records (InUse old) (InUse new) =
       (new.is_right ≡ not old.is_right) × (new.bank.form ≡ written)
-      × (new.bank.generation ≡ old.bank.generation + 1) × (new.other ≡ old.bank.disk)
-  IsTakenOver (InUse old) (Shut left right) = ⊥
-  IsTakenOver (InUse old) Away = ⊥
-  IsTakenOver (Shut left right) new = ⊥
-  IsTakenOver Away new = ⊥
+      × (new.bank.generation ≡ old.bank.generation + 1) × (new.bank.records ≡ records)
+      × (new.bank.end < new.bank.limit) × (new.other ≡ old.bank.disk)
+  IsTakenOver records (InUse old) (Shut left right) = ⊥
+  IsTakenOver records (InUse old) Away = ⊥
+  IsTakenOver records (Shut left right) new = ⊥
+  IsTakenOver records Away new = ⊥
 
   -- The bank in use is as it was, and the other disk holds one byte, if it is honest, which is no
   -- open gate.

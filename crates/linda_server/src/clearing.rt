@@ -1,4 +1,4 @@
-//! How the disk that is not in use is emptied.
+//! Clearing of the disk that is not in use.
 
 ghost use Rattle.std.specs.Prelude.{◌≡◌, ◌+◌, ◌↔◌, true, length, IfErr, OnOk};
 ghost use Rattle.linda_store_state.specs.State as state;

@@ -1,4 +1,4 @@
-//! How deeds come onto the bank in use.
+//! Commits of deeds to the bank in use.
 
 ghost use Rattle.std.specs.Prelude.{◌≡◌, ◌<◌, ◌≤◌, ◌+◌, ◌↔◌, ◌⊎◌, ◌≢◌, [], true, length, All};
 ghost use Rattle.std.specs.Prelude.{IfErr, OnOk, IsErrOf};

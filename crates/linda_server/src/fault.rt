@@ -1,4 +1,4 @@
-//! Why a server was not made or opened, and why it did not serve.
+//! Faults of a server: why it was not made or opened, and why it did not serve.
 
 ghost use Rattle.std.specs.Prelude.{◌≡◌, ◌↔◌, ◌≢◌};
 

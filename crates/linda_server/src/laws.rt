@@ -1,5 +1,5 @@
-//! What holds of a server after all its calls, crashes and openings, stated by the contract of a
-//! function that does nothing.
+//! Law of a server over all its calls, crashes and openings, stated by the contract of a function
+//! that does nothing.
 
 ghost use Rattle.std.specs.Prelude.{ℕ, List};
 ghost use Rattle.linda_wire.specs.declared.reply.Reply.{Reply};

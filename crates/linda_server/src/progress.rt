@@ -1,4 +1,4 @@
-//! How a snapshot in steps went on.
+//! Progress of a snapshot in steps.
 
 /// What a step of a snapshot came to.
 #[derive(Clone, Copy, Debug, PartialEq, Eq)]

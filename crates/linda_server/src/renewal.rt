@@ -1,4 +1,4 @@
-//! How the disk that is not in use becomes a new bank, which is then in use.
+//! Renewal: the disk that is not in use becomes a new bank, which is then in use.
 
 ghost use Rattle.std.specs.Prelude.{◌≡◌, ◌<◌, ◌^◌, ◌↔◌, ◌⊎◌, true, IfErr, OnOk, IsErrOf};
 ghost use Rattle.linda_store_state.specs.State.{IsState};

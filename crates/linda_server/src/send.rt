@@ -1,5 +1,5 @@
-//! That a durable server may go to another thread, where its disks may: this is checked here, and
-//! used above.
+//! That a durable server may go to another thread, if its disks may: this is checked here, and used
+//! above.
 
 use crate::durable::Durable;
 use linda_disk::Disk;

@@ -1,4 +1,4 @@
-//! What messages led to, given for each of them.
+//! Results of messages that were served, for each of them.
 
 ghost use Rattle.std.specs.Prelude.{◌≡◌};
 

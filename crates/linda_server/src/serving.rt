@@ -1,4 +1,4 @@
-//! How messages are served by a store, before anything is written.
+//! Service of messages by a store, before anything is written.
 
 ghost use Rattle.std.specs.Prelude.{◌≡◌, ◌++◌, ◌∷◌, []};
 ghost use Rattle.std.specs.Prelude.{length, OnOk, IfOk, false, option_to_list};

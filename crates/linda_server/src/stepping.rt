@@ -1,4 +1,5 @@
-//! How the next bank is written in steps on the disk that is not in use, and is taken into use.
+//! Steps of a snapshot: the next bank is written on the disk that is not in use, and is taken into
+//! use.
 
 ghost use Rattle.std.specs.Prelude.{◌≡◌, ◌≤◌, ◌<◌, ◌+◌, ◌++◌, ◌^◌, ◌↔◌, ℕ, List, true, length};
 ghost use Rattle.std.specs.Prelude.{IfOk, IfErr, OnOk, IfSome, IfNone, IsErrOf};
@@ -15,7 +16,8 @@ ghost use Rattle.linda_server.specs.Next.{IsBegun, IsBegunOn, IsFilledOn, IsWith
 ghost use Rattle.linda_server.specs.Pairs.{PairsSince};
 ghost use Rattle.linda_server.specs.Server.{both_of, is_usable, generation_in_use, limit_in_use};
 ghost use Rattle.linda_server.specs.Server.{BothHonest, failures_of, IsUpFor, IsKeptFor};
-ghost use Rattle.linda_server.specs.Server.{IsBankStill};
+ghost use Rattle.linda_server.specs.Server.{IsBankStill, end_in_use};
+ghost use Rattle.linda_snap.specs.declared.entry.TheConstants.{MAX_KEPT_BYTES};
 ghost use Rattle.linda_server.specs.Switch.{HasNoNext, IsOtherDurable, IsTakenOver};
 
 use crate::disks::{Disks, Pair};
@@ -104,7 +106,7 @@ fn start_on<B: Bag, D: Disk>(
     ensures durable { D.honest other → OnOk result.0 (IsDurable (D.view result.1)) }
     ensures begun { IfOk result.0 (λ next.
         IsBegun next (D.honest result.1) (D.view result.1) state.now
-        × (next.successor.generation ≡ generation + 1)) }
+        × (next.successor.generation ≡ generation + 1) × (next.successor.limit ≡ limit)) }
     ensures full { IsErrOf result.0 ServeFault.Full → (result.1 ≡ other)
         × HasNoNext state.now limit generation }
     ensures room { OnOk result.0 (HasNoNext state.now limit generation → ⊥) }
@@ -132,7 +134,7 @@ fn lay<D: Disk>(disk: D, bytes: &[u8]) -> (Result<usize, DiskFault>, D)
         (IsSameOrNone (D.view disk).seen) }
     ensures filled { D.honest disk
         → IfOk result.0 (λ at. IsFilled bytes.now at (D.view result.1)) }
-    ensures low { IfOk result.0 (λ at. 1 ≤ at) }
+    ensures place { IfOk result.0 (λ at. at ≡ 1 + length bytes.now) }
     ensures honest { D.honest disk ↔ D.honest result.1 }
     ensures cause { IfErr result.0 (λ fault. TellsFailures DiskFault.Device fault
         (D.failures disk) (D.failures result.1)) }
@@ -146,8 +148,8 @@ fn lay<D: Disk>(disk: D, bytes: &[u8]) -> (Result<usize, DiskFault>, D)
     }
 }
 
-/// Writes the next part of the next bank, about so many bytes at most. Gives it back if more is to
-/// come; else it is in use now.
+/// Writes the next part of the next bank: so many bytes at most, and one entry more. Gives it back
+/// if more is to come; else it is in use now.
 ///
 /// # Errors
 ///
@@ -175,9 +177,13 @@ pub(crate) fn advance<B: Bag, D: Disk>(
     ensures begun { IsBegunOn next disks.old state.now
         → IfOk result (λ o. IfSome o (λ n. IsBegunOn n disks.new state.now)) }
     ensures still { IfOk result (λ o. IfSome o (λ n. IsBankStill disks.old disks.new)) }
-    // Each step writes something.
+    // Each step writes something, and no more than it may.
     ensures further { IfOk result (λ o. IfSome o (λ n. next.at < n.at)) }
-    ensures switched { IfOk result (λ o. IfNone o (IsTakenOver disks.old disks.new)) }
+    ensures few { IfOk result (λ o. IfSome o (λ n. n.at ≤ next.at + (most + MAX_KEPT_BYTES))) }
+    ensures last { IfOk result (λ o. IfNone o (end_in_use disks.new
+        < next.at + (most + MAX_KEPT_BYTES))) }
+    ensures switched { IfOk result (λ o. IfNone o
+        (IsTakenOver next.successor.records disks.old disks.new)) }
     ensures there { is_there disks.new ≡ true }
     ensures ready { OnOk result (is_usable disks.new ≡ true) }
     ensures limit { OnOk result (limit_in_use disks.new ≡ limit_in_use disks.old) }
@@ -273,6 +279,8 @@ fn end<D: Disk>(
     requires behind { 1 ≤ at }
     requires within { IsWithin at disks.old }
     requires generation { successor.now.generation ≡ generation_in_use disks.old + 1 }
+    requires fits { at + length bytes.now ≤ limit_in_use disks.old }
+    requires counted { successor.now.records < at + length bytes.now }
     ensures any_moment { (st : states.State) (front : List ℕ)
         → BothHonest disks.old
         → IsUpFor disks.old st
@@ -284,7 +292,8 @@ fn end<D: Disk>(
         → Completes successor.now front bytes.now st
         → IsKeptFor disks.old st
         → OnOk result (IsKeptFor disks.new st) }
-    ensures switched { OnOk result (IsTakenOver disks.old disks.new) }
+    ensures switched { OnOk result (IsTakenOver successor.now.records disks.old disks.new) }
+    ensures place { OnOk result (end_in_use disks.new + 1 ≡ at + length bytes.now) }
     ensures there { is_there disks.new ≡ true }
     ensures ready { OnOk result (is_usable disks.new ≡ true) }
     ensures limit { OnOk result (limit_in_use disks.new ≡ limit_in_use disks.old) }

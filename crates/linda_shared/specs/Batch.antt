@@ -1,4 +1,4 @@
--- What contracts see of the batch in hand.
+-- Batch in hand, as contracts see it.
 use Rattle.std.specs.Prelude.{ℕ, Bool, true, List, [], ◌∷◌, ◌&&◌, is_some}
 use Rattle.linda_wire.specs.declared.message.Message.{Message}
 use Rattle.linda_shared_queue.specs.declared.address.Address.{Address}

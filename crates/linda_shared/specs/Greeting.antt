@@ -1,4 +1,4 @@
--- What a greeting comes to, as contracts see it.
+-- Greetings and their results, as contracts see them.
 use Rattle.std.specs.Prelude.{◌≡◌, ℕ, Result, Ok, Err}
 use Rattle.std.specs.Arc.{arc_value}
 use Rattle.linda_wire.specs.declared.message.Message.{Message}

@@ -1,4 +1,4 @@
--- What contracts say of seats that went to work and came back.
+-- Seats that went to work and came back, as contracts see them.
 use Rattle.std.specs.Prelude.{◌≡◌, ◌≤◌, ℕ, List, [], ◌∷◌, Result, Ok, Err, nat_lt, if◌then◌else◌}
 use Rattle.linda_shared_accounts.specs.Account.{Account}
 use Rattle.linda_shared_accounts.specs.declared.fault.SharedFault.{SharedFault}

@@ -7,46 +7,44 @@ ghost use Rattle.std.specs.VecDeque.{deque_len};
 ghost use Rattle.linda_store_step.specs.declared.size.TheConstants.{MAX_BATCH};
 ghost use Rattle.linda_shared_queue.specs.Queue.{line, fits, asks_next};
 ghost use Rattle.linda_shared.specs.Batch.{batch_of, parcel, has_copy};
+ghost use Rattle.linda_shared.specs.Group.{group_of};
 
 use crate::given::settle;
+use crate::group::Group;
+use crate::served::ServedGroup;
 use linda_disk::Disk;
-use linda_shared_accounts::{Answered, Asked};
 use linda_shared_held::Held;
 use linda_shared_queue::{Address, Answer, Queue, Router, Waiting};
 use linda_store_step::MAX_BATCH;
-use linda_wire::Message;
 use std::alloc::{AllocError, Global};
 use std::marker::Model;
 use std::sync::Wait;
 use std::sync::ledger::Ledger;
 
-/// The messages in hand, each with its client and its part of the ledger, and the answers that go
-/// out. Contracts see the messages with their clients, in order, and of each answer whether it has
-/// a copy. The client of a message is the one that its answer goes to.
+/// The messages in hand, and the answers that go out. Contracts see the messages with their
+/// clients, in order, and of each answer whether it has a copy. The client of a message is the one
+/// that its answer goes to.
 #[derive(Drop)]
 pub(crate) struct Batch<L: Ledger> {
-    messages: Vec<(u32, Message)>,
-    asked: Vec<Asked<Address<L>, L>>,
-    answered: Vec<Answered<Address<L>, L>>,
+    group: Group<Address<L>, L>,
     pub(crate) answers: Vec<Answer<Address<L>, L>>,
 }
 
 impl<L: Ledger> Model for Batch<L> {
-    ghost use Rattle.std.specs.Prelude.{◌≡◌, ◌+◌, ◌≤◌, map, vec_len, vec_capacity};
+    ghost use Rattle.std.specs.Prelude.{◌≡◌, ◌+◌, ◌≤◌, length, map, vec_len, vec_capacity};
     ghost use Rattle.linda_store_step.specs.declared.size.TheConstants.{MAX_BATCH};
     ghost use Rattle.linda_shared.specs.Batch as seen;
     ghost use Rattle.linda_shared.specs.Batch.{batch_of, has_copy};
 
     ghost Value = { seen.Batch };
 
-    ghost view = { λ t. batch_of t.messages.items (map has_copy t.answers.items) };
+    ghost view = { λ t. batch_of t.group.messages (map has_copy t.answers.items) };
 
-    ghost invariant = { λ t. (map (λ m. m.0) t.messages.items
-        ≡ map (λ a. a.address.client) t.asked.items)
-        × (vec_len t.messages ≡ vec_len t.asked) × (vec_len t.answered ≡ 0)
-        × (vec_len t.asked + vec_len t.answers ≤ MAX_BATCH)
-        × (MAX_BATCH ≤ vec_capacity t.messages) × (MAX_BATCH ≤ vec_capacity t.asked)
-        × (MAX_BATCH ≤ vec_capacity t.answered) × (MAX_BATCH ≤ vec_capacity t.answers) };
+    ghost invariant = { λ t. (map (λ m. m.0) t.group.messages
+        ≡ map (λ a. a.client) t.group.addresses)
+        × (t.group.room ≡ MAX_BATCH)
+        × (length t.group.messages + vec_len t.answers ≤ MAX_BATCH)
+        × (MAX_BATCH ≤ vec_capacity t.answers) };
 }
 
 impl<L: Ledger> Batch<L> {
@@ -54,16 +52,9 @@ impl<L: Ledger> Batch<L> {
     pub(crate) fn new(alloc: Global) -> Result<Batch<L>, AllocError>
         ensures { IfOk result (λ t. t ≡ batch_of [] []) }
     {
-        let messages = Vec::with_capacity(alloc, MAX_BATCH)?;
-        let asked = Vec::with_capacity(alloc, MAX_BATCH)?;
-        let answered = Vec::with_capacity(alloc, MAX_BATCH)?;
+        let group = Group::new(alloc, MAX_BATCH)?;
         let answers = Vec::with_capacity(alloc, MAX_BATCH)?;
-        Ok(Batch {
-            messages,
-            asked,
-            answered,
-            answers,
-        })
+        Ok(Batch { group, answers })
     }
 
     /// Takes what waits of one kind, up to a batch.
@@ -80,14 +71,12 @@ impl<L: Ledger> Batch<L> {
     {
         queue.begin();
         for _ in 0..MAX_BATCH {
-            let room = MAX_BATCH - self.asked.len() - self.answers.len();
+            let room = MAX_BATCH - self.group.len() - self.answers.len();
             let Some(waiting) = queue.next(room) else {
                 break;
             };
             let Waiting { message, asked, .. } = waiting;
-            self.messages
-                .push_reserved((asked.address().client(), message));
-            self.asked.push_reserved(asked);
+            self.group.push(asked.address().client(), message, asked);
         }
     }
 
@@ -100,9 +89,9 @@ impl<L: Ledger> Batch<L> {
         ensures kept { result ≡ true → All IsTrue self.new.answers }
         ensures down { result ≡ false → held.new.server.down ≡ true }
     {
-        let _ = held.handle_all(alloc, &self.messages, &mut self.asked, &mut self.answered);
-        self.messages.clear();
-        write_all(alloc, &mut self.answered, &mut self.answers);
+        let group = std::mem::replace(&mut self.group, Group::without_room(alloc));
+        let served = group.serve(alloc, held);
+        self.group = write_all(alloc, served, &mut self.answers);
         settle(&mut self.answers, held)
     }
 
@@ -114,19 +103,20 @@ impl<L: Ledger> Batch<L> {
     }
 }
 
-// Writes each answer with a copy.
+// Writes each answer with a copy, and gives the room back.
 fn write_all<L: Ledger>(
     alloc: Global,
-    answered: &mut Vec<Answered<Address<L>, L>>,
+    served: ServedGroup<Address<L>, L>,
     answers: &mut Vec<Answer<Address<L>, L>>,
-)
-    requires { vec_len answers.old + vec_len answered.old ≤ vec_capacity answers.old }
-    ensures answered { (vec_len answered.new ≡ 0)
-        × (vec_capacity answered.new ≡ vec_capacity answered.old) }
-    ensures answers { (vec_len answers.new ≡ vec_len answers.old + vec_len answered.old)
+) -> Group<Address<L>, L>
+    requires { vec_len answers.old + length served.answers ≤ vec_capacity answers.old }
+    ensures group { result ≡ group_of served.room [] [] }
+    ensures answers { (vec_len answers.new ≡ vec_len answers.old + length served.answers)
         × (vec_capacity answers.new ≡ vec_capacity answers.old) }
 {
-    while let Some(one) = answered.pop() {
-        answers.push_reserved(Answer::of(alloc, one));
+    let mut served = served;
+    while let Some((_, _, answered)) = served.next() {
+        answers.push_reserved(Answer::of(alloc, answered));
     }
+    served.into_group()
 }

@@ -1,4 +1,4 @@
-//! When a worker's message may go.
+//! Gates, which say when a worker's message may go.
 
 use std::sync::Wait;
 use std::time::Clock;

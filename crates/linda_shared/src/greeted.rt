@@ -1,4 +1,4 @@
-//! What a greeting comes to.
+//! Results of a greeting.
 
 use crate::seat::Seat;
 use linda_shared_queue::Outlet;

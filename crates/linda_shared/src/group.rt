@@ -1,13 +1,13 @@
-//! Messages of several sessions that are served together.
+//! Group of messages that go to the server together.
 
-ghost use Rattle.std.specs.Prelude.{◌≡◌, ◌+◌, ◌<◌, ◌==◌, ◌&&◌, ◌⊎◌, nat_lt, vec_len, true};
-ghost use Rattle.std.specs.Prelude.{IfOk, IfSome, IfNone};
+ghost use Rattle.std.specs.Prelude.{◌≡◌, ◌+◌, ◌<◌, ◌≤◌, ◌++◌, ◌∷◌, [], true, length, map, All};
+ghost use Rattle.std.specs.Prelude.{nat_lt, IfOk};
 ghost use Rattle.linda_shared_accounts.specs.Account.{account_of};
 ghost use Rattle.linda_shared_accounts.specs.declared.limits.TheConstants.{MOST_ASKED};
 ghost use Rattle.linda_store_step.specs.declared.size.TheConstants.{MAX_GROUP};
-ghost use Rattle.linda_shared.specs.Group.{group_of};
+ghost use Rattle.linda_shared.specs.Group.{group_of, told_in, AreTold, IsEffectOf};
 
-use crate::sender::Sender;
+use crate::served::ServedGroup;
 use linda_disk::Disk;
 use linda_shared_accounts::{Account, Answered, Asked};
 use linda_shared_held::Held;
@@ -17,114 +17,137 @@ use std::alloc::{AllocError, Global};
 use std::marker::Model;
 use std::sync::ledger::Ledger;
 
-/// Messages of several sessions, each with its sender and its part of the ledger; once they were
-/// served, the answers. There is room for all, so nothing that it does takes memory. A message
-/// is done as that of the client of the account that asked it. Contracts see how many are asked,
-/// and how many are answered.
+/// Messages that go to the server together, each with its client, the address of its answer and
+/// its part of the ledger. There is room for a given number, and for their answers, so nothing that
+/// it does takes memory. Contracts see the messages and the addresses, in order.
 #[derive(Drop)]
-pub struct Group<L: Ledger> {
-    // Those asked, in order; once they were served those that are answered, the first one last.
-    messages: Vec<(u32, Message)>,
-    asked: Vec<Asked<Sender, L>>,
-    answered: Vec<Answered<Sender, L>>,
+pub struct Group<A: Drop, L: Ledger> {
+    pub(crate) room: usize,
+    pub(crate) messages: Vec<(u32, Message)>,
+    pub(crate) asked: Vec<Asked<A, L>>,
+    // Room for the answers.
+    pub(crate) answered: Vec<Answered<A, L>>,
 }
 
-impl<L: Ledger> Model for Group<L> {
-    ghost use Rattle.std.specs.Prelude.{◌≡◌, ◌≤◌, ◌++◌, map, vec_len, vec_capacity};
+impl<A: Drop, L: Ledger> Model for Group<A, L> {
+    ghost use Rattle.std.specs.Prelude.{◌≡◌, ◌≤◌, [], map, vec_len, vec_capacity};
     ghost use Rattle.linda_store_step.specs.declared.size.TheConstants.{MAX_GROUP};
     ghost use Rattle.linda_shared.specs.Group as seen;
     ghost use Rattle.linda_shared.specs.Group.{group_of};
 
-    ghost Value = { seen.Group };
+    ghost Value = { seen.Group A };
 
-    ghost view = { λ g. group_of (vec_len g.asked) (vec_len g.answered) };
+    ghost view = { λ g. group_of g.room g.messages.items (map (λ a. a.address) g.asked.items) };
 
-    ghost invariant = { λ g. (map (λ m. m.0) g.messages.items
-        ≡ map (λ a. a.address.client) g.asked.items ++ map (λ a. a.address.client) g.answered.items)
-        × (vec_len g.messages ≤ MAX_GROUP)
-        × (MAX_GROUP ≤ vec_capacity g.messages) × (MAX_GROUP ≤ vec_capacity g.asked)
-        × (MAX_GROUP ≤ vec_capacity g.answered) };
+    ghost invariant = { λ g. (vec_len g.asked ≡ vec_len g.messages)
+        × (g.answered.items ≡ [])
+        × (vec_len g.messages ≤ g.room) × (g.room ≤ MAX_GROUP)
+        × (g.room ≤ vec_capacity g.messages) × (g.room ≤ vec_capacity g.asked)
+        × (g.room ≤ vec_capacity g.answered) };
 }
 
-impl<L: Ledger> Group<L> {
-    /// Nothing is asked, and there is room for 1,024 messages.
+impl<A: Drop, L: Ledger> Group<A, L> {
+    /// Nothing is asked, and there is room for so many messages.
     ///
     /// # Errors
     ///
     /// `AllocError`: nothing was made.
-    pub fn new(alloc: Global) -> Result<Group<L>, AllocError>
-        ensures { IfOk result (λ g. g ≡ group_of 0 0) }
+    pub fn new(alloc: Global, room: usize) -> Result<Group<A, L>, AllocError>
+        requires { room ≤ MAX_GROUP }
+        ensures { IfOk result (λ g. g ≡ group_of room [] []) }
     {
-        let messages = Vec::with_capacity(alloc, MAX_GROUP)?;
-        let asked = Vec::with_capacity(alloc, MAX_GROUP)?;
-        let answered = Vec::with_capacity(alloc, MAX_GROUP)?;
+        let messages = Vec::with_capacity(alloc, room)?;
+        let asked = Vec::with_capacity(alloc, room)?;
+        let answered = Vec::with_capacity(alloc, room)?;
         Ok(Group {
+            room,
             messages,
             asked,
             answered,
         })
     }
 
+    /// Nothing is asked, and there is no room. It takes no memory: for the place of a group that
+    /// is being served.
+    pub fn without_room(alloc: Global) -> Group<A, L>
+        ensures { result ≡ group_of 0 [] [] }
+    {
+        Group {
+            room: 0,
+            messages: Vec::new(alloc),
+            asked: Vec::new(alloc),
+            answered: Vec::new(alloc),
+        }
+    }
+
     /// How many messages are here.
     pub fn len(&self) -> usize
-        ensures { result ≡ self.now.asked + self.now.answered }
+        ensures is { result ≡ length self.now.messages }
+        ensures few { result ≤ self.now.room }
     {
-        self.asked.len() + self.answered.len()
+        self.messages.len()
     }
 
-    /// Whether there is room for one message more, and no answer waits to be heard.
+    /// Whether there is room for one message more.
     pub fn has_room(&self) -> bool
-        ensures is { result ≡ ((self.now.answered == 0) && nat_lt self.now.asked MAX_GROUP) }
-        ensures room { result ≡ true → self.now.asked < MAX_GROUP }
-        ensures none { result ≡ true → self.now.answered ≡ 0 }
+        ensures is { result ≡ nat_lt (length self.now.messages) self.now.room }
+        ensures room { result ≡ true → length self.now.messages < self.now.room }
     {
-        self.answered.is_empty() && self.asked.len() < MAX_GROUP
+        self.messages.len() < self.room
     }
 
-    /// A message of this account goes on its way. Its answer comes back with this key.
-    pub fn ask(&mut self, account: &mut Account<L>, key: usize, message: Message)
-        requires room { self.old.asked < MAX_GROUP }
-        requires none { self.old.answered ≡ 0 }
-        requires few { account.old.asked < MOST_ASKED }
-        ensures account { account.new ≡ account_of account.old.client account.old.deeds
-            (account.old.asked + 1)
-            account.old.ring }
-        ensures group { self.new ≡ group_of (self.old.asked + 1) 0 }
+    /// This message of this client, which was asked so, joins the others.
+    pub(crate) fn push(&mut self, client: u32, message: Message, asked: Asked<A, L>)
+        requires { length self.old.messages < self.old.room }
+        ensures { self.new ≡ group_of self.old.room (self.old.messages ++ (client, message) ∷ [])
+            (self.old.addresses ++ asked.address ∷ []) }
     {
-        let client = account.client();
-        let asked = account.ask(Sender::new(client, key));
         self.messages.push_reserved((client, message));
         self.asked.push_reserved(asked);
     }
 
-    /// Serves all that was asked, as one step of the server after another. If answers of before
-    /// wait to be heard nothing is done.
-    pub(crate) fn serve<D: Disk>(&mut self, alloc: Global, held: &mut Held<D, L>)
-        ensures each { self.new.asked + self.new.answered ≡ self.old.asked + self.old.answered }
-        ensures all { self.old.answered ≡ 0 → self.new.asked ≡ 0 }
+    /// Serves all that was asked, as one step of the server after another.
+    pub(crate) fn serve<D: Disk>(self, alloc: Global, held: &mut Held<D, L>) -> ServedGroup<A, L>
+        // Each message has an answer, in order, and that has its address;
+        ensures each { map (λ a. a.0) result.answers ≡ self.messages }
+        ensures addresses { map (λ a. a.1.address) result.answers ≡ self.addresses }
+        ensures room { result.room ≡ self.room }
+        // what is reported is what the server says of these messages,
+        ensures told { AreTold D D.Disk self.messages (told_in result) }
+        // and so a deed is one that its own message asks for.
+        ensures own { All (λ a. IsEffectOf a.0 a.1.told) result.answers }
     {
-        if !self.answered.is_empty() {
-            return;
+        let Group {
+            room,
+            mut messages,
+            mut asked,
+            mut answered,
+        } = self;
+        let _ = held.handle_all(alloc, &messages, &mut asked, &mut answered);
+        messages.reverse();
+        ServedGroup {
+            room,
+            messages,
+            asked,
+            answered,
         }
-        let _ = held.handle_all(alloc, &self.messages, &mut self.asked, &mut self.answered);
-        self.messages.reverse();
     }
+}
 
-    /// The next message that was answered, in order, with its answer; nothing before the group was
-    /// served, and once all answers are taken.
-    pub fn next(&mut self) -> Option<(Message, Answered<Sender, L>)>
-        ensures fewer { IfSome result (λ _. (self.new.answered + 1 ≡ self.old.answered)
-            × (self.new.asked ≡ self.old.asked)) }
-        ensures none { IfNone result ((0 < self.old.asked) ⊎ (self.old.answered ≡ 0)) }
-        ensures same { IfNone result (self.new ≡ self.old) }
+impl<L: Ledger> Group<usize, L> {
+    /// A message of this account goes on its way. Its answer comes back with this key.
+    pub fn ask(&mut self, account: &mut Account<L>, key: usize, message: Message)
+        requires room { length self.old.messages < self.old.room }
+        requires few { account.old.asked < MOST_ASKED }
+        ensures account { account.new ≡ account_of account.old.client account.old.deeds
+            (account.old.asked + 1)
+            account.old.ring }
+        ensures group { self.new ≡ group_of self.old.room
+            (self.old.messages ++ (account.old.client, message) ∷ [])
+            (self.old.addresses ++ key ∷ []) }
     {
-        if !self.asked.is_empty() {
-            return None;
-        }
-        let Some(answered) = self.answered.pop() else {
-            return None;
-        };
-        let message = self.messages.pop()?;
-        Some((message.1, answered))
+        let client = account.client();
+        let asked = account.ask(key);
+        self.push(client, message, asked);
     }
 }

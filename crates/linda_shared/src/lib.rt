@@ -1,14 +1,14 @@
 //! Sessions of clients, each in a thread of its own, over one durable server.
 //!
-//! `Shared` has the server under a lock. What waits is served in groups: whoever finds nobody
-//! serving leads, takes a batch of what waits to the server, and while the answers are given out
-//! the next session leads the next group. A
-//! `Seat` is what a session carries; its replies come out of an `Outlet`, which never asks for the
-//! server.
+//! `Shared` has the server under a lock. What waits is served in groups: a session that finds
+//! nobody serving leads, takes a batch of what waits to the server, and while the answers are given
+//! out the next session leads the next group. A `Seat` is what a session carries; its replies come
+//! out of an `Outlet`, which never asks for the server.
 //!
 //! One thread may serve many sessions too, and then waits for none of them: each is an `Account`,
 //! its messages go to the server in a `Group` with those of the others (`admit`, `serve_group`,
-//! `depart`), and `hear_answer` is what it hears. What is sent to clients goes to a `Post`.
+//! `depart`), and `hear_answer` is what it hears of each answer of the `ServedGroup`. What is sent to
+//! clients goes to a `Post`.
 #![tactic(auto)]
 
 mod addressed;
@@ -20,7 +20,7 @@ mod group;
 mod locked;
 mod seat;
 mod send;
-mod sender;
+mod served;
 mod shared;
 mod worker;
 mod workers;
@@ -36,9 +36,10 @@ pub use linda_shared_listing::{
 };
 pub use linda_shared_outbox::Sent;
 pub use linda_shared_queue::{Outlet, hear_answer};
+pub use linda_store_step::MAX_GROUP;
 pub use seat::Seat;
 pub use send::{outlet_crosses, seat_crosses, shared_may_be_lent};
-pub use sender::Sender;
+pub use served::ServedGroup;
 pub use shared::{Post, Shared};
 pub use worker::{MOST_TURNS, Next, Worker};
 pub use workers::{Worked, run_workers};

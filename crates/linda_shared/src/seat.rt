@@ -1,4 +1,4 @@
-//! What a session carries.
+//! Seats, which sessions carry.
 
 ghost use Rattle.std.specs.Prelude.{◌≡◌, ◌-◌, ◌^◌, min};
 ghost use Rattle.std.specs.Arc.{arc_value};

@@ -1,4 +1,4 @@
-//! What threads share and hand on.
+//! Send and Sync of what threads share and hand on.
 
 use crate::seat::Seat;
 use crate::shared::Shared;

@@ -1,4 +1,4 @@
-//! What a session does, step by step.
+//! Workers: what a session does, step by step.
 
 ghost use Rattle.std.specs.Prelude.{◌≡◌, ◌+◌, ◌-◌, ◌^◌, min};
 ghost use Rattle.linda_shared.specs.Working.{HasWorked};

@@ -1,4 +1,4 @@
--- What contracts see of an account: what a session was told.
+-- Account of a session as contracts see it: what was reported to the session.
 use Rattle.std.specs.Prelude.{ℕ, List}
 use Rattle.linda_shared_accounts.specs.declared.receipt.Receipt.{Receipt}
 

@@ -1,4 +1,4 @@
--- What contracts see of the accounts: how many deeds were told in all, and a place for each client
+-- Accounts as contracts see them: how many deeds were reported in all, and a place for each client
 -- that has or had a seat.
 use Rattle.std.specs.Prelude.{◌≡◌, ◌⊎◌, ℕ, Bool, true, false, ◌==◌, if◌then◌else◌, List, [], Option}
 use Rattle.std.specs.Prelude.{Some, None, IfSome}

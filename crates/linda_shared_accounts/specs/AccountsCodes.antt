@@ -1,4 +1,4 @@
--- How places and the accounts are stored where a model's value holds them.
+-- Codes of places and of the accounts, for a model's value that holds them.
 use Rattle.std.specs.Prelude.{◌≡◌, ℕ, Bool, Option, Some, None, refl}
 use Rattle.std.specs.Coded.{Coded, code_by, coded×, coded_ℕ, coded_bool, coded_option}
 use Rattle.std.specs.FinMap as map

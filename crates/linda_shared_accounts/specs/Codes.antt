@@ -1,4 +1,4 @@
--- How receipts, rings and accounts are stored where a model's value holds them.
+-- Codes of receipts, rings and accounts, for a model's value that holds them.
 use Rattle.std.specs.Prelude.{ℕ, List, refl}
 use Rattle.std.specs.Coded.{Coded, code_by, coded×, coded_ℕ, coded_list}
 use Rattle.linda_book.specs.declared.kept_reply.KeptReply.{KeptReply}

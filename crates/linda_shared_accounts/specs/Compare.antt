@@ -1,4 +1,4 @@
--- What seats were told, beside what was stored.
+-- Comparison of what was reported to seats with what was stored.
 use Rattle.std.specs.Prelude.{◌≡◌, ◌≢◌, ◌⊎◌, List, Some, Contains}
 use Rattle.std.specs.FinMap as map
 use Rattle.circular_buffer.specs.Buffer.{last_item}

@@ -1,4 +1,4 @@
--- What a message is told, and what that weighs in the ledger.
+-- Effects of messages, and their weight in the ledger.
 use Rattle.std.specs.Prelude.{ℕ, List, Option, Some, None}
 use Rattle.std.specs.List.{sum_by}
 use Rattle.linda_shared_accounts.specs.declared.effect.Effect.{Effect}

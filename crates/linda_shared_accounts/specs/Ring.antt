@@ -1,4 +1,4 @@
--- What contracts see of a ring: the last receipts of one client.
+-- Rings, the last receipts of one client, as contracts see them.
 use Rattle.std.specs.Prelude.{◌≡◌, ◌⊎◌, ℕ, ◌<◌, ◌≤◌, List, [], ◌∷◌, ◌++◌, length, Option, Some}
 use Rattle.std.specs.Prelude.{None, All, Contains}
 use Rattle.std.specs.Prelude.{slice_get}

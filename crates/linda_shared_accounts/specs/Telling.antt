@@ -1,4 +1,4 @@
--- What is told of messages, by what they led to.
+-- Receipts of messages, by what these led to.
 use Rattle.std.specs.Prelude.{◌≡◌, ℕ, List, [], ◌∷◌, ◌++◌, map, drop, Option, Some, None}
 use Rattle.std.specs.Prelude.{if◌then◌else◌, option_to_list}
 use Rattle.std.specs.List.{slice_get, flat_map}

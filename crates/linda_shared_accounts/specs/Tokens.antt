@@ -1,4 +1,4 @@
--- What contracts see of the tokens that stand under a lock.
+-- Tokens under a lock, as contracts see them.
 use Rattle.std.specs.Prelude.{ℕ}
 
 -- The total of all amounts, what the accounts that are back were told, and how many accounts are

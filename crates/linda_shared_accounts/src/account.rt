@@ -1,4 +1,4 @@
-//! What a session carries of the deeds that it was told of.
+//! Account of a session: the deeds that were reported to it.
 
 ghost use Rattle.std.specs.Prelude.{◌≡◌, ◌+◌, ◌-◌, ◌<◌, ◌≤◌, ◌^◌, true, false, min, length};
 ghost use Rattle.linda_shared_accounts.specs.Account as seen;

@@ -1,4 +1,4 @@
-//! What each session was told, as it stands under the server's lock.
+//! Accounts of all sessions under the server's lock: what was reported to each.
 
 mod compare;
 mod recall;

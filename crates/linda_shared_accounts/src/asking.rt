@@ -1,4 +1,4 @@
-//! Which deed a message asks for.
+//! Test whether a deed is one that a message asks for.
 
 ghost use Rattle.std.specs.Prelude.{◌≡◌, ◌↔◌, IsTrue};
 ghost use Rattle.linda_store_step.specs.Reported.{IsDeedOf};

@@ -1,4 +1,4 @@
-//! What a session is told of one message.
+//! Effect of one message, as its session hears it.
 
 ghost use Rattle.std.specs.Prelude.{◌≡◌, ◌≤◌};
 ghost use Rattle.linda_shared_accounts.specs.Effect as spec;

@@ -1,4 +1,4 @@
-//! Why a call of a shared server did not do what it was asked.
+//! Faults of a shared server's calls.
 
 use thiserror::Error;
 

@@ -1,5 +1,5 @@
-//! What follows from the definitions of receipts, each stated by the contract of a function that
-//! does nothing.
+//! Laws of receipts, which follow from the definitions: each stated by the contract of a function
+//! that does nothing.
 
 ghost use Rattle.std.specs.Prelude.{◌≡◌, ◌+◌, ℕ, List, [], ◌∷◌, ◌++◌, Option, length, map};
 ghost use Rattle.linda_wire.specs.declared.message.Message.{Message};

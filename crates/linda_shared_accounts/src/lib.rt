@@ -1,11 +1,10 @@
-//! What each session was told, beside what was stored.
+//! Accounts of what was reported to each session, beside what was stored.
 //!
-//! A session carries an `Account`: of how many deeds it was told, its last receipts, and its parts
-//! of a ledger. Each message goes to the server with one part (`Asked`) and comes back with what
-//! was told (`Answered`), which the
-//! `Accounts` under the server's lock has written into the ledger. So once all accounts are back,
-//! what was told in all is what they were told; and `Accounts::compare` says whether what they were
-//! told is what was stored.
+//! A session carries an `Account`: of how many deeds it heard, its last receipts, and its parts of
+//! a ledger. Each message goes to the server with one part (`Asked`) and comes back with what was
+//! reported (`Answered`), which the `Accounts` under the server's lock has written into the ledger.
+//! So once all accounts are back, what was reported in all is what was reported to them; and
+//! `Accounts::compare` says whether that is what was stored.
 //!
 //! A call that may take memory has a fault for that; no other call takes any.
 #![tactic(auto)]

@@ -1,4 +1,4 @@
-//! How many there may be of what a session carries.
+//! Limits of what a session carries.
 
 /// How many receipts a session keeps: the last ones.
 pub const RING_SIZE: usize = 256;

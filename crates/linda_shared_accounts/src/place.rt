@@ -1,4 +1,4 @@
-//! What the accounts have of a client.
+//! Places of clients in the accounts.
 
 use crate::ring::Ring;
 

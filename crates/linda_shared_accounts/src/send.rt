@@ -1,4 +1,4 @@
-//! What sessions carry, and what stands under the lock, may cross threads.
+//! Send of what sessions carry, and of what is under the lock.
 
 use crate::account::Account;
 use crate::accounts::Accounts;

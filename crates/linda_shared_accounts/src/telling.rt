@@ -1,4 +1,4 @@
-//! What is told of messages, by what they led to.
+//! Receipts of messages, by what these led to.
 
 ghost use Rattle.std.specs.Prelude.{◌≡◌, ℕ, List, drop, IfOk, length};
 ghost use Rattle.std.specs.List.{slice_get};

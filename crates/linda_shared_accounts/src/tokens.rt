@@ -1,4 +1,4 @@
-//! The tokens of the ledger that stand under a lock.
+//! The tokens of the ledger that are under a lock.
 
 ghost use Rattle.std.specs.Prelude.{◌≡◌, ◌≢◌, ◌+◌, ◌-◌, ◌*◌, ◌<◌, ◌≤◌, ◌^◌, true, false};
 ghost use Rattle.linda_shared_accounts.specs.Tokens as seen;

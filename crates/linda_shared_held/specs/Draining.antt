@@ -1,4 +1,4 @@
--- What waits in the outboxes is handed out.
+-- Draining of the outboxes: what waits there is handed out.
 use Rattle.std.specs.Prelude.{◌≡◌, ◌≢◌, ℕ, [], Option, Some, IfSome, IfNone}
 use Rattle.linda_shared_outbox.specs.declared.outboxes.Outboxes.{Outboxes}
 use Rattle.linda_shared_outbox.specs.declared.sent.Sent.{Sent}

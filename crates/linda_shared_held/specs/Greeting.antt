@@ -1,4 +1,4 @@
--- Whether a client gets a seat, or why not.
+-- Greetings: whether a client gets a seat, or why not.
 use Rattle.std.specs.Prelude.{◌≡◌, ◌≢◌, ◌⊎◌, ℕ, ◌+◌, ◌*◌, ◌<◌, Bool, true, false, Result, Ok, Err}
 use Rattle.std.specs.FinMap as map
 use Rattle.linda_wire.specs.declared.limits.TheConstants.{VERSION}

@@ -1,5 +1,4 @@
--- What is under the lock of a server that takes messages, and what the calls that take them keep
--- to.
+-- Core under the lock of a server that takes messages, and what the calls that take them keep to.
 use Rattle.std.specs.Prelude.{◌≡◌, ◌⊎◌, ℕ, ◌+◌, ◌<◌, ◌^◌, ◌++◌, List, [], ◌∷◌, length, true, false}
 use Rattle.std.specs.Prelude.{Option, Result, IfOk, IfErr, OnOk, OnErr, IsErrOf}
 use Rattle.std.specs.Global.{Vec}

@@ -1,4 +1,5 @@
--- What is always so of a server, the receipts that are kept of it, and the count of its deeds.
+-- Order of a server, of the receipts that are kept of it, and of the count of its deeds: it always
+-- holds.
 use Rattle.std.specs.Prelude.{◌≡◌, ℕ, ◌+◌, Bool, false, List, [], ◌++◌, length, Option}
 use Rattle.std.specs.Prelude.{if◌then◌else◌}
 use Rattle.linda_wire.specs.declared.reply.Reply.{Reply}

@@ -1,4 +1,4 @@
--- When a snapshot pays for itself.
+-- Pace of snapshots: when one pays for itself.
 use Rattle.std.specs.Prelude.{ℕ, ◌+◌, ◌-◌, ◌^◌, min, Bool, true, false, ◌&&◌, ◌||◌, nat_le, nat_lt}
 use Rattle.linda_server.specs.declared.limits.TheConstants.{SNAPSHOT_RECORDS}
 use Rattle.linda_shared_held.specs.declared.limits.TheConstants.{SNAPSHOT_BYTES}

@@ -1,5 +1,5 @@
--- What messages lead to under the lock: what the server answers, what is told of it, and what waits
--- in the outboxes.
+-- Results of messages under the lock: what the server answers, what is reported of it, and what
+-- waits in the outboxes.
 use Rattle.std.specs.Prelude.{◌≡◌, ◌≢◌, ℕ, ◌+◌, ◌<◌, ◌≤◌, ◌^◌, ◌⊎◌, true, List, [], ◌∷◌, ◌++◌}
 use Rattle.std.specs.Prelude.{length, map, reverse}
 use Rattle.std.specs.Prelude.{take, Option, None}

@@ -1,4 +1,5 @@
--- The end of a server that sessions share: all seats are back, and what they were told is stored.
+-- The end of a server that sessions share: all seats are back, and what was reported to them is
+-- stored.
 use Rattle.std.specs.Prelude.{◌≡◌, ◌⊎◌, ℕ, ◌+◌, ◌<◌, List, All, true, false, Result, IfOk, IfErr}
 use Rattle.std.specs.Prelude.{OnOk, IsErrOf}
 use Rattle.std.specs.FinMap as map

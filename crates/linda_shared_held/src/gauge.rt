@@ -1,4 +1,4 @@
-//! What a server that sessions share comes to at one moment, in numbers.
+//! Gauge of a server that sessions share: its numbers at one moment.
 
 /// What a server that sessions share comes to at one moment, in numbers.
 #[derive(Clone, Copy, Debug, PartialEq, Eq)]

@@ -1,4 +1,4 @@
-//! What stands under the server's lock, and the group commit of several sessions.
+//! Server under its lock, and the group commit of several sessions.
 
 mod age;
 mod alone;

@@ -1,10 +1,10 @@
-//! What stands under the lock of a server that sessions share.
+//! Core of a server that sessions share: all that is under its lock.
 //!
 //! `Held` is a durable server with the outboxes of its clients, the receipts of its deeds since the
-//! last snapshot, and the accounts, which count what each session was told. Its calls wait for
-//! nobody: whoever has the lock makes them. `Held::is_down` says what is always so: the receipts
-//! lead from the base to the state, what waits in an outbox is kept, and as many deeds were told as
-//! were done.
+//! last snapshot, and the accounts, which count what was reported to each session. Its calls wait
+//! for nobody: the thread that has the lock makes them. `Held::is_down` says what is always so: the
+//! receipts lead from the base to the state, what waits in an outbox is kept, and as many deeds
+//! were reported as were done.
 #![tactic(auto)]
 
 mod gauge;

@@ -1,4 +1,4 @@
-//! When records are worth a snapshot, though there are few.
+//! Limits from which records are worth a snapshot, though they are few.
 
 /// So many bytes of records ask for a snapshot, however few they are: that bounds the memory of
 /// their receipts.

@@ -1,4 +1,4 @@
-//! When a snapshot pays for itself.
+//! Pace of snapshots: when one pays for itself.
 
 ghost use Rattle.std.specs.Prelude.{◌≡◌};
 ghost use Rattle.linda_shared_held.specs.Pace.{is_due, pays, pace_from, put_off_at, tried_at};

@@ -1,5 +1,5 @@
 -- The kinds that were listed so far, and the page that ends there.
-use Rattle.std.proofs.Common.{◌≡◌, ◌≤◌, ◌+◌, ◌++◌, ℕ, true, false, List, [], ◌∷◌, Option, Some, None, length, length-append, refl, sym, ap, subst, ◌∙◌, true≢false, arith}
+use Rattle.std.proofs.Common.{◌≡◌, ◌≤◌, ◌+◌, ◌++◌, ℕ, true, false, List, [], ◌∷◌, Option, Some, None, length, min, length-append, refl, sym, ap, subst, ◌∙◌, true≢false, arith}
 use Rattle.std.specs.Borrow.{Bor}
 use Rattle.std.specs.Ordering.{nat_cmp}
 use Rattle.std.specs.Prelude.{IfSome, IfNone}
@@ -34,11 +34,11 @@ module _ (bag : FinMap nat_cmp Tuple) where
   one_more last [] row all next = (next, tt)
   one_more last (r ∷ rows) row all next = (all.0, one_more (Some (r.tag, r.fields)) rows row all.1 next)
 
-  -- The rows so far, up to this kind.
-  pub record AreKindsTo (last : Option (Atom × ℕ)) (count : ℕ) (rows : List ListedKind) : Type 0 where
+  -- The rows so far, up to this kind, and how many they are.
+  pub record AreKindsTo (last : Option (Atom × ℕ)) (many : ℕ) (rows : List ListedKind) : Type 0 where
     pub all : AreNextKinds bag None rows
     pub ends : last_head None rows ≡ last
-    pub few : length rows ≤ count
+    pub count : length rows ≡ many
 
   pub kinds_more : (last : Option (Atom × ℕ)) (count : ℕ) (rows new : List ListedKind) (row : ListedKind) → AreKindsTo last count rows → new ≡ rows ++ row ∷ [] → IsNextKind bag last row → AreKindsTo (Some (row.tag, row.fields)) (count + 1) new
   kinds_more last count rows new row far same next =
@@ -46,24 +46,26 @@ module _ (bag : FinMap nat_cmp Tuple) where
       record {
         all = subst (AreNextKinds bag None) (sym same) (one_more None rows row far.all (subst (λ l. IsNextKind bag l row) (sym far.ends) next));
         ends = ap (last_head None) same ∙ last_added None rows row;
-        few = omega (arith, longer, far.few);
+        count = omega (arith, longer, far.count);
       }
 
   pub whole_page : (last : Option (Atom × ℕ)) (count limit : ℕ) (page : KindPage) → AreKindsTo last count page.rows.items → count ≤ limit → count ≤ MOST_KINDS → page.is_whole ≡ true → IsLastHead bag last → IsKindPage bag limit page
   whole_page last count limit page far below most is ends = record {
     rows = far.all;
-    few = omega (arith, far.few, below);
-    most = omega (arith, far.few, most);
+    few = omega (arith, far.count, below);
+    most = omega (arith, far.count, most);
     whole = λ yes. subst (IsLastHead bag) (sym far.ends) ends;
+    full = λ no. absurd (true≢false (sym is ∙ no));
     more = λ no. absurd (true≢false (sym is ∙ no));
   }
 
-  pub part_of_all : (last : Option (Atom × ℕ)) (row : ListedKind) (count limit : ℕ) (page : KindPage) → AreKindsTo last count page.rows.items → count ≤ limit → count ≤ MOST_KINDS → page.is_whole ≡ false → IsNextKind bag last row → IsKindPage bag limit page
-  part_of_all last row count limit page far below most is next = record {
+  pub part_of_all : (last : Option (Atom × ℕ)) (row : ListedKind) (count limit : ℕ) (page : KindPage) → AreKindsTo last count page.rows.items → count ≡ min limit MOST_KINDS → count ≤ limit → count ≤ MOST_KINDS → page.is_whole ≡ false → IsNextKind bag last row → IsKindPage bag limit page
+  part_of_all last row count limit page far all below most is next = record {
     rows = far.all;
-    few = omega (arith, far.few, below);
-    most = omega (arith, far.few, most);
+    few = omega (arith, far.count, below);
+    most = omega (arith, far.count, most);
     whole = λ yes. absurd (true≢false (sym yes ∙ is));
+    full = λ no. far.count ∙ all;
     more = λ no. λ ends. next.some (subst (IsLastHead bag) far.ends ends row.tag row.fields next.later);
   }
 

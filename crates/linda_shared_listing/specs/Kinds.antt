@@ -1,6 +1,6 @@
--- How many tuples a server has of each kind: of each tag and number of fields.
+-- Kinds of tuples, and how many a server has: of each tag and number of fields.
 use Rattle.std.specs.Prelude.{◌≡◌, ◌≤◌, ⊤, ℕ, true, false, List, [], ◌∷◌, Option, None, Some}
-use Rattle.std.specs.Prelude.{length}
+use Rattle.std.specs.Prelude.{length, min}
 use Rattle.std.specs.Borrow.{Bor}
 use Rattle.std.specs.Option.{option_map}
 use Rattle.std.specs.Ordering.{nat_cmp}
@@ -59,10 +59,12 @@ last_head last [] = last
 last_head last (row ∷ rows) = last_head (Some (row.tag, row.fields)) rows
 
 -- The page has the first kinds, none left out between them, each with how many tuples are of it; it
--- is whole if and only if there are no others.
+-- is whole if and only if there are no others. It has as many as are asked for, 10,000 at most,
+-- unless it is whole.
 pub record IsKindPage (bag : fin.FinMap nat_cmp Tuple) (limit : ℕ) (page : KindPage) : Type 0 where
   pub rows : AreNextKinds bag None page.rows.items
   pub few : length page.rows.items ≤ limit
   pub most : length page.rows.items ≤ MOST_KINDS
   pub whole : page.is_whole ≡ true → IsLastHead bag (last_head None page.rows.items)
+  pub full : page.is_whole ≡ false → length page.rows.items ≡ min limit MOST_KINDS
   pub more : page.is_whole ≡ false → IsLastHead bag (last_head None page.rows.items) → ⊥

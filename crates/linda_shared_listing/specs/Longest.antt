@@ -1,4 +1,4 @@
--- What waits and what is held for longest.
+-- Longest waits and holds.
 use Rattle.std.specs.Prelude.{◌≡◌, ◌≤◌, ℕ, true, List, All, length}
 use Rattle.std.specs.Option.{is_some}
 use Rattle.std.specs.Ordering.{nat_cmp}

@@ -1,4 +1,4 @@
-//! How many tuples there are of each kind: of each tag and number of fields.
+//! Kinds of tuples, a page at a time: how many there are of each tag and number of fields.
 
 ghost use Rattle.std.specs.Prelude.{◌≡◌, IfOk, IfSome, IfNone};
 ghost use Rattle.linda_shared_listing.specs.Kinds.{head_in, row_in, IsNextKind, IsLastHead};

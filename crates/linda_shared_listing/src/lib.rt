@@ -1,4 +1,5 @@
-//! What a server that sessions share keeps, a page at a time, for those who ask how it does.
+//! Lists of what a server keeps that sessions share, a page at a time, for those who ask how it
+//! does.
 //!
 //! `list_tuples` gives the tuples from an id on, in rising order of ids, each with the request that
 //! it is held for; with a tag, those of that tag. A page is bounded: in how many tuples it has, and

@@ -1,4 +1,4 @@
-//! What is asked for, and what it comes to.
+//! Queries for the lists, and the pages that answer them.
 
 ghost use Rattle.std.specs.Prelude.{◌≡◌, ◌≤◌, max};
 

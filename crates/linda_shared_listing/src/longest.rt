@@ -1,4 +1,4 @@
-//! What waits and what is held for longest.
+//! Longest waits and holds.
 
 ghost use Rattle.std.specs.Prelude.{◌≤◌, ◌+◌, IfOk, OnOk, All, length};
 ghost use Rattle.linda_shared_listing.specs.Longest.{IsHeld, IsLongest};

@@ -1,4 +1,4 @@
--- Lists of replies that wait; none where there is no outbox.
+-- Lists of replies that wait; none if there is no outbox.
 use Rattle.std.specs.Prelude.{ℕ, ◌==◌, List, [], ◌∷◌, ◌++◌, Option, Some, None, if◌then◌else◌}
 use Rattle.linda_wire.specs.declared.reply.Reply.{Reply}
 

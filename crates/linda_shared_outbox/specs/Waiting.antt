@@ -1,4 +1,4 @@
--- What waits for each client, as a function that answers nothing where the client has no outbox.
+-- Waiting replies of each client, as a function that answers nothing if the client has no outbox.
 use Rattle.std.specs.Prelude.{ℕ, ◌+◌, ◌≤◌, ◌<◌, ⊤, List, Option, None, Some, All, length}
 use Rattle.std.specs.Prelude.{vec_len, vec_capacity}
 use Rattle.linda_wire.specs.declared.reply.Reply.{Reply}

@@ -1,7 +1,7 @@
 //! Outboxes: for each client that has one the replies that wait to be drained.
 //!
 //! Contracts see nothing but what waits for each client (`waits_for` of `specs/Waiting`), nothing
-//! at all where the client has no outbox. Room for what is sent is made first; to post it takes no
+//! at all if the client has no outbox. Room for what is sent is made first; to post it takes no
 //! memory then, so a server that has made its deeds durable can always say so. No call walks over
 //! all clients.
 //!

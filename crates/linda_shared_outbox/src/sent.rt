@@ -1,4 +1,4 @@
-//! What was taken out of an outbox.
+//! Replies that were taken out of an outbox.
 
 ghost use Rattle.std.specs.Prelude.{◌≡◌};
 

@@ -1,4 +1,4 @@
--- What an account heard of the messages of a batch.
+-- State of an account within a batch: what it heard of the messages.
 use Rattle.std.specs.Prelude.{◌≡◌, ℕ, ◌+◌, ◌≤◌, Bool, true, false, ◌||◌, if◌then◌else◌}
 use Rattle.std.specs.Prelude.{List, length, Option, Some, None, IfSome, IfNone}
 use Rattle.linda_wire.specs.declared.message.Message.{Message}

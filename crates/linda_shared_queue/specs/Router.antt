@@ -1,4 +1,4 @@
--- What contracts see of the router.
+-- Router, as contracts see it.
 use Rattle.std.specs.Prelude.{ℕ, List}
 use Rattle.linda_shared_outbox.specs.declared.sent.Sent.{Sent}
 

@@ -1,4 +1,4 @@
--- What a call of a session leaves of its seat, of which contracts see the account.
+-- Seats after a session's call, of which contracts see the account.
 use Rattle.std.specs.Prelude.{◌≡◌, ℕ, ◌+◌, ◌-◌, ◌^◌, ◌≤◌, min, List, [], ◌∷◌, length}
 use Rattle.std.specs.Prelude.{Option, Some, None, IfSome}
 use Rattle.std.specs.List.{sum_by}

@@ -1,4 +1,4 @@
--- What a session gets out of its mailbox when it is woken.
+-- Turns of a session that is woken: what it gets out of its mailbox.
 use Rattle.std.specs.Prelude.{◌≡◌, Bool, true, false, Option, Some, None}
 
 -- It is what the place has, if there is one.

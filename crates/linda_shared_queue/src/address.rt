@@ -1,4 +1,4 @@
-//! Where the answer to a message goes.
+//! Addresses: where the answer to a message goes.
 
 ghost use Rattle.std.specs.Prelude.{◌≡◌};
 ghost use Rattle.std.specs.Arc.{arc_value};

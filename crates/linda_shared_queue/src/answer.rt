@@ -1,4 +1,4 @@
-//! What is told of a message, twice.
+//! Answers to messages, in two copies.
 
 ghost use Rattle.std.specs.Prelude.{◌≡◌, None, is_none, IfSome};
 ghost use Rattle.std.specs.Option.{ForSome};

@@ -1,4 +1,4 @@
-//! What a session heard of a batch so far.
+//! State of a session within a batch: what it heard so far.
 
 ghost use Rattle.std.specs.Prelude.{◌≡◌, ◌+◌, ◌<◌, ◌++◌, ◌∷◌, [], false, true, List, Some, None};
 ghost use Rattle.std.specs.Prelude.{vec_len, vec_capacity, IfOk, IfErr};

@@ -1,12 +1,12 @@
-//! What a session hears of a message.
+//! Hearing of a message's answer by its session.
 
-ghost use Rattle.std.specs.Prelude.{◌≡◌, ◌<◌, IfOk, IfErr, OnOk, IfSome};
+ghost use Rattle.std.specs.Prelude.{◌≡◌, ◌<◌, Ok, IfOk, IfErr, OnOk, IfSome};
 ghost use Rattle.linda_store_step.specs.Reported.{IsDeedOf};
 ghost use Rattle.linda_shared_accounts.specs.Account.{account_of};
 ghost use Rattle.linda_shared_accounts.specs.Ring.{IsNext, with_receipt};
 ghost use Rattle.linda_shared_accounts.specs.Receipts.{number_in};
 ghost use Rattle.linda_shared_queue.specs.Hearing as spec;
-ghost use Rattle.linda_shared_queue.specs.Hearing.{IsHeard, IsAnswered};
+ghost use Rattle.linda_shared_queue.specs.Hearing.{IsHeard, IsAnswered, HearsDeed};
 ghost use Rattle.linda_shared_queue.specs.Seat.{with_told, back, IsLeft, IsLost, IsToldOf};
 
 use crate::answer::Answer;
@@ -20,8 +20,8 @@ use std::sync::ledger::Ledger;
 ///
 /// # Errors
 ///
-/// `Receipt`: the account was told of a deed that the message does not ask for, or of one that it
-/// was told before.
+/// `Receipt`: the account was told of a deed that the message does not ask for, or of one that is
+/// not the next of its ring.
 /// `Down`: the copy was lost. Else what the server said, and nothing was done.
 pub fn hear<A: Drop, L: Ledger>(
     account: &mut Account<L>,
@@ -33,8 +33,9 @@ pub fn hear<A: Drop, L: Ledger>(
     ensures err { IfErr result (λ fault. IsLeft message.now (back account.old) fault account.new) }
     ensures deed { IfOk result (IsToldOf account.old.client message.now) }
     ensures next { IfOk result (λ o. IfSome o (IsNext account.old.client account.old.ring)) }
-    // Where no deed was made the answer says what comes of it.
-    ensures heard { IsHeard answer.answered.told answer.copy result }
+    // The answer says what comes of it: `Receipt` only of a deed that is not due, and `Down` only
+    // if the server says so, or the copy was lost.
+    ensures heard { IsHeard account.old message.now answer.answered.told answer.copy result }
 {
     let (answered, copy) = answer.into_parts();
     let (_, told) = account.hear(answered);
@@ -61,8 +62,8 @@ pub fn hear<A: Drop, L: Ledger>(
 ///
 /// # Errors
 ///
-/// `Receipt`: the account was told of a deed that the message does not ask for, or of one that it
-/// was told before. Else what the server said, and nothing was done.
+/// `Receipt`: the account was told of a deed that the message does not ask for, or of one that is
+/// not the next of its ring. Else what the server said, and nothing was done.
 pub fn hear_answer<A: Drop, L: Ledger>(
     account: &mut Account<L>,
     message: &Message,
@@ -74,8 +75,9 @@ pub fn hear_answer<A: Drop, L: Ledger>(
     ensures ok { OnOk result (IsLost message.now (back account.old) account.new) }
     // else it is as before, but for `Receipt`.
     ensures err { IfErr result (λ fault. IsLeft message.now (back account.old) fault account.new) }
-    // If no deed was made the answer says what comes of it.
-    ensures heard { IsAnswered answered.told result }
+    // The answer says what comes of it: `Receipt` only of a deed that is not due, and `Down` only
+    // if the server says so.
+    ensures heard { IsAnswered account.old message.now answered.told result }
 {
     let (_, told) = account.hear(answered);
     match told {
@@ -98,6 +100,7 @@ fn note<L: Ledger>(
         × (fault ≡ SharedFault.Receipt account.old.client (number_in receipt))) }
     ensures deed { OnOk result (IsDeedOf account.old.client message.now receipt.deed) }
     ensures next { OnOk result (IsNext account.old.client account.old.ring receipt) }
+    ensures heard { HearsDeed account.old message.now receipt (Ok tt) result }
 {
     let client = account.client();
     let number = receipt.number();

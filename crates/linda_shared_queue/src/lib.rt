@@ -1,4 +1,4 @@
-//! What goes between sessions and the one that serves them. What is put into a mailbox is its
+//! Mailboxes, the queue of messages, and the router of answers. What is put into a mailbox is its
 //! client's.
 //!
 //! - A `Mailbox` is a session's own: its replies, and a place for the answer to each message that
@@ -6,7 +6,7 @@
 //! - `Outlet` is where its replies come out; a thread that reads there never asks for the server.
 //! - The `Queue` has the messages that wait to be served, those of which no deed comes in a line of
 //!   their own. It says who is to serve the next group.
-//! - An `Answer` is what is told of a message, with a second copy of it. On its way it has the
+//! - An `Answer` is what is reported of a message, with a second copy of it. On its way it has the
 //!   `Address` of its message, and in the mailbox the `Recipient` that waits for it.
 //! - `hear` is what an account hears of its answer, and `Heard` what it hears of a batch.
 //!   `hear_answer` is for an answer that is not copied, since the thread that serves a group gives

@@ -1,4 +1,4 @@
-//! What stands under a mailbox's lock.
+//! Contents of a mailbox, under its lock.
 
 ghost use Rattle.std.specs.Prelude.{◌≡◌, ◌-◌, ◌++◌, ◌∷◌, [], true, false, not, ◌&&◌, ◌==◌, nat_lt};
 ghost use Rattle.std.specs.Prelude.{Some, vec_len, slice_get, slice_set, OnOk, OnErr};

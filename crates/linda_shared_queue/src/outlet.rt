@@ -1,4 +1,4 @@
-//! Where the replies of a session come out.
+//! Outlets, where the replies of a session come out.
 
 ghost use Rattle.std.specs.Prelude.{◌≡◌, IfOk};
 ghost use Rattle.std.specs.Arc.{arc_value};

@@ -1,4 +1,4 @@
-//! Who waits for an answer.
+//! Recipients of answers.
 
 ghost use Rattle.std.specs.Prelude.{◌≡◌};
 

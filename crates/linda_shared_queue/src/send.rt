@@ -1,4 +1,4 @@
-//! What goes between sessions may cross threads.
+//! Send of what goes between sessions.
 
 use crate::mailbox::Mailbox;
 use crate::outlet::Outlet;

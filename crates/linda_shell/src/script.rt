@@ -50,7 +50,7 @@ impl Script {
     ///
     /// # Errors
     ///
-    /// `AllocError` where memory runs out.
+    /// `AllocError` if memory runs out.
     pub(crate) fn new(alloc: Global, servers: u32) -> Result<Script, AllocError>
         requires some { 1 ≤ servers }
         requires few { servers ≤ MAX_SERVERS }
@@ -121,7 +121,7 @@ impl Script {
         }
     }
 
-    // Makes the client, where it was not named before.
+    // Makes the client, if it was not named before.
     fn meet(&mut self, alloc: Global, client: u32) -> Result<(), LineFault> {
         let place = match self.clients.binary_search(&client) {
             Ok(_) => return Ok(()),
@@ -162,7 +162,7 @@ impl Script {
         Ok(print_seen(alloc, seen, out)?)
     }
 
-    // An event of a client, which is made where it was not named before.
+    // An event of a client, which is made if it was not named before.
     fn call_any(
         &mut self,
         alloc: Global,
@@ -240,8 +240,8 @@ impl Script {
         self.stop(alloc, server, Some(call), event, out)
     }
 
-    // Stops the server so, inside a device call or with nothing in hand, and tells each client that
-    // it was opened.
+    // Stops the server so, inside a device call or with nothing in hand, and says so to each client
+    // that it was opened.
     fn stop(
         &mut self,
         alloc: Global,
@@ -419,7 +419,7 @@ fn print_of_server(
     out.print(&line)
 }
 
-// Why a line was not done, where the world did not do an event of it.
+// Why a line was not done, if the world did not do an event of it.
 fn line_fault(fault: WorldFault) -> LineFault {
     match fault {
         WorldFault::Down(server) => LineFault::Down(server),

@@ -1,4 +1,4 @@
--- What the reader gives: the event, or the first fault from the left.
+-- Reading of an event: the event, or the first fault from the left.
 use Rattle.std.specs.Prelude.{ℕ, zero, suc, if◌then◌else◌}
 use Rattle.std.specs.Prelude.{List, [], ◌∷◌, length, Result, Ok, Err}
 use Rattle.linda_text.specs.Reading.{wrong, after_blanks, natural_at}

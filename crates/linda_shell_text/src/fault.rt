@@ -1,4 +1,4 @@
-//! Why a text of an event could not be read.
+//! Faults of a text of an event.
 
 ghost use Rattle.std.specs.Prelude.{◌≡◌};
 ghost use Rattle.linda_text.specs.declared.fault.TextFault.TheVariants.{Memory};

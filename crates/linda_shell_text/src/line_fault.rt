@@ -1,4 +1,4 @@
-//! Why a line was not done.
+//! Faults of a line that was not done.
 
 use std::alloc::{AllocError, AllocFailed};
 use thiserror::Error;

@@ -1,5 +1,5 @@
-//! The bytes that have a meaning in texts of events: brackets, and the letters that tell keywords
-//! apart.
+//! The bytes that have a meaning in texts of events: brackets, and the letters that distinguish
+//! keywords.
 
 /// Before the members of a choice.
 pub const OPENING_BRACKET: u8 = b'[';

@@ -1,4 +1,4 @@
-//! What came of a client's call, as the line that is printed.
+//! Outcomes of a client's calls, as the lines that are printed.
 
 use linda_client::{ClientFault, Got, Outcome};
 use linda_text::{push_atom, write_tuple};

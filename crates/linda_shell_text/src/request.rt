@@ -1,4 +1,4 @@
-//! What a line of one client asks for.
+//! Requests in a line of one client.
 
 use crate::event::read_event;
 use crate::fault::EventTextFault;

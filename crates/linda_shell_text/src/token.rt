@@ -1,4 +1,4 @@
-//! What stands between the nodes of an event: ends of words, labels, commas and brackets.
+//! Tokens between the nodes of an event: ends of words, labels, commas and brackets.
 
 ghost use Rattle.std.specs.Prelude.{◌≡◌};
 ghost use Rattle.linda_text.specs.Steps.{GivesAlways};

@@ -1,4 +1,4 @@
-//! Words and numbers at the front of a line, and the blanks behind them.
+//! Words and numbers at the front of a line, and the blanks after them.
 
 ghost use Rattle.std.specs.Prelude.{◌≡◌};
 ghost use Rattle.linda_text.specs.Steps.{GivesAlways};

@@ -1,6 +1,7 @@
 pub mod SnapshotLaws
 pub mod RisingLaws
 pub mod PuttingLaws
+pub mod EntryLaws
 pub mod ReadingLaws
 pub mod StateLaws
 pub mod SuccessorLaws

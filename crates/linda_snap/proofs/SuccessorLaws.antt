@@ -18,7 +18,10 @@ use Rattle.linda_store_state.specs.State.{State, IsState}
 use Rattle.linda_store_state.proofs.ProperLaws.{none_done}
 use Rattle.linda_journal.specs.declared.kinds.TheConstants.{CLOSED}
 use Rattle.linda_journal.specs.Bank.{magic, behind_gate}
-use Rattle.linda_journal.specs.Records.{IsRecord, AreRecords, spell_record, spell_records}
+use Rattle.linda_journal.specs.declared.limits.TheConstants.{MIN_BYTES}
+use Rattle.linda_journal.specs.Records.{IsRecord, AreRecords, records_for, spell_record, spell_records}
+use Rattle.linda_journal.specs.Renewal.{IsLast}
+use Rattle.linda_journal.proofs.FillingLaws.{last_long}
 use Rattle.linda_book.specs.Entries.{Entry}
 use Rattle.linda_snap.specs.declared.clients.Clients.{Clients}
 use Rattle.linda_snap.specs.declared.draft.Draft.{Draft}
@@ -66,14 +69,16 @@ grown head body tail more front none is =
 -- ---- its beginning
 
 pub begins : (s : Successor) (draft : Draft) (first front : List ℕ) (st : State) → IsState st → s.draft ≡ Some draft → Owes st draft first st.bag → draft.next ≡ st.next → length (spell_state written st) < 2 ^ 32 → 1 ≤ s.generation → s.generation < 2 ^ 64
-    → s.since.bytes.items ≡ [] → s.since.written ≡ 0 → front ≡ heading s.generation (length (spell_state written st)) ++ first → Follows s front st
-begins s draft first front st ranges is owes next short low high none zero front_is = record {
+    → s.len ≡ length (spell_state written st) → MIN_BYTES + 1 + length (spell_state written st) ≤ s.limit → s.records ≡ 0 → s.since.bytes.items ≡ [] → s.since.written ≡ 0 → front ≡ heading s.generation (length (spell_state written st)) ++ first → Follows s front st
+begins s draft first front st ranges is owes next short low high len room count none zero front_is = record {
   begun = st;
   ranges = ranges;
   short = short;
+  len = len;
   low = low;
   high = high;
   records = [];
+  count = count;
   good = All-nil (IsRecord written);
   done = none_done st ranges;
   tail = [];
@@ -81,6 +86,7 @@ begins s draft first front st ranges is owes next short low high none zero front
   spelled = none;
   parts = none;
   place = zero;
+  within = omega (arith, len, room, ap length none);
   body = first;
   front_is = front_is ∙ ap (λ b. heading s.generation (length (spell_state written st)) ++ b) (sym (append-nil first));
   owes = subst (λ o. IfSome o (OwesAll st first [] st)) (sym is) (owes, omega (arith, next), refl);
@@ -100,9 +106,11 @@ module _ (s : Successor) (old new : Draft) (front : List ℕ) (st : State) (is :
     begun = f.begun;
     ranges = f.ranges;
     short = f.short;
+    len = f.len;
     low = f.low;
     high = f.high;
     records = f.records;
+    count = f.count;
     good = f.good;
     done = f.done;
     tail = f.tail;
@@ -110,6 +118,7 @@ module _ (s : Successor) (old new : Draft) (front : List ℕ) (st : State) (is :
     spelled = f.spelled;
     parts = f.parts;
     place = f.place;
+    within = f.within;
     body = f.body ++ more;
     front_is = grown (heading s.generation (length (spell_state written f.begun))) f.body f.tail more front owed.2 f.front_is;
     owes = (owes, omega (arith, next, owed.1), owed.2);
@@ -122,9 +131,11 @@ module _ (s : Successor) (old new : Draft) (front : List ℕ) (st : State) (is :
     begun = f.begun;
     ranges = f.ranges;
     short = f.short;
+    len = f.len;
     low = f.low;
     high = f.high;
     records = f.records;
+    count = f.count;
     good = f.good;
     done = f.done;
     tail = f.tail;
@@ -132,6 +143,7 @@ module _ (s : Successor) (old new : Draft) (front : List ℕ) (st : State) (is :
     spelled = f.spelled;
     parts = f.parts;
     place = f.place;
+    within = f.within;
     body = f.body;
     front_is = f.front_is;
     owes = (owes, omega (arith, next, owed.1), owed.2);
@@ -177,9 +189,11 @@ turns s draft other book count clients front more st is none same has lists b =
       begun = f.begun;
       ranges = f.ranges;
       short = f.short;
+      len = f.len;
       low = f.low;
       high = f.high;
       records = f.records;
+      count = f.count;
       good = f.good;
       done = f.done;
       tail = f.tail;
@@ -187,6 +201,7 @@ turns s draft other book count clients front more st is none same has lists b =
       spelled = f.spelled;
       parts = f.parts;
       place = f.place;
+      within = f.within;
       body = f.body ++ more;
       front_is = grown (heading s.generation (length (spell_state written f.begun))) f.body f.tail more front was.2 f.front_is;
       owes = subst (λ o. IfSome o (OwesAll f.begun (f.body ++ more) f.tail st)) (sym none) tt;
@@ -213,9 +228,11 @@ more_clients s old new front more st none is goes f =
       begun = f.begun;
       ranges = f.ranges;
       short = f.short;
+      len = f.len;
       low = f.low;
       high = f.high;
       records = f.records;
+      count = f.count;
       good = f.good;
       done = f.done;
       tail = f.tail;
@@ -223,6 +240,7 @@ more_clients s old new front more st none is goes f =
       spelled = f.spelled;
       parts = f.parts;
       place = f.place;
+      within = f.within;
       body = f.body ++ more;
       front_is = grown (heading s.generation (length (spell_state written f.begun))) f.body f.tail more front were.1 f.front_is;
       owes = subst (λ o. IfSome o (OwesAll f.begun (f.body ++ more) f.tail st)) (sym none) tt;
@@ -238,9 +256,11 @@ no_clients s old other front st none is gone through f =
       begun = f.begun;
       ranges = f.ranges;
       short = f.short;
+      len = f.len;
       low = f.low;
       high = f.high;
       records = f.records;
+      count = f.count;
       good = f.good;
       done = f.done;
       tail = f.tail;
@@ -248,6 +268,7 @@ no_clients s old other front st none is gone through f =
       spelled = f.spelled;
       parts = f.parts;
       place = f.place;
+      within = f.within;
       body = f.body;
       front_is = f.front_is;
       owes = f.owes;
@@ -272,9 +293,11 @@ piece_written s since most left piece front new st none gone f left_is piece_is 
       begun = f.begun;
       ranges = f.ranges;
       short = f.short;
+      len = f.len;
       low = f.low;
       high = f.high;
       records = f.records;
+      count = f.count;
       good = f.good;
       done = f.done;
       tail = f.tail ++ piece;
@@ -282,6 +305,7 @@ piece_written s since most left piece front new st none gone f left_is piece_is 
       spelled = ap (λ (v : Vec ℕ). v.items) bytes ∙ f.spelled;
       parts = ap (λ (v : Vec ℕ). v.items) bytes ∙ f.parts ∙ ap (λ l. f.tail ++ l) split ∙ sym (append_assoc f.tail piece (drop most left));
       place = omega (arith, passed, f.place, long, length-append f.tail piece);
+      within = subst (λ (v : Vec ℕ). MIN_BYTES + 1 + s.len + length v.items ≤ s.limit) (sym bytes) f.within;
       body = f.body;
       front_is =
           ap (λ l. l ++ piece) f.front_is
@@ -310,39 +334,55 @@ completes s left front bytes st none gone f left_is bytes_is =
     let body = spell_state written f.begun in
     let rest : left ≡ f.left = left_is ∙ ap (λ n. drop n s.since.bytes.items) f.place ∙ ap (λ l. drop (length f.tail) l) f.parts ∙ drop-append_seam f.tail f.left in
     let all : f.tail ++ f.left ≡ spell_records written f.records = sym f.parts ∙ f.spelled in
+    let last : IsLast s.generation body f.records front bytes = record {
+      low = f.low;
+      fits = f.high;
+      short = f.short;
+      good = f.good;
+      parts =
+          ap (λ l. front ++ l) (bytes_is ∙ ap (λ l. l ++ CLOSED ∷ []) rest)
+          ∙ ap (λ l. l ++ (f.left ++ CLOSED ∷ [])) (f.front_is ∙ ap (λ b. heading s.generation (length body) ++ (b ++ f.tail)) whole.0)
+          ∙ append_assoc (heading s.generation (length body)) (body ++ f.tail) (f.left ++ CLOSED ∷ [])
+          ∙ ap (λ l. heading s.generation (length body) ++ l) (append_assoc body f.tail (f.left ++ CLOSED ∷ []) ∙ ap (λ l. body ++ l) (sym (append_assoc f.tail f.left (CLOSED ∷ [])) ∙ ap (λ l. l ++ CLOSED ∷ []) all))
+          ∙ headed s.generation body (spell_records written f.records ++ CLOSED ∷ [])
+          ∙ sym (append_assoc (behind_gate written s.generation body) (spell_records written f.records) (CLOSED ∷ []));
+    } in
     record {
       begun = f.begun;
       ranges = f.ranges;
       fits = whole.1;
       records = f.records;
       done = f.done;
-      last = record {
-        low = f.low;
-        fits = f.high;
-        short = f.short;
-        good = f.good;
-        parts =
-            ap (λ l. front ++ l) (bytes_is ∙ ap (λ l. l ++ CLOSED ∷ []) rest)
-            ∙ ap (λ l. l ++ (f.left ++ CLOSED ∷ [])) (f.front_is ∙ ap (λ b. heading s.generation (length body) ++ (b ++ f.tail)) whole.0)
-            ∙ append_assoc (heading s.generation (length body)) (body ++ f.tail) (f.left ++ CLOSED ∷ [])
-            ∙ ap (λ l. heading s.generation (length body) ++ l) (append_assoc body f.tail (f.left ++ CLOSED ∷ []) ∙ ap (λ l. body ++ l) (sym (append_assoc f.tail f.left (CLOSED ∷ [])) ∙ ap (λ l. l ++ CLOSED ∷ []) all))
-            ∙ headed s.generation body (spell_records written f.records ++ CLOSED ∷ [])
-            ∙ sym (append_assoc (behind_gate written s.generation body) (spell_records written f.records) (CLOSED ∷ []));
-      };
+      last = last;
+      count = f.count;
+      within = omega (arith, f.within, f.len, ap length f.spelled, last_long s.generation body f.records front bytes last);
     }
+
+-- Each record has a byte.
+few_records : (rs : List (List Deed)) → length rs ≤ length (spell_records written rs)
+few_records [] = omega arith
+few_records (r ∷ rs) = omega (arith, few_records rs, length-append (spell_record written r) (spell_records written rs))
+
+-- There are no more records than bytes.
+pub counts : (s : Successor) (front bytes : List ℕ) (st : State) → Completes s front bytes st → s.records < 1 + length front + length bytes
+counts s front bytes st whole =
+    omega (arith, whole.count, few_records whole.records, last_long s.generation (spell_state written whole.begun) whole.records front bytes whole.last)
 
 -- ---- what is done meanwhile
 
 -- Deeds that take only safe tuples are noted.
 pub notes : (s : Successor) (since : Tail) (records : ℕ) (front more : List ℕ) (st new : State) (ds : List Deed) → IsState st → GoesOn st ds new → ((id : ℕ) → is_taken id ds ≡ true → IsSafeFor s st.bag id) → Follows s front st
-    → AreRecords written ds more → since.bytes.items ≡ s.since.bytes.items ++ more → since.written ≡ s.since.written → Follows (with_since s since records) front new
-notes s since records front more st new ds ranges goes safe f are bytes passed = record {
+    → AreRecords written ds more → MIN_BYTES + 1 + s.len + (length s.since.bytes.items + length more) ≤ s.limit → length s.since.bytes.items + length more < 2 ^ 64
+    → (s.records + records_for (length ds) < 2 ^ 64 → records ≡ s.records + records_for (length ds)) → since.bytes.items ≡ s.since.bytes.items ++ more → since.written ≡ s.since.written → Follows (with_since s since records) front new
+notes s since records front more st new ds ranges goes safe f are fits small counted bytes passed = record {
   begun = f.begun;
   ranges = f.ranges;
   short = f.short;
+  len = f.len;
   low = f.low;
   high = f.high;
   records = f.records ++ are.records;
+  count = omega (arith, counted (omega (arith, small, f.count, few, more_few)), f.count, are.are.count, length-append f.records are.records);
   good = All-append (IsRecord written) f.records are.records f.good are.good;
   done = subst (λ l. AreDone f.begun l new) (ap (λ l. deeds_in f.records ++ l) (sym are.are.all) ∙ sym (flat_map-append (λ (r : List Deed). r) f.records are.records)) (goes f.begun (deeds_in f.records) f.ranges f.done);
   tail = f.tail;
@@ -350,6 +390,7 @@ notes s since records front more st new ds ranges goes safe f are bytes passed =
   spelled = bytes ∙ ap (λ l. l ++ more) f.spelled ∙ ap (λ l. spell_records written f.records ++ l) are.bytes_are ∙ sym (flat_map-append (spell_record written) f.records are.records);
   parts = bytes ∙ ap (λ l. l ++ more) f.parts ∙ append_assoc f.tail f.left more;
   place = passed ∙ f.place;
+  within = omega (arith, fits, ap length bytes, length-append s.since.bytes.items more);
   body = f.body;
   front_is = f.front_is;
   owes = by s.draft f.owes safe;
@@ -357,6 +398,12 @@ notes s since records front more st new ds ranges goes safe f are bytes passed =
   whole = f.whole;
 }
   where
+    few : length f.records ≤ length s.since.bytes.items
+    few = omega (arith, few_records f.records, ap length f.spelled)
+
+    more_few : records_for (length ds) ≤ length more
+    more_few = omega (arith, few_records are.records, ap length are.bytes_are, are.are.count)
+
     after : IsAfter st ds new
     after = (goes st [] ranges (none_done st ranges)).after
 

@@ -1,4 +1,4 @@
--- Which of two banks is chosen, and why none is.
+-- Choice between two banks: which one, and why none.
 use Rattle.std.specs.Prelude.{◌≡◌, ◌≢◌, ℕ, ◌+◌, ◌==◌, ◌⊎◌, ◌↔◌, nat_lt, Bool, true, false}
 use Rattle.std.specs.Prelude.{if◌then◌else◌, List}
 use Rattle.std.specs.Prelude.{Result, Ok, Err, IfOk, IfErr}

@@ -1,4 +1,4 @@
--- What reading a snapshot looks for: entries with rising keys, each in its ranges.
+-- Reading of a snapshot, which looks for entries with rising keys, each in its ranges.
 use Rattle.std.specs.Prelude.{◌≡◌, ℕ, ◌<◌, ◌≤◌, ◌^◌, List, ◌++◌, length}
 use Rattle.std.specs.List.{flat_map, AllByRecursion}
 use Rattle.std.specs.Ordering.{nat_cmp}

@@ -1,4 +1,4 @@
--- Which state stands on two banks.
+-- State of two banks, and which of the banks is in use.
 use Rattle.std.specs.Prelude.{ℕ, ◌<◌, ◌⊎◌, List}
 use Rattle.linda_tuple.specs.declared.form.Form.{Form}
 use Rattle.linda_store_state.specs.declared.deed.Deed.{Deed}

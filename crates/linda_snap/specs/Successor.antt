@@ -1,13 +1,15 @@
--- A new bank that is written in steps while its server goes on: what stands behind its first gate,
+-- A new bank that is written in steps while its server goes on: what is after its first gate,
 -- and what is still to come.
-use Rattle.std.specs.Prelude.{◌≡◌, ◌≤◌, ◌<◌, ◌^◌, ◌++◌, ℕ, List, [], All, length, IfSome, IfNone}
+use Rattle.std.specs.Prelude.{◌≡◌, ◌≤◌, ◌<◌, ◌+◌, ◌^◌, ◌++◌, ◌⊎◌, ℕ, List, [], All, length, IfSome}
+use Rattle.std.specs.Prelude.{IfNone}
 use Rattle.linda_codec.specs.Formats.{number, short_number}
 use Rattle.linda_store_state.specs.declared.deed.Deed.{Deed}
 use Rattle.linda_store_state.specs.DeedFormat.{written}
 use Rattle.linda_store_state.specs.State.{State, IsState}
 use Rattle.linda_store_state.specs.Proper.{AreDone}
 use Rattle.linda_journal.specs.Bank.{magic}
-use Rattle.linda_journal.specs.Records.{IsRecord, spell_records}
+use Rattle.linda_journal.specs.declared.limits.TheConstants.{MIN_BYTES}
+use Rattle.linda_journal.specs.Records.{IsRecord, IsUnspelled, payload, bytes_for, spell_records}
 use Rattle.linda_journal.specs.Renewal.{IsLast}
 use Rattle.linda_snap.specs.declared.successor.Successor.{Successor}
 use Rattle.linda_snap.specs.declared.successor.Part.{Part}
@@ -27,10 +29,12 @@ pub record Follows (s : Successor) (front : List ℕ) (st : State) : Type 0 wher
   pub begun : State
   pub ranges : IsState begun
   pub short : length (spell_state written begun) < 2 ^ 32
+  pub len : s.len ≡ length (spell_state written begun)
   pub low : 1 ≤ s.generation
   pub high : s.generation < 2 ^ 64
-  -- and what was done since is in these records, of whose bytes the `tail` is written.
+  -- what was done since is in these records, so many, of whose bytes the `tail` is written;
   pub records : List (List Deed)
+  pub count : s.records ≡ length records
   pub good : All (IsRecord written) records
   pub done : AreDone begun (deeds_in records) st
   pub tail : List ℕ
@@ -38,6 +42,8 @@ pub record Follows (s : Successor) (front : List ℕ) (st : State) : Type 0 wher
   pub spelled : s.since.bytes.items ≡ spell_records written records
   pub parts : s.since.bytes.items ≡ tail ++ left
   pub place : s.since.written ≡ length tail
+  -- and all of the bank, with the gate at its end, is within the limit.
+  pub within : MIN_BYTES + 1 + s.len + length s.since.bytes.items ≤ s.limit
   -- The heading is written, a body and then the tail.
   pub body : List ℕ
   pub front_is : front
@@ -58,8 +64,16 @@ pub record IsBehindTuples (s : Successor) (front : List ℕ) (st : State) : Type
 abbrev pub IsSafeFor : Successor → Tuples → ℕ → Type 0
 IsSafeFor s now id = IfSome s.draft (λ d. IsSafe d now id)
 
+-- The records of these deeds have no room: one of the deeds has no spelling in the form of new banks,
+-- or with them the bank would pass its limit.
+abbrev pub HasNoRoomFor : Successor → List Deed → Type 0
+HasNoRoomFor s ds =
+    IsUnspelled written ds
+    ⊎ (s.limit < MIN_BYTES + 1 + s.len
+    + (length s.since.bytes.items + bytes_for (length ds) (length (payload written ds))))
+
 -- With these last bytes behind what is written all of the new bank is there, and it stands for the
--- state.
+-- state; it has so many records, and keeps within its limit.
 pub record Completes (s : Successor) (front bytes : List ℕ) (st : State) : Type 0 where
   pub begun : State
   pub ranges : IsState begun
@@ -67,6 +81,8 @@ pub record Completes (s : Successor) (front bytes : List ℕ) (st : State) : Typ
   pub records : List (List Deed)
   pub done : AreDone begun (deeds_in records) st
   pub last : IsLast s.generation (spell_state written begun) records front bytes
+  pub count : s.records ≡ length records
+  pub within : 1 + length front + length bytes ≤ s.limit
 
 -- what is to be written next
 abbrev pub bytes_in : Part → List ℕ

@@ -1,4 +1,4 @@
--- What a crash may leave of a disk that becomes a new bank.
+-- Crashes of a disk that becomes a new bank, and what they may leave.
 use Rattle.std.specs.Prelude.{◌≡◌, ℕ, ◌⊎◌, List}
 use Rattle.linda_disk.specs.declared.fault.DiskFault.{DiskFault}
 use Rattle.linda_disk.specs.declared.fault.DiskFault.TheVariants as device

@@ -1,4 +1,4 @@
-//! Which of two banks stands, and for which state.
+//! Choice between two banks, and the state that they have.
 
 ghost use Rattle.std.specs.Prelude.{◌≡◌, ◌≢◌, ◌+◌, ◌<◌, ◌↔◌, false, length, Ok, Err, IfOk, IfErr};
 ghost use Rattle.std.specs.Prelude.{OnOk};

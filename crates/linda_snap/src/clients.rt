@@ -2,11 +2,12 @@
 //! copy, and which of them are written. A large tuple of a kept reply is there once for both.
 //! `specs/Clients` says what is still to come.
 
-ghost use Rattle.std.specs.Prelude.{◌≡◌, ◌<◌, ◌≤◌, ◌++◌, ℕ, List, length, OnOk, OnErr, IfOk};
+ghost use Rattle.std.specs.Prelude.{◌≡◌, ◌<◌, ◌≤◌, ◌+◌, ◌++◌, ℕ, List, length, OnOk, OnErr, IfOk};
 ghost use Rattle.std.specs.Prelude.{IfSome, IfNone};
 ghost use Rattle.std.specs.FinMap.{entries};
 ghost use Rattle.linda_store_state.specs.State as states;
 ghost use Rattle.linda_snap.specs.Clients.{OwesClients, HasTuples, AreThrough};
+ghost use Rattle.linda_snap.specs.declared.entry.TheConstants.{MAX_KEPT_BYTES};
 
 use crate::cursor::{kept_after, next_entry};
 use crate::entry::push_kept;
@@ -42,6 +43,7 @@ impl Clients {
             → HasTuples begun bytes → book ≡ begun.book → count ≡ length (entries begun.book)
             → IfOk result (λ x. OwesClients begun x.0 (bytes ++ x.1.items)) }
         ensures some { IfOk result (λ x. 0 < length x.1.items) }
+        ensures most { IfOk result (λ x. length x.1.items ≤ most + MAX_KEPT_BYTES) }
     {
         let mut bytes = Vec::new(alloc);
         bytes.extend_from_slice(&count.to_be_bytes())?;
@@ -51,7 +53,7 @@ impl Clients {
     }
 
     /// Spells the next clients, one at least, until they have so many bytes, or there are 4,097 of
-    /// them. Returns their bytes, which are to be written behind those before; nothing if all are
+    /// them. Returns their bytes, which are to be written after those before; nothing if all are
     /// written.
     ///
     /// # Errors
@@ -68,6 +70,8 @@ impl Clients {
             OwesClients begun self.new (bytes ++ more.items))) }
         ensures through { IfOk result (λ step. IfNone step (AreThrough self.old)) }
         ensures some { IfOk result (λ step. IfSome step (λ more. 0 < length more.items)) }
+        ensures most { IfOk result (λ step. IfSome step (λ more.
+            length more.items ≤ most + MAX_KEPT_BYTES)) }
     {
         let Some((client, entry)) = kept_after(&self.book, self.last) else {
             return Ok(None);
@@ -81,10 +85,12 @@ impl Clients {
 
     // Appends the next clients, until there are so many bytes, or 4,096 more clients.
     fn push_next(&mut self, out: &mut Vec<u8>, most: usize) -> Result<(), AllocError>
+        requires few { length out.old.items ≤ most + MAX_KEPT_BYTES }
         ensures owes { (begun : states.State) (bytes : List ℕ)
             → OwesClients begun self.old (bytes ++ out.old.items)
             → OnOk result (OwesClients begun self.new (bytes ++ out.new.items)) }
         ensures grows { OnOk result (length out.old.items ≤ length out.new.items) }
+        ensures most { OnOk result (length out.new.items ≤ most + MAX_KEPT_BYTES) }
         ensures err { OnErr result (self.new ≡ self.old) }
     {
         let mut last = self.last;

@@ -16,6 +16,7 @@ ghost use Rattle.linda_snap.specs.Draft.{Tuples, Owes, IsThrough, IsFirst, IsFir
 ghost use Rattle.linda_snap.specs.Draft.{seen, earlier_of, IsSafe};
 ghost use Rattle.linda_snap.specs.Clients.{HasTuples};
 ghost use Rattle.linda_snap.specs.Snapshot.{spell_state};
+ghost use Rattle.linda_snap.specs.declared.entry.TheConstants.{MAX_KEPT_BYTES};
 
 use crate::clients::copied;
 use crate::entry::push_placed;
@@ -118,7 +119,7 @@ impl Draft {
     }
 
     /// Spells the next tuples, one at least, until they have so many bytes, or there are 4,096 of
-    /// them. Returns their bytes, which are to be written behind those before; nothing if all are
+    /// them. Returns their bytes, which are to be written after those before; nothing if all are
     /// written.
     ///
     /// # Errors
@@ -138,6 +139,8 @@ impl Draft {
             → Owes begun self.old bytes state.now.bag
             → IfOk result (λ step. IfNone step (IsThrough begun self.new)) }
         ensures some { IfOk result (λ step. IfSome step (λ more. 0 < length more.items)) }
+        ensures most { IfOk result (λ step. IfSome step (λ more.
+            length more.items ≤ most + MAX_KEPT_BYTES)) }
         ensures ended { IfOk result (λ step. IfNone step (self.new ≡ self.old)) }
         ensures err { OnErr result (self.new ≡ self.old) }
         ensures next { self.new.next ≡ self.old.next }

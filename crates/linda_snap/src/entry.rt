@@ -6,6 +6,7 @@ ghost use Rattle.linda_codec.specs.declared.limits.TheConstants.{NUMBER_BYTES};
 ghost use Rattle.linda_codec.specs.Steps.{Gives};
 ghost use Rattle.linda_store_state.specs.DeedFormat.{written};
 ghost use Rattle.linda_snap.specs.declared.entry.TheConstants.{CLIENT_BYTES, MAX_KEPT_BYTES};
+ghost use Rattle.linda_snap.specs.declared.entry.TheConstants.{MAX_PLACED_BYTES};
 ghost use Rattle.linda_snap.specs.Snapshot as format;
 
 use linda_book::KeptReply;
@@ -24,8 +25,8 @@ const CLIENT_BYTES: usize = SHORT_NUMBER_BYTES + NUMBER_BYTES;
 const MAX_PLACED_BYTES: usize = NUMBER_BYTES + MAX_TUPLE_BYTES;
 
 /// The most bytes that a client with what is kept for it spells: its number, a kind, and an id and
-/// a tuple.
-const MAX_KEPT_BYTES: usize = CLIENT_BYTES + KIND_BYTES + MAX_PLACED_BYTES;
+/// a tuple. No entry of a snapshot has more.
+pub const MAX_KEPT_BYTES: usize = CLIENT_BYTES + KIND_BYTES + MAX_PLACED_BYTES;
 
 /// Reads an id and a tuple, and gives the bytes after them.
 ///
@@ -65,12 +66,14 @@ pub(crate) fn push_placed(out: &mut Vec<u8>, id: u64, tuple: &Tuple) -> Result<(
     ensures ok { OnOk result (out.new.items
         ≡ out.old.items ++ (format.placed written).spell (id, tuple.now)) }
     ensures fits { OnOk result ((format.placed written).Fits (id, tuple.now)) }
+    ensures short { OnOk result (length out.new.items ≤ length out.old.items + MAX_PLACED_BYTES) }
 {
     // Every tuple has a spelling in the form of new banks, and says so when its fields are asked
     // for.
     let _fields = tuple.fields();
     out.extend_from_slice(&id.to_be_bytes())?;
-    tuple.push(BANK_FORM, out)
+    tuple.push(BANK_FORM, out)?;
+    Ok(())
 }
 
 /// Appends the spelling of a client, its last number, and the reply to it; likewise.
@@ -83,10 +86,12 @@ pub(crate) fn push_kept(
     ensures ok { OnOk result (out.new.items
         ≡ out.old.items ++ (format.kept written).spell (client, (n, reply.now))) }
     ensures fits { OnOk result ((format.kept written).Fits (client, (n, reply.now))) }
+    ensures short { OnOk result (length out.new.items ≤ length out.old.items + MAX_KEPT_BYTES) }
 {
     out.extend_from_slice(&client.to_be_bytes())?;
     out.extend_from_slice(&n.to_be_bytes())?;
-    push_reply(out, reply)
+    push_reply(out, reply)?;
+    Ok(())
 }
 
 // Appends the spelling of the kept reply; likewise.

@@ -1,5 +1,5 @@
-//! What the definitions of standing banks come to, each stated by the contract of a function that
-//! does nothing.
+//! Laws of two banks, which follow from the definitions: each stated by the contract of a function
+//! that does nothing.
 
 ghost use Rattle.std.specs.Prelude.{◌≡◌, ◌⊎◌, ℕ, List};
 ghost use Rattle.linda_store_state.specs.declared.deed.Deed.{Deed};

@@ -1,15 +1,12 @@
-//! What a server keeps on two disks: a state as bytes, which of two banks stands, and the switch
-//! from one to the other.
+//! Snapshots, and the two banks of a server: a state as bytes, which of two banks is in use, and
+//! the switch from one to the other.
 //!
 //! - A snapshot is the one spelling of a state. What is put is read again, and bytes are refused
-//!   only where they spell
-//!   no state that is in its ranges.
-//! - `choose_bank` answers the state that two banks stand for, or what is wrong with them, on which
-//!   side and where;
-//!   `choose` says which of the two that is, by what they begin with.
+//!   only if they spell no state that is in its ranges.
+//! - `choose_bank` answers the state of the two banks, or what is wrong with them, on which side
+//!   and where; `choose` says which of the two that is, by what they begin with.
 //! - `switch` makes a new bank of the next generation on the other disk. At no moment of it a crash
-//!   leaves anything but
-//!   what stands for the same state.
+//!   leaves anything but what has the same state.
 #![tactic(auto)]
 
 mod choice;
@@ -29,6 +26,7 @@ mod takeover;
 pub use choice::{ChoiceFault, Chosen, choose, choose_bank};
 pub use cursor::{kept_after, next_entry, tuple_from};
 pub use draft::{Draft, STEP_TUPLES};
+pub use entry::MAX_KEPT_BYTES;
 pub use laws::{an_append_leaves_the_old_state_or_the_new, two_banks_stand_for_one_state};
 pub use linda_journal::{Closed, Whole, fill, shut, unlock};
 pub use putting::{EMPTY_STATE_BYTES, put_state};

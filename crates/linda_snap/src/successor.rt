@@ -1,9 +1,9 @@
-//! A new bank that is written in steps while its server goes on: a snapshot of the state in which it
-//! began, and behind it the records of what was done since. `specs/Successor` says what is written,
-//! and what is still to come.
+//! A new bank that is written in steps while its server goes on: a snapshot of the state in which
+//! it began, and after it the records of what was done since. `specs/Successor` says what is
+//! written, and what is still to come.
 
 ghost use Rattle.std.specs.Prelude.{◌≡◌, ◌≤◌, ◌<◌, ◌^◌, ◌*◌, ◌+◌, ◌++◌, ◌⊎◌, ℕ, List, length, None};
-ghost use Rattle.std.specs.Prelude.{true, OnOk, IfOk, IfErr, IsErrOf, IfSome, IfNone};
+ghost use Rattle.std.specs.Prelude.{true, false, OnOk, IfOk, IfErr, IsErrOf, IfSome, IfNone};
 ghost use Rattle.linda_journal.specs.declared.limits.TheConstants.{MIN_BYTES};
 ghost use Rattle.linda_journal.specs.declared.limits.TheConstants.{MAX_DEEDS, MAX_RECORDS};
 ghost use Rattle.linda_store_state.specs.State as states;
@@ -13,7 +13,8 @@ ghost use Rattle.linda_store_state.specs.DeedFormat.{written};
 ghost use Rattle.linda_snap.specs.Replay.{GoesOn};
 ghost use Rattle.linda_snap.specs.Snapshot.{spell_state};
 ghost use Rattle.linda_snap.specs.Successor.{Follows, IsBehindTuples, IsSafeFor, IsNext};
-ghost use Rattle.linda_snap.specs.Successor.{bytes_in, heading};
+ghost use Rattle.linda_snap.specs.Successor.{HasNoRoomFor, bytes_in, heading};
+ghost use Rattle.linda_snap.specs.declared.entry.TheConstants.{MAX_KEPT_BYTES};
 
 use crate::clients::Clients;
 use crate::draft::Draft;
@@ -69,6 +70,7 @@ impl Successor {
         requires short { limit < 2 ^ 32 }
         ensures follows { IfOk result (λ x. Follows x.0 x.1.items state.now) }
         ensures generation { IfOk result (λ x. x.0.generation ≡ generation) }
+        ensures limit { IfOk result (λ x. x.0.limit ≡ limit) }
         ensures room { OnOk result (MIN_BYTES + 1 + length (spell_state written state.now)
             ≤ limit) }
         ensures full { IsErrOf result SwitchFault.BankFull
@@ -131,6 +133,7 @@ impl Successor {
         ensures others { (q : ℕ) → IsSafeFor self.old state.now.bag q
             → IsSafeFor self.new state.now.bag q }
         ensures generation { self.new.generation ≡ self.old.generation }
+        ensures limit { self.new.limit ≡ self.old.limit }
     {
         match &mut self.draft {
             None => Ok(()),
@@ -138,9 +141,9 @@ impl Successor {
         }
     }
 
-    /// Notes what was done in one call of the server; returns whether that could be noted. It
-    /// cannot if a deed has no spelling in the form of new banks, or if the bank would pass its
-    /// limit.
+    /// Notes what was done in one call of the server; returns whether there was room for it. There
+    /// is none only if a deed has no spelling in the form of new banks, or if the bank would pass
+    /// its limit.
     ///
     /// # Errors
     ///
@@ -152,7 +155,10 @@ impl Successor {
             → ((id : ℕ) → is_taken id deeds.now ≡ true → IsSafeFor self.old st.bag id)
             → Follows self.old front st
             → IfOk result (λ is_noted. is_noted ≡ true → Follows self.new front new) }
+        ensures full { IfOk result (λ is_noted. is_noted ≡ false
+            → HasNoRoomFor self.old deeds.now) }
         ensures generation { self.new.generation ≡ self.old.generation }
+        ensures limit { self.new.limit ≡ self.old.limit }
     {
         let Some(bytes) = spell_deeds(alloc, BANK_FORM, deeds)? else {
             return Ok(false);
@@ -161,12 +167,12 @@ impl Successor {
             return Ok(false);
         }
         self.since.extend(&bytes)?;
-        self.records = self.records.saturating_add(records_for(deeds.len()));
+        self.records = counted(self.records, records_for(deeds.len()));
         Ok(true)
     }
 
-    /// The next bytes, about so many at most and one at least, which are to be written behind those
-    /// before.
+    /// The next bytes, one at least, and so many at most with one entry more, which are to be
+    /// written after those before.
     ///
     /// # Errors
     ///
@@ -180,7 +186,9 @@ impl Successor {
         ensures next { (front : List ℕ) → Follows self.old front state.now
             → IfOk result (λ part. IsNext part self.new front state.now) }
         ensures some { IfOk result (λ part. 0 < length (bytes_in part)) }
+        ensures most { IfOk result (λ part. length (bytes_in part) ≤ most + MAX_KEPT_BYTES) }
         ensures generation { self.new.generation ≡ self.old.generation }
+        ensures same { (self.new.limit ≡ self.old.limit) × (self.new.records ≡ self.old.records) }
     {
         match self.next_tuples(alloc, state, most)? {
             Some(bytes) => Ok(Part::More(bytes)),
@@ -188,7 +196,7 @@ impl Successor {
                 Some(bytes) => Ok(Part::More(bytes)),
                 None => match self.next_clients(alloc, most)? {
                     Some(bytes) => Ok(Part::More(bytes)),
-                    None => self.next_records(alloc, one_at_least(most)),
+                    None => self.next_records(alloc, most),
                 },
             },
         }
@@ -207,7 +215,10 @@ impl Successor {
         ensures none { (front : List ℕ) → Follows self.old front state.now
             → IfOk result (λ o. IfNone o (IsBehindTuples self.new front state.now)) }
         ensures long { IfOk result (λ o. IfSome o (λ bytes. 0 < length bytes.items)) }
+        ensures most { IfOk result (λ o. IfSome o (λ bytes.
+            length bytes.items ≤ most + MAX_KEPT_BYTES)) }
         ensures generation { self.new.generation ≡ self.old.generation }
+        ensures same { (self.new.limit ≡ self.old.limit) × (self.new.records ≡ self.old.records) }
     {
         match &mut self.draft {
             None => Ok(None),
@@ -223,8 +234,11 @@ impl Successor {
         ensures none { (front : List ℕ) (st : states.State) → IsBehindTuples self.old front st
             → IfOk result (λ o. IfNone o (Follows self.new front st)) }
         ensures long { IfOk result (λ o. IfSome o (λ bytes. 0 < length bytes.items)) }
+        ensures most { IfOk result (λ o. IfSome o (λ bytes.
+            length bytes.items ≤ most + MAX_KEPT_BYTES)) }
         ensures ended { OnOk result (self.new.draft ≡ None) }
         ensures generation { self.new.generation ≡ self.old.generation }
+        ensures same { (self.new.limit ≡ self.old.limit) × (self.new.records ≡ self.old.records) }
     {
         match mem::replace(&mut self.draft, None) {
             None => Ok(None),
@@ -246,8 +260,11 @@ impl Successor {
         ensures none { (front : List ℕ) (st : states.State) → Follows self.old front st
             → IfOk result (λ o. IfNone o (Follows self.new front st)) }
         ensures long { IfOk result (λ o. IfSome o (λ bytes. 0 < length bytes.items)) }
+        ensures most { IfOk result (λ o. IfSome o (λ bytes.
+            length bytes.items ≤ most + MAX_KEPT_BYTES)) }
         ensures ended { IfOk result (λ o. IfNone o (self.new.clients ≡ None)) }
-        ensures same { (self.new.draft ≡ None) × (self.new.generation ≡ self.old.generation) }
+        ensures same { (self.new.draft ≡ None) × (self.new.generation ≡ self.old.generation)
+            × (self.new.limit ≡ self.old.limit) × (self.new.records ≡ self.old.records) }
     {
         match mem::replace(&mut self.clients, None) {
             None => Ok(None),
@@ -264,15 +281,17 @@ impl Successor {
         }
     }
 
-    // The next records, so many bytes of them; with the last ones the closed gate.
+    // The next records, so many bytes of them, but one at least; with the last ones the closed gate.
     fn next_records(&mut self, alloc: Global, most: usize) -> Result<Part, AllocError>
         requires ended { (self.old.draft ≡ None) × (self.old.clients ≡ None) }
-        requires some { 1 ≤ most }
         ensures next { (front : List ℕ) (st : states.State) → Follows self.old front st
             → IfOk result (λ part. IsNext part self.new front st) }
         ensures long { IfOk result (λ part. 0 < length (bytes_in part)) }
+        ensures most { IfOk result (λ part. length (bytes_in part) ≤ most + MAX_KEPT_BYTES) }
         ensures generation { self.new.generation ≡ self.old.generation }
+        ensures same { (self.new.limit ≡ self.old.limit) × (self.new.records ≡ self.old.records) }
     {
+        let most = one_at_least(most);
         let left = self.since.left();
         let mut bytes = Vec::new(alloc);
         if left.len() > most {
@@ -289,7 +308,8 @@ impl Successor {
 
 // One, if it is none.
 fn one_at_least(most: usize) -> usize
-    ensures { 1 ≤ result }
+    ensures some { 1 ≤ result }
+    ensures few { result ≤ most + 1 }
 {
     if most == 0 { 1 } else { most }
 }
@@ -310,9 +330,20 @@ fn spell_start(
     Ok(bytes)
 }
 
+// So many records and so many more.
+fn counted(records: usize, more: usize) -> usize
+    ensures { records + more < 2 ^ 64 → result ≡ records + more }
+{
+    records.saturating_add(more)
+}
+
 // Whether a bank whose snapshot has so many bytes, and its records so many and then so many more,
 // keeps within the limit.
-fn has_room(limit: usize, len: usize, since: usize, more: usize) -> bool {
+fn has_room(limit: usize, len: usize, since: usize, more: usize) -> bool
+    ensures yes { result ≡ true → MIN_BYTES + 1 + len + (since + more) ≤ limit }
+    ensures no { result ≡ false → limit < MIN_BYTES + 1 + len + (since + more) }
+    ensures small { result ≡ true → since + more < 2 ^ 64 }
+{
     let Some(all) = since.checked_add(more) else {
         return false;
     };

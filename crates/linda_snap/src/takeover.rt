@@ -1,6 +1,6 @@
 //! The end of a new bank that was written in steps: it is taken into use.
 
-ghost use Rattle.std.specs.Prelude.{◌≡◌, ◌+◌, ◌↔◌, ℕ, List, true, false, IfOk, IfErr};
+ghost use Rattle.std.specs.Prelude.{◌≡◌, ◌+◌, ◌<◌, ◌↔◌, ℕ, List, true, false, length, IfOk, IfErr};
 ghost use Rattle.linda_store_state.specs.DeedFormat.{written};
 ghost use Rattle.linda_store_state.specs.State as states;
 ghost use Rattle.linda_disk.specs.Disk.{TellsFailures};
@@ -56,6 +56,13 @@ pub fn take_over<D: Disk>(
         → IsStored x.0.form x.0.generation x.0.end (D.view x.0.disk) st) }
     ensures new { IfOk result (λ x. (x.0.form ≡ written) × (x.0.generation ≡ current.generation + 1)
         × (x.0.limit ≡ current.limit) × (x.0.is_spent ≡ false)) }
+    // It ends with the last byte, within its limit, and counts the records that were noted.
+    ensures place { IfOk result (λ x. x.0.end + 1 ≡ filling.at + length bytes.now) }
+    ensures within { (front : List ℕ) (st : states.State) → filling.at ≡ 1 + length front
+        → Completes next.now front bytes.now st
+        → IfOk result (λ x. x.0.end < next.now.limit) }
+    ensures records { next.now.records < filling.at + length bytes.now
+        → IfOk result (λ x. x.0.records ≡ next.now.records) }
     // The disk that was in use is not touched.
     ensures same { IfOk result (λ x. x.1 ≡ current.disk)
         × IfErr result (λ e. e.1.disk ≡ current.disk) }

@@ -28,14 +28,14 @@ is_up stages.Open = true
 is_up (stages.Malformed detail) = true
 is_up stages.Down = false
 
--- the offset that a client is told for a fault in its frames
+-- the offset that is reported to a client for a fault in its frames
 abbrev pub detail_of : FrameFault → ℕ
 detail_of frames.Memory = 0
 detail_of frames.EmptyFrame = 0
 detail_of (frames.FrameTooLong len) = 0
 detail_of (frames.Malformed offset) = offset
 
--- the bytes begin with a fault, which is told with this detail
+-- the bytes begin with a fault, which is reported with this detail
 abbrev pub IsMalformed : List ℕ → ℕ → Type 0
 IsMalformed bytes detail =
     (fault : FrameFault) × ((message_front bytes ≡ Broken fault) × (detail ≡ detail_of fault))
@@ -80,7 +80,7 @@ IsGivenUp from bytes node greeted =
     × IsTalk from bytes turns rest (point_at node greeted is_open)))
 
 -- What a call that takes all messages in the bytes did: it says how the connection stands, and puts
--- what is said after the replies of before. Where memory ran out, what is said may be lost.
+-- what is said after the replies of before. If memory ran out, what is said may be lost.
 abbrev pub HasAnswered :
     {E : Type 0} → Point → List ℕ → List Reply → Result Stage E → List ℕ → List Reply → Node
     → Option ℕ → Type 0

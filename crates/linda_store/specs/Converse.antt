@@ -1,4 +1,4 @@
--- What a conversation over a reader and a writer did, however it ended.
+-- Conversation over a reader and a writer: what it did, however it ended.
 use Rattle.std.specs.Prelude.{◌≡◌, ℕ, ◌≤◌, Bool, false, List, ◌++◌, length, take}
 use Rattle.std.specs.Prelude.{Option, Some, None, Result, Ok, Err, IfOk}
 use Rattle.std.specs.List.{flat_map}
@@ -41,7 +41,7 @@ pub record IsBrokenOff (from : Point) (read written : List ℕ) (to : Point) : T
   pub talk : IsTalk from read said rest to
   pub spelled : written ≡ take count (flat_map reply_frame said)
 
--- What was done with bytes that were there, where nothing but the writer or memory may fail: all is
+-- What was done with bytes that were there, if nothing but the writer or memory may fail: all is
 -- answered and written, up to a rest, and the connection stands so; or some of it.
 abbrev pub AnswersSo : Result Stage ConverseFault → Point → List ℕ → List ℕ → List ℕ → Point
     → Type 0

@@ -1,4 +1,4 @@
--- What contracts see of a node, what it may answer, and what is left of a call in which it was
+-- Nodes as contracts see them: what one may answer, and what is left of a call in which it was
 -- stopped.
 use Rattle.std.specs.Prelude.{◌≡◌, ◌≢◌, ℕ, ◌≤◌, Bool, true, false, List, [], ◌∷◌, length, Result}
 use Rattle.std.specs.Prelude.{Ok, Err}
@@ -19,8 +19,8 @@ use Rattle.linda_store.specs.declared.node.NodeFault.{NodeFault}
 use Rattle.linda_store.specs.declared.node.NodeFault.TheVariants as faults
 
 -- A node: its state, what it holds and lets wait, whether it is down, and whether it is of a kind
--- that may be full; and, where it is down, the deeds that may have been done in the call in which
--- it went down. Its state is then the one before that call.
+-- that may be full; and, if it is down, the deeds that may have been done in the call in which it
+-- went down. Its state is then the one before that call.
 pub record Node : Type 0 where
   pub state : State
   pub soft : Soft
@@ -94,7 +94,7 @@ Closes old c (Sent sends) new = IsDone old (hangs_up c ∷ []) [] sends new
 Closes old c IsFull new = ⊥
 Closes old c IsDown new = WentDown old (hangs_up c ∷ []) new
 
--- What a node may answer where it is to write a snapshot, and where that leaves it: unless it goes
+-- What a node may answer if it is to write a snapshot, and where that leaves it: unless it goes
 -- down nothing changes.
 abbrev pub Snaps : {A : Type 0} → Node → Result A NodeFault → Node → Type 0
 Snaps old (Ok done) new = (old.is_down ≡ false) × (new ≡ old)
@@ -102,7 +102,7 @@ Snaps old (Err faults.Full) new = (old.is_down ≡ false) × ((old.may_fill ≡ 
 Snaps old (Err faults.Down) new = WentDown old [] new
 
 -- A node was stopped and opened again: it is up, nothing is held and nobody waits. These deeds were
--- added: some first ones of what was in hand; or, where it was down, of the call in which it went
+-- added: some first ones of what was in hand; or, if it was down, of the call in which it went
 -- down.
 pub record IsOpened (old : Node) (xs : List Coming) (ds : List Deed) (new : Node) : Type 0 where
   pub is_up : new.is_down ≡ false

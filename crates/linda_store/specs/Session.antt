@@ -1,4 +1,4 @@
--- What contracts see of a session, and what it did with a piece of a stream.
+-- Session as contracts see it, and what it did with a piece of a stream.
 use Rattle.std.specs.Prelude.{◌≡◌, ℕ, Bool, true, false, List, [], ◌++◌, Option, None, Result, Ok}
 use Rattle.std.specs.Prelude.{Err}
 use Rattle.linda_store.specs.declared.stage.Stage.{Stage}

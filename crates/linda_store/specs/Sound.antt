@@ -1,4 +1,4 @@
--- What a server keeps, whatever comes to it.
+-- Soundness of a server, whatever comes to it.
 use Rattle.std.specs.Prelude.{◌≡◌, ℕ, true, false, List, [], ◌++◌, All, Result, Ok, Err}
 use Rattle.std.specs.Global.{Vec}
 use Rattle.linda_wire.specs.declared.reply.Reply.{Reply}
@@ -19,7 +19,7 @@ pub record IsSound (ds : List Deed) (node : Node) : Type 0 where
   pub orderly : node.is_down ≡ false → IsOrderly node.state node.soft
   pub lost : node.is_down ≡ true → IsProper empty_state (ds ++ node.lost)
 
--- What is sent reports these deeds alone.
+-- What is sent reports only these deeds.
 abbrev pub AreBacked : List Deed → List (ℕ × Reply) → Type 0
 AreBacked ds sends =
     All (λ (send : ℕ × Reply). reports_deed send.1 ≡ true → ReportsOne ds send.0 send.1) sends

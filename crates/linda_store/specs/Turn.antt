@@ -1,4 +1,4 @@
--- What a connection says: the greeting, then the node's replies to the client that was greeted.
+-- Turns of a connection: the greeting, then the node's replies to the client that was greeted.
 use Rattle.std.specs.Prelude.{◌≡◌, ℕ, Bool, true, false, ◌==◌, if◌then◌else◌, List, [], ◌∷◌, ◌++◌}
 use Rattle.std.specs.Prelude.{map, filter}
 use Rattle.std.specs.Prelude.{Option, Some, None, Result, Ok, Err}
@@ -30,7 +30,7 @@ beginning node = point_at node None true
 abbrev pub replies_for : ℕ → List (ℕ × Reply) → List Reply
 replies_for c sends = map (λ s. s.1) (filter (λ s. s.0 == c) sends)
 
--- what the client c is told for a node's answer
+-- what the client c hears for a node's answer
 abbrev pub told : ℕ → NodeAnswer → List Reply
 told c (Sent sends) = replies_for c sends
 told c IsFull = (refused refusals.Full) ∷ []
@@ -46,11 +46,11 @@ abbrev pub is_welcome : Reply → Bool
 is_welcome (replies.Welcome last) = true
 is_welcome _ = false
 
--- the client where it is welcome, else nobody
+-- the client if it is welcome, else nobody
 abbrev pub greeted_if : Bool → ℕ → Option ℕ
 greeted_if welcome c = if welcome then Some c else None
 
--- who is greeted after a node's answer to the Hello of c: c where it is welcome
+-- who is greeted after a node's answer to the Hello of c: c if it is welcome
 abbrev pub greeted_by : ℕ → NodeAnswer → Option ℕ
 greeted_by c (Sent sends) = greeted_if (list_any is_welcome (replies_for c sends)) c
 greeted_by c IsFull = None
@@ -72,7 +72,7 @@ pub record IsAsked (c : ℕ) (m : Message) (greeted : NodeAnswer → Option ℕ)
   pub greeted_is : to.greeted ≡ greeted answer
   pub open_is : to.is_open ≡ goes_on answer
 
--- the client that a Hello names; none where the message is no Hello
+-- the client that a Hello names; none if the message is no Hello
 abbrev pub hello_of : Message → Option ℕ
 hello_of (messages.Hello version client fresh) = Some client
 hello_of (messages.Out n tuple) = None
@@ -98,8 +98,8 @@ abbrev pub Turns : Point → Message → List Reply → Point → Type 0
 Turns from m said to = (from.is_open ≡ true) × Treats from.greeted m from said to
 
 -- What a call that answers one message did, given what is done with the message: it says whether
--- the conversation goes on, and puts what is said after the replies of before. Where memory ran
--- out, what is said may be lost.
+-- the conversation goes on, and puts what is said after the replies of before. If memory ran out,
+-- what is said may be lost.
 abbrev pub HasSaid : {E : Type 0} → (Bool → List Reply → Type 0) → List Reply → Result Bool E
     → List Reply → Type 0
 HasSaid does old (Ok is_open) new = (said : List Reply) × (does is_open said × (new ≡ old ++ said))

@@ -1,4 +1,4 @@
--- A node in memory alone, as contracts see it: its store, and the state before the last call.
+-- A node in memory only, as contracts see it: its store, and the state before the last call.
 use Rattle.std.specs.Prelude.{false, [], if◌then◌else◌}
 use Rattle.linda_store_state.specs.State.{State}
 use Rattle.linda_store_step.specs.Store.{Store}

@@ -1,4 +1,4 @@
-//! How a whole conversation ends.
+//! Ends of a whole conversation.
 
 use thiserror::Error;
 
@@ -7,8 +7,8 @@ use thiserror::Error;
 pub enum End {
     /// The client's stream ended. So many bytes came after its last message, and make none.
     Ended { rest: usize },
-    /// The client sent a frame that spells nothing, and was told so. The offset in the frame of the
-    /// first byte at fault, 0 where its length is at fault.
+    /// The client sent a frame that spells nothing, and was answered so. The offset in the frame of
+    /// the first byte at fault, 0 if its length is at fault.
     Malformed(u32),
 }
 
@@ -24,7 +24,7 @@ pub enum ConverseFault {
     /// The stream has not ended after 4,294,967,295 reads. All that came was answered.
     #[error("too many reads")]
     Turns,
-    /// The node is down. The client was told so.
+    /// The node is down. The client was answered so.
     #[error("down")]
     Down,
     /// Memory ran out. Some first messages were answered, and a prefix of the replies was written.

@@ -1,4 +1,5 @@
-//! What the contract of a node comes to, stated by the contract of a function that does nothing.
+//! Law of nodes, which follows from their contract, stated by the contract of a function that does
+//! nothing.
 
 ghost use Rattle.std.specs.Prelude.{ℕ, List, ◌++◌, Result};
 ghost use Rattle.std.specs.Global.{Vec};
@@ -10,7 +11,7 @@ ghost use Rattle.linda_store.specs.Node.{Node, NodeAnswer, Sent, Works, Closes, 
 ghost use Rattle.linda_store.specs.Sound.{IsSound, AreBacked, added};
 
 /// A server whose deeds are a proper list stays so, whatever comes to its node, stops and going
-/// down too: its state is the one after all of its deeds, and what it sends reports them alone.
+/// down too: its state is the one after all of its deeds, and what it sends reports only them.
 pub fn a_server_stays_sound()
     ensures works { (ds es : List Deed) (old new : Node) (xs : List Coming) (answer : NodeAnswer)
         → IsSound ds old → Works old xs answer es new → IsSound (ds ++ es) new }

@@ -1,4 +1,4 @@
-//! What a connection needs of a server.
+//! Nodes: what a connection needs of a server.
 
 ghost use Rattle.std.specs.Prelude.{◌≡◌, ◌≤◌, false, length};
 
@@ -57,13 +57,13 @@ pub trait Node: Drop {
     fn close(&mut self, alloc: Global, client: u32) -> Result<Vec<(u32, Reply)>, NodeFault>
         ensures { Closes (shown self.old) client (node_answer result) (shown self.new) };
 
-    /// Writes a snapshot of its state, where it keeps one; nothing that a client sees changes.
+    /// Writes a snapshot of its state, if it keeps one; nothing that a client sees changes.
     fn snapshot(&mut self, alloc: Global) -> Result<(), NodeFault>
         ensures { Snaps (shown self.old) result (shown self.new) };
 
-    /// Begins the work, is stopped inside its device call number `at`, from 0, or after the work
-    /// where there are fewer calls, sends nothing and is opened again; `torn` says what becomes of
-    /// what was not synced. What is answered are the deeds that were added.
+    /// Begins the work, is stopped inside its device call number `at`, from 0, or after the work if
+    /// there are fewer calls, sends nothing and is opened again; `torn` says what becomes of what
+    /// was not synced. What is answered are the deeds that were added.
     fn stop(
         &mut self,
         alloc: Global,

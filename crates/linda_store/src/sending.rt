@@ -1,4 +1,4 @@
-//! Writing replies and whole buffers, so that it is known what went out even where a write fails.
+//! Writing replies and whole buffers, so that it is known what went out even if a write fails.
 
 ghost use Rattle.std.specs.Prelude.{◌≡◌, ◌<◌, ◌≤◌, ℕ, length, take, IfOk, OnOk, OnErr};
 ghost use Rattle.std.specs.List.{flat_map};
@@ -16,8 +16,8 @@ use std::io::{ErrorKind, Write};
 ///
 /// # Errors
 ///
-/// `Memory` where there is none for the frames: nothing was written. `Write` where the writer
-/// failed or was interrupted: it has taken a prefix of the frames.
+/// `Memory` if there is none for the frames: nothing was written. `Write` if the writer failed or
+/// was interrupted: it has taken a prefix of the frames.
 pub(crate) fn write_replies<W: Write>(
     alloc: Global,
     writer: &mut W,
@@ -50,7 +50,7 @@ fn spell_replies(alloc: Global, replies: &[Reply]) -> Result<Vec<u8>, AllocError
 ///
 /// # Errors
 ///
-/// Where the writer failed, was interrupted or took nothing: it has taken some first bytes.
+/// If the writer failed, was interrupted or took nothing: it has taken some first bytes.
 pub fn send<W: Write>(writer: &mut W, bytes: &[u8]) -> io::Result<()>
     ensures { HasSent (W.contents writer.old) (W.contents writer.new) bytes.now result }
 {

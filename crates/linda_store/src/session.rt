@@ -90,7 +90,7 @@ impl Session {
     ///
     /// # Errors
     ///
-    /// Where memory runs out the session is spent: the node has taken some first messages of the
+    /// If memory runs out the session is spent: the node has taken some first messages of the
     /// piece, and each later call answers the same and changes nothing.
     pub fn take<N: Node>(
         &mut self,
@@ -190,7 +190,7 @@ fn refuse_frame(fault: FrameFault, replies: &mut Vec<Reply>) -> Result<Stage, Al
     Ok(Stage::Malformed(detail))
 }
 
-// The offset that the client is told for a fault of a frame; `Memory` is none.
+// The offset that is reported to the client for a fault of a frame; `Memory` is none.
 fn detail_of(fault: FrameFault) -> Result<u32, AllocError>
     ensures { IfOk result (λ detail. (fault ≢ Memory) × (detail ≡ detail_of fault)) }
 {

@@ -1,4 +1,4 @@
-//! How a connection stands, and what it answers.
+//! Stages of a connection, and its answer to a piece of a stream.
 
 ghost use Rattle.std.specs.Prelude.{◌≡◌};
 ghost use Rattle.linda_store.specs.Conversation.{stays_open};
@@ -11,7 +11,7 @@ pub enum Stage {
     /// It goes on.
     Open,
     /// The client sent a frame that spells nothing. The offset in the frame of the first byte at
-    /// fault, 0 where its length is at fault.
+    /// fault, 0 if its length is at fault.
     Malformed(u32),
     /// The node is down.
     Down,

@@ -12,7 +12,7 @@ use crate::node::{Node, NodeFault};
 use linda_wire::{Message, Refusal, Reply};
 use std::alloc::{AllocError, Global};
 
-/// Answers one message, and says whether the connection goes on. Where memory runs out for a reply,
+/// Answers one message, and says whether the connection goes on. If memory runs out for a reply,
 /// the node may have taken the message, and who is greeted is as it would be with the reply.
 pub(crate) fn turn<N: Node>(
     alloc: Global,
@@ -38,7 +38,7 @@ pub(crate) fn turn<N: Node>(
     }
 }
 
-// The client that a Hello names; none where the message is no Hello.
+// The client that a Hello names; none if the message is no Hello.
 fn hello_of(message: &Message) -> Option<u32>
     ensures { result ≡ hello_of message.now }
 {
@@ -61,7 +61,7 @@ fn turn_away(refusal: Refusal, replies: &mut Vec<Reply>) -> Result<bool, AllocEr
     Ok(true)
 }
 
-// Asks the node for a client that nobody greeted yet; where the node welcomes it, it is greeted.
+// Asks the node for a client that nobody greeted yet; if the node welcomes it, it is greeted.
 fn greet<N: Node>(
     alloc: Global,
     greeted: &mut Option<u32>,

@@ -17,7 +17,7 @@ use linda_wire::{Message, Reply};
 use std::alloc::{AllocError, Global};
 use std::snapshot::Snapshot;
 
-/// A server in memory alone. It keeps its state over a stop, and is never full: ids, numbers and
+/// A server in memory only. It keeps its state over a stop, and is never full: ids, numbers and
 /// clients have their limits, and a message beyond them gets a refusal. Once memory ran out it is
 /// down for good, to a stop too.
 pub struct Volatile {

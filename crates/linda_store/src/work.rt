@@ -1,4 +1,4 @@
-//! What a node may be stopped in.
+//! Work that a node may be stopped in.
 
 use linda_wire::Message;
 

@@ -1,4 +1,4 @@
--- How states are stored where a model's value holds one.
+-- Codes of states, for a model's value that holds one.
 use Rattle.std.specs.Prelude.{ℕ, refl}
 use Rattle.std.specs.Coded.{Coded, code_by, coded×, coded_ℕ}
 use Rattle.std.specs.FinMap as map

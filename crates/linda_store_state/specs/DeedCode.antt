@@ -1,4 +1,4 @@
--- How deeds are stored where a model's value holds one.
+-- Code of deeds, for a model's value that holds one.
 use Rattle.std.specs.Prelude.{◌≡◌, ℕ, ◌⊎◌, refl}
 use Rattle.std.specs.Coded.{Coded, code_by, coded×, coded⊎, coded_ℕ}
 use Rattle.std.proofs.Common.{inl, inr}

@@ -41,14 +41,14 @@ spell_deed form (Pass client n id) = kind.PASS ∷ reference.spell (client, (n, 
 spell_deed form (Leave client n) = kind.LEAVE ∷ leave.spell (client, n)
 
 -- What has a spelling among deeds: numbers of their widths, and a tuple that fits in the form; a
--- Leave where the form has them.
+-- Leave if the form has them.
 abbrev pub FitsDeed : Form → Deed → Type 0
 FitsDeed form (Out client n tuple) = (out form).Fits (client, (n, tuple))
 FitsDeed form (Take client n id) = reference.Fits (client, (n, id))
 FitsDeed form (Pass client n id) = reference.Fits (client, (n, id))
 FitsDeed form (Leave client n) = HasLeaves form × leave.Fits (client, n)
 
--- The kind of Leaves with its body, where the form has them.
+-- The kind of Leaves with its body, if the form has them.
 abbrev pub leave_kinds : Form → List (ℕ × Reader Deed)
 leave_kinds One = []
 leave_kinds Two = (kind.LEAVE, made_at leave_of leave) ∷ []
@@ -73,8 +73,8 @@ payload form ds = flat_map (spell_deed form) ds
 
 -- ---- whether there is a spelling
 
--- The tuple that the deed puts, where it puts one, has a spelling in the form, and a Leave where
--- the form has them. Nothing else of a deed hangs on the form.
+-- The tuple that the deed puts, if it puts one, has a spelling in the form, and a Leave if the form
+-- has them. Nothing else of a deed depends on the form.
 abbrev pub SuitsForm : Form → Deed → Type 0
 SuitsForm form (Out client n tuple) = FitsIn form tuple
 SuitsForm form (Take client n id) = Unit {0}

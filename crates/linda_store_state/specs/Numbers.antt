@@ -1,4 +1,5 @@
--- How many deeds clients have done, as their numbers say: each client counts its deeds from 1.
+-- Number of deeds that clients have done, as their numbers say: each client counts its deeds from
+-- 1.
 use Rattle.std.specs.Prelude.{ℕ}
 use Rattle.std.specs.List.{sum_by}
 use Rattle.std.specs.Map.{values_of}

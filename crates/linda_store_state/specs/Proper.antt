@@ -1,4 +1,4 @@
--- Which lists of deeds a server can do.
+-- Proper lists of deeds, which a server can do.
 use Rattle.std.specs.Prelude.{◌≡◌, ◌+◌, ◌<◌, false, List, ◌∷◌, ◌++◌, None, IsSome, IfSome}
 use Rattle.std.specs.FinMap as map
 use Rattle.linda_wire.specs.declared.limits.TheConstants.{MAX_CLIENTS}
@@ -9,7 +9,7 @@ use Rattle.linda_store_state.specs.Deed.{client_of, number_of, put_by, taken_by}
 use Rattle.linda_store_state.specs.State.{State}
 use Rattle.linda_store_state.specs.After.{IsAfter}
 
--- what a deed asks of the next id, where it puts a tuple, and of the bag, where it takes one
+-- what a deed asks of the next id, if it puts a tuple, and of the bag, if it takes one
 abbrev pub HasRoom : State → Deed → Type 0
 HasRoom st d =
     IfSome (put_by d) (λ _. st.next < NUMBER_LIMIT)

@@ -1,4 +1,4 @@
--- Whether two deeds are equal, as a test: what `==` computes.
+-- Equality of two deeds as a test: what `==` computes.
 use Rattle.std.specs.Prelude.{◌≡◌, ◌==◌, Bool, false, ◌&&◌}
 use Rattle.std.specs.Bool.{Decides}
 use Rattle.std.specs.Cmp.{IsEquivalence, decided}
@@ -9,7 +9,7 @@ use Rattle.linda_store_state.specs.declared.deed.Deed.{Deed}
 use Rattle.linda_store_state.specs.declared.deed.Deed.TheVariants.{Out, Take, Pass, Leave}
 
 -- whether two deeds are equal: of one kind, of one client, with the same number, and an equal tuple
--- or the same id where they have one
+-- or the same id if they have one
 abbrev pub same_deed : Deed → Deed → Bool
 same_deed (Out c n s) (Out d m t) = (c == d) && ((n == m) && same_tuple s t)
 same_deed (Out c n s) (Take d m j) = false

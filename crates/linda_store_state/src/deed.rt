@@ -50,7 +50,7 @@ impl Deed {
     ///
     /// # Errors
     ///
-    /// `AllocError` where memory runs out. It comes only for an Out: the others take no memory.
+    /// `AllocError` if memory runs out. It comes only for an Out: the others take no memory.
     pub fn try_clone(&self, alloc: Global) -> Result<Deed, AllocError>
         ensures ok { IfOk result (λ copy. copy ≡ self.now) }
         ensures err { OnErr result (PutsTuple self.now) }
@@ -87,7 +87,7 @@ impl PartialEq for Deed {
 
     ghost laws = { partial_equiv_from_equiv same_deed-equiv };
 
-    // Deeds compare equal exactly where they are.
+    // Deeds compare equal exactly if they are.
     fn eq(&self, other: &Deed) -> bool
         ensures test { result ≡ same_deed self.now other.now }
         ensures exact { (result ≡ true) ↔ (self.now ≡ other.now) }

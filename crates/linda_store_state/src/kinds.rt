@@ -1,4 +1,4 @@
-//! The bytes that stand for the kinds of deeds.
+//! The bytes of the kinds of deeds.
 
 /// Of an Out.
 pub const OUT: u8 = 0x01;

@@ -1,5 +1,5 @@
-//! What the definitions of states and deeds come to, each stated by the contract of a function that
-//! does nothing.
+//! Laws of states and deeds, which follow from the definitions: each stated by the contract of a
+//! function that does nothing.
 
 ghost use Rattle.std.specs.Prelude.{◌≡◌, ◌≢◌, ℕ, ◌+◌, ◌∷◌, ◌++◌, [], true, List, All, length, Some};
 ghost use Rattle.std.specs.FinMap as map;
@@ -36,8 +36,8 @@ pub fn proper_lists_keep_the_ranges()
         → IsState st → IsProper st ds → IsAfter st ds new → IsState new }
 {}
 
-/// Deeds that are done one by one, each where it is allowed, are a proper list, and lead to the
-/// state after them all; and no proper list goes on with a deed that is not allowed.
+/// Deeds that are done one by one, each if it is allowed, are a proper list, and lead to the state
+/// after them all; and no proper list goes on with a deed that is not allowed.
 pub fn deeds_are_done_one_by_one()
     ensures none { (st : State) → IsState st → AreDone st [] st }
     ensures more { (st mid new : State) (ds : List Deed) (d : Deed)

@@ -2,16 +2,13 @@
 //! know.
 //!
 //! - A `State` is a bag of tuples, a book with the last reply to each client, and the next id: what
-//!   a
-//!   server keeps over a restart.
+//!   a server keeps over a restart.
 //! - A `Deed` is one change of it. `State::put`, `State::take`, `State::pass` and `State::leave` do
-//!   one each, and
-//!   `State::redo` does one again that was written down; the state after a list of deeds is what
-//!   `specs/After` says, whatever the code did to get there. It is `Spelled` in bytes by
-//!   `specs/DeedFormat`.
+//!   one each, and `State::redo` does one again that was written down; the state after a list of
+//!   deeds is what `specs/After` says, whatever the code did to get there. It is `Spelled` in bytes
+//!   by `specs/DeedFormat`.
 //! - `specs/Proper` says which lists of deeds a server can do. What follows for these lists is
-//!   stated by
-//!   the functions of `laws`.
+//!   stated by the functions of `laws`.
 #![tactic(auto)]
 
 mod deed;

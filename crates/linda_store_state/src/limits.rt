@@ -1,5 +1,4 @@
-//! How deeds are spelled: the form of their values, the bytes of their parts, and the most that
-//! there may be.
+//! Limits of deeds: the form of their values, the bytes of their parts, and how many there may be.
 
 use linda_codec::{KIND_BYTES, MAX_TUPLE_BYTES, NUMBER_BYTES, SHORT_NUMBER_BYTES};
 use linda_tuple::Form;
@@ -17,5 +16,5 @@ pub const HEAD_BYTES: usize = KIND_BYTES + SHORT_NUMBER_BYTES + NUMBER_BYTES;
 /// The bytes of an id.
 pub const ID_BYTES: usize = NUMBER_BYTES;
 
-/// The most bytes that a deed spells in either form: what stands before a tuple, and the tuple.
+/// The most bytes that a deed spells in either form: what is before a tuple, and the tuple.
 pub const MAX_DEED_BYTES: usize = HEAD_BYTES + MAX_TUPLE_BYTES;

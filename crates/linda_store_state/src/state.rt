@@ -69,7 +69,7 @@ impl<B: Bag> State<B> {
     ///
     /// # Errors
     ///
-    /// `AllocError` where memory runs out, and then the state is as before.
+    /// `AllocError` if memory runs out, and then the state is as before.
     pub fn put(&mut self, client: u32, n: u64, tuple: Tuple) -> Result<(), AllocError>
         requires state { IsState self.old }
         requires allowed { IsAllowed self.old (deeds.Out client n tuple) }
@@ -82,11 +82,11 @@ impl<B: Bag> State<B> {
     }
 
     /// The client takes the tuple of this id by its message `n`, and here it is, while the book
-    /// keeps a copy; none where it is not there, and then the state is as before.
+    /// keeps a copy; none if it is not there, and then the state is as before.
     ///
     /// # Errors
     ///
-    /// `AllocError` where memory runs out, and then the state is as before.
+    /// `AllocError` if memory runs out, and then the state is as before.
     pub fn take(
         &mut self,
         alloc: Global,
@@ -116,7 +116,7 @@ impl<B: Bag> State<B> {
     ///
     /// # Errors
     ///
-    /// `AllocError` where memory runs out, and then the state is as before.
+    /// `AllocError` if memory runs out, and then the state is as before.
     pub fn pass(&mut self, client: u32, n: u64) -> Result<(), AllocError>
         requires { IsState self.old }
         ensures after { OnOk result
@@ -130,7 +130,7 @@ impl<B: Bag> State<B> {
     ///
     /// # Errors
     ///
-    /// `AllocError` where memory runs out, and then the state is as before.
+    /// `AllocError` if memory runs out, and then the state is as before.
     pub fn leave(&mut self, client: u32, n: u64) -> Result<(), AllocError>
         requires { IsState self.old }
         ensures after { OnOk result (IsAfter self.old (deeds.Leave client n ∷ []) self.new) }
@@ -139,14 +139,14 @@ impl<B: Bag> State<B> {
         self.book.keep(client, n, KeptReply::Left)
     }
 
-    /// Does the deed, where it is allowed in this state, and says whether it is. Where it is not,
-    /// the state is as before. So a list of deeds is done again by one call for each. A tuple that
-    /// is put is the deed's own.
+    /// Does the deed, if it is allowed in this state, and says whether it is. If it is not, the
+    /// state is as before. So a list of deeds is done again by one call for each. A tuple that is
+    /// put is the deed's own.
     ///
     /// # Errors
     ///
-    /// `AllocError` where memory runs out, and then the state is as before. It comes only for a
-    /// deed that is allowed.
+    /// `AllocError` if memory runs out, and then the state is as before. It comes only for a deed
+    /// that is allowed.
     #[tactic(auto, using(crate::proofs::DoneLaws::one_state))]
     pub fn redo(&mut self, alloc: Global, deed: Deed) -> Result<bool, AllocError>
         requires { IsState self.old }

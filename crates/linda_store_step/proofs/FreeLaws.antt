@@ -7,7 +7,7 @@ use Rattle.linda_tuple.specs.Tuple.{Tuple}
 use Rattle.linda_bag.specs.declared.starts.Starts.{Starts}
 use Rattle.linda_bag.specs.Starts.{AreRight}
 use Rattle.linda_maps.proofs.MapLaws.{get_same, get_other, get_removed_other}
-use Rattle.linda_bag.proofs.StartLaws.{stay_right}
+use Rattle.linda_bag.proofs.ColumnLaws.{stay_right}
 use Rattle.linda_hold.specs.declared.request.Request.{Request}
 use Rattle.linda_hold.specs.Waits.{Wait, longest, without_readers}
 use Rattle.linda_hold.specs.Holds.{HeldFor}
@@ -51,6 +51,10 @@ pub done_right : (st new : State) (ds : List Deed) (holds now : HeldFor) (starts
 done_right st new ds holds now starts after free rights =
     let more : new.next ≡ st.next + length (outs_of ds) = after.next in
     stay_right st.bag new.bag (is_held holds) (is_held now) st.next new.next starts (omega arith)
+    (λ k row stored. elim (cases_lt k st.next) [
+      | inl below ↦ inr (below_kept st new ds after k row below stored)
+      | inr above ↦ inl above
+    ])
     (λ k row stored is. elim (cases_lt k st.next) [
       | inl below ↦ inr (below_kept st new ds after k row below stored, free k row below stored is)
       | inr above ↦ inl above
@@ -88,6 +92,7 @@ left_right st new c n now starts is after rights =
 pub holding_right : (bag : Bagged) (holds now : HeldFor) (id : ℕ) (request : Request) (next : ℕ) (starts : Starts) → now ≡ insert holds id request → AreRight bag (is_held holds) next starts → AreRight bag (is_held now) next starts
 holding_right bag holds now id request next starts is rights =
     stay_right bag bag (is_held holds) (is_held now) next next starts (omega arith)
+    (λ k row stored. inr stored)
     (λ k row stored free. elim (cases_eq k id) [
       | inl same ↦ absurd (true≢false (sym (ap is_some (get_same holds id request)) ∙ ap (λ i. is_held (insert holds id request) i) (sym same) ∙ ap (λ h. is_held h k) (sym is) ∙ free))
       | inr other ↦ inr (stored, sym (ap is_some (get_other holds id request k other)) ∙ ap (λ h. is_held h k) (sym is) ∙ free)

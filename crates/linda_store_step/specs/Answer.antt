@@ -1,5 +1,5 @@
--- What a server answers to one message: the deed, if it does one, what it sends, and what it holds
--- and lets wait.
+-- Answer of a server to one message: the deed, if it does one, what it sends, and what it holds and
+-- lets wait.
 use Rattle.std.specs.Prelude.{◌≡◌, ℕ, Bool, ◌==◌, true, false, nat_lt, not, ◌&&◌, if◌then◌else◌}
 use Rattle.std.specs.Prelude.{List, [], ◌∷◌, Option, Some, None, option_to_list}
 use Rattle.std.specs.FinMap as map

@@ -1,4 +1,4 @@
--- What a server answers to an Ask and to a Cancel, given what they look up.
+-- Answers of a server to an Ask and to a Cancel, given what they look up.
 use Rattle.std.specs.Prelude.{◌≡◌, ℕ, Bool, nat_le, if◌then◌else◌, List, [], ◌∷◌, ◌++◌, map}
 use Rattle.std.specs.Prelude.{Option, Some, None, option_to_list}
 use Rattle.std.specs.FinMap as maps

@@ -1,4 +1,4 @@
--- How holds and waits are stored where a model's value holds one.
+-- Code of holds and waits, for a model's value that holds them.
 use Rattle.std.specs.Prelude.{List, refl}
 use Rattle.std.specs.Coded.{Coded, code_by, coded×, coded_ℕ, coded_list}
 use Rattle.std.specs.FinMap as map

@@ -1,5 +1,5 @@
--- What comes to a server that may be stopped: its deeds and sends over all stops, and where that
--- leaves it.
+-- Course of a server that may be stopped: its deeds and sends over all stops, and where that leaves
+-- it.
 use Rattle.std.specs.Prelude.{◌≡◌, List, [], ◌∷◌, ◌++◌}
 use Rattle.linda_store_state.specs.State.{State}
 use Rattle.linda_store_state.specs.After.{IsAfter}

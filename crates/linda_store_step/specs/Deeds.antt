@@ -1,4 +1,4 @@
--- What a list of deeds says of a client's numbers, and of what became of a tuple.
+-- Questions about a list of deeds: a client's numbers, and what became of a tuple.
 use Rattle.std.specs.Prelude.{◌≡◌, ℕ, ◌-◌, ◌≤◌, List, ◌++◌, length, filter, Contains, Some, None}
 use Rattle.std.specs.List.{slice_get}
 use Rattle.linda_tuple.specs.Tuple.{Tuple}

@@ -1,5 +1,5 @@
--- What happens to a tuple that is new or free again, to one whose request is given up, and to all
--- that a client asked.
+-- Dispatch of a tuple that is new or free again, of one whose request is given up, and of all that
+-- a client asked.
 use Rattle.std.specs.Prelude.{ℕ, List, [], ◌∷◌, ◌++◌, map, Option, Some, None, option_to_list}
 use Rattle.std.specs.Prelude.{if◌then◌else◌}
 use Rattle.std.specs.FinMap as maps

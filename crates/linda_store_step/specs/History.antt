@@ -1,4 +1,4 @@
--- What comes to a server, one thing after another: all deeds and sends, in order, and where that
+-- History of a server, one thing after another: all deeds and sends, in order, and where that
 -- leaves it.
 use Rattle.std.specs.Prelude.{◌≡◌, ℕ, List, [], ◌∷◌, ◌++◌, map, option_to_list}
 use Rattle.linda_wire.specs.declared.message.Message.{Message}

@@ -1,5 +1,5 @@
--- What is done about a numbered message. That hangs on numbers alone, and on whether its client
--- left: its own number, the last one of its client, how many clients are kept, and the next id.
+-- Verdicts on numbered messages. They follow from numbers only, and from whether the client left:
+-- its own number, the last one of its client, how many clients are kept, and the next id.
 use Rattle.std.specs.Prelude.{ℕ, Bool, true, false, ◌==◌, nat_le, ◌&&◌, ◌||◌, if◌then◌else◌, Option}
 use Rattle.std.specs.Prelude.{Some, None}
 use Rattle.std.specs.Option.{option_map}

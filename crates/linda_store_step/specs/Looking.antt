@@ -1,5 +1,4 @@
--- What a request looks up: the least id of a tuple that it can have. Those that wait have found
--- none.
+-- Look-ups of a request: the least id of a tuple that it can have. Those that wait have found none.
 use Rattle.std.specs.Prelude.{ℕ, ◌<◌, Bool, ◌&&◌, All, Option, Some, None, is_some}
 use Rattle.std.specs.FinMap as map
 use Rattle.linda_tuple.specs.Template.{Template}

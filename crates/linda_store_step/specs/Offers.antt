@@ -1,4 +1,4 @@
--- Who is offered what: a tuple goes only to a request that seeks such a one.
+-- Offers: a tuple goes only to a request that seeks such a one.
 use Rattle.std.specs.Prelude.{◌≡◌, ℕ, true, false, Bool, List, ◌⊎◌, Some, Contains}
 use Rattle.std.specs.FinMap as map
 use Rattle.linda_tuple.specs.Tuple.{Tuple}

@@ -1,4 +1,4 @@
--- What the definitions of states, deeds and steps come to, in the words of those who hand jobs out.
+-- Promises of states, deeds and steps, in the words of those who hand jobs out.
 use Rattle.std.specs.Prelude.{◌≡◌, ◌≢◌, ℕ, false, List, ◌∷◌, All, Some, None}
 use Rattle.std.specs.FinMap as map
 use Rattle.linda_hold.specs.declared.request.Request.{Request}

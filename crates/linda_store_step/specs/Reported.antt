@@ -1,4 +1,4 @@
--- Which deed a step does for a message, and how it is known from the reply.
+-- Reported deeds: which one a step does for a message, and how it is known from the reply.
 use Rattle.std.specs.Prelude.{◌≡◌, ◌≢◌, ℕ, ◌+◌, ◌==◌, Bool, false, if◌then◌else◌}
 use Rattle.std.specs.Prelude.{List, ◌∷◌, Option, Some, None, IsSome}
 use Rattle.std.specs.FinMap as map

@@ -1,5 +1,5 @@
--- Which messages do a deed, whether it has a spelling in a form, and how many bytes: that hangs on
--- numbers, on tuples and on who left alone, so it is known before anything is done.
+-- Sizes of deeds: which messages do one, whether it has a spelling in a form, and how many bytes.
+-- That follows from numbers, from tuples and from who left, so it is known before anything is done.
 use Rattle.std.specs.Prelude.{ℕ, Bool, ◌+◌, ◌==◌, if◌then◌else◌}
 use Rattle.std.specs.Prelude.{List, [], ◌∷◌, length, Option, Some, None}
 use Rattle.std.specs.FinMap as map

@@ -1,5 +1,5 @@
--- What a server keeps in memory alone: which tuple is held for which request, and the requests that
--- wait.
+-- Soft state of a server, kept in memory only: which tuple is held for which request, and the
+-- requests that wait.
 use Rattle.std.specs.Prelude.{◌≡◌, ℕ, ◌+◌, ◌≤◌, List, [], length, Some, All, IfSome, IsSome}
 use Rattle.std.specs.Ordering.{nat_cmp}
 use Rattle.std.specs.FinMap as map

@@ -1,4 +1,4 @@
-//! What is said of a server's deeds: by a list of them, or by what it sent.
+//! Questions about a server's deeds, answered by a list of them or by what it sent.
 
 ghost use Rattle.std.specs.Prelude.{◌≡◌, ◌+◌, ◌==◌, ℕ, Some, Contains, IfSome, IfNone};
 ghost use Rattle.linda_store_state.specs.declared.deed.Deed.TheVariants.{Take};

@@ -1,5 +1,4 @@
-//! What is done about a numbered message: that hangs on numbers alone, and on whether its client
-//! left.
+//! Verdicts on numbered messages, which follow from numbers only, and from whether the client left.
 
 ghost use Rattle.std.specs.Prelude.{◌≡◌};
 ghost use Rattle.linda_store_step.specs.Answer.{standing_of};

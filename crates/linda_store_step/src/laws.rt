@@ -1,5 +1,5 @@
-//! What the definitions of states, deeds and steps come to, each stated in the contract of a
-//! function that does nothing.
+//! Laws of states, deeds and steps, which follow from the definitions: each stated in the contract
+//! of a function that does nothing.
 
 ghost use Rattle.std.specs.Prelude.{◌≡◌, ℕ, ◌++◌, true, List, Option, Some, IsSome, option_to_list};
 ghost use Rattle.std.specs.FinMap as map;

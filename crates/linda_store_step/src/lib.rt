@@ -1,11 +1,10 @@
 //! The step of a server: what one message does to its state, and what is held and waits beside it.
 //!
 //! - A `Store` is a state that keeps its ranges, with which tuples are held for which requests, and
-//!   which
-//!   requests wait.
+//!   which requests wait.
 //! - `Store::step` takes one message and answers with the deed that it did, if it did one, and the
-//!   replies,
-//!   exactly as the table in `specs/Answer` says. `Store::close` gives up all that a client asked.
+//!   replies, exactly as the table in `specs/Answer` says. `Store::close` gives up all that a
+//!   client asked.
 //! - What follows from these definitions, in the words of those who hand jobs out, is stated by the
 //!   functions of `laws`; what deeds and replies come to for the layers above, by those of
 //!   `promises`.

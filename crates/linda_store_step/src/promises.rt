@@ -1,5 +1,5 @@
-//! What follows from the definitions of states, deeds and steps, each stated by the contract of a
-//! function that does nothing.
+//! Promises of states, deeds and steps, which follow from the definitions: each stated by the
+//! contract of a function that does nothing.
 
 ghost use Rattle.std.specs.Prelude.{◌≡◌, ℕ, List, ◌-◌, Some, Contains, All};
 ghost use Rattle.std.specs.List.{slice_get};

@@ -1,9 +1,9 @@
-//! How many bytes the deeds of messages will spell in a form, and whether each has a spelling
+//! Sizes of the deeds that messages will do, in bytes of a form, and whether each has a spelling
 //! there, known without doing them.
 //!
-//! Whether a message does a deed hangs on numbers alone, and on whether its client left: the last
-//! number of its client, how many clients are kept, and the next id. So these are counted on from
-//! message to message.
+//! Whether a message does a deed follows only from numbers, and from whether its client left: the
+//! last number of its client, how many clients are kept, and the next id. So these are counted on
+//! from message to message.
 
 ghost use Rattle.std.specs.Prelude.{◌≡◌, ◌≤◌, ◌∷◌, [], length, IfSome, IfNone};
 ghost use Rattle.linda_store_state.specs.declared.limits.TheConstants.{MAX_DEED_BYTES};

@@ -1,5 +1,5 @@
-//! What a server keeps in memory alone: which tuple is held for which request, and the requests
-//! that wait.
+//! Soft state of a server, kept in memory only: which tuple is held for which request, and the
+//! requests that wait.
 //!
 //! After an error of a call here nothing is promised of the holds and waits: their owner starts
 //! with none.

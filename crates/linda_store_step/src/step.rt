@@ -1,4 +1,4 @@
-//! What a server does for one message: the replies, and the deed where there is one.
+//! Steps of a server: for one message the replies, and the deed if there is one.
 
 mod deed;
 mod reply;

@@ -1,5 +1,5 @@
 //! Tests of calls and of servers over sockets of this machine, by public calls of the program's
-//! libraries alone.
+//! libraries only.
 #![tactic(auto)]
 
 #[cfg(test)]

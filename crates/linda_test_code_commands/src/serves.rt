@@ -23,7 +23,7 @@ const FOLDER: &str = "linda_test_folder";
 
 const LINES: &str = "out (\"a\", 3)\nsync in (\"a\", ?i)\n";
 
-/// What is told of a folder that was served to one call, and opened again.
+/// What is reported of a folder that was served to one call, and opened again.
 const TOLD: &str =
     "7 stored 0 1\n7 took 0 1 (\"a\", 3) binds [3] labels [] raised []\ncall ends\nserver ends\n\
     next 2 tuples 0 clients 1\n\
@@ -43,7 +43,7 @@ fn serves_a_folder_that_keeps_what_was_done(rt: HostRuntime) -> io::Result<()> {
     Ok(())
 }
 
-// What is told while the folder is served, and of what it keeps after that.
+// What is reported while the folder is served, and of what it keeps after that.
 fn served_and_kept<
     F: Files<File = File> + Net,
     S: Net<Listener = TcpListener, Stream = TcpStream>
@@ -77,7 +77,7 @@ fn served<
     Ok(())
 }
 
-// What a call printed, where that is text.
+// What a call printed, if that is text.
 pub(super) fn tell_printed(printed: &[u8], told: &mut String) -> Result<(), AllocError> {
     match std::str::from_utf8(printed) {
         Ok(text) => Ok(told.push_str(text)?),

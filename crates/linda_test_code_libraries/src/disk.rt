@@ -1,4 +1,4 @@
-//! What no clause and no row says: a second model, real files, and what a call costs.
+//! Tests of disks that are no clause and no row: a second model, real files, and what a call costs.
 
 mod cost;
 mod file;

@@ -15,7 +15,7 @@ const ENOUGH: Stand = Stand {
     stops_in: None,
 };
 
-/// With room for the first alone, and for nothing after it.
+/// With room for the first only, and for nothing after it.
 const TOO_LITTLE: Stand = Stand {
     limit: 92,
     stops_in: None,

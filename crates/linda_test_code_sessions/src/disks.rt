@@ -1,5 +1,5 @@
 //! A disk that stops while a session's messages are written: they are done or not, all of them, and
-//! nobody is told so.
+//! nobody hears so.
 
 use super::script::Sessions;
 use super::steps::{Step, done_as_said};

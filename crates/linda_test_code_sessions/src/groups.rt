@@ -1,11 +1,14 @@
-//! Messages of many sessions that one thread serves as a group: who is told what, in which order,
-//! and in how many records.
+//! Messages of many sessions that one thread serves as a group: who hears what, in which order, and
+//! in how many records.
 
 ghost use Rattle.std.specs.Prelude.{◌≡◌};
 ghost use Rattle.linda_shared_accounts.specs.declared.limits.TheConstants.{PARTS};
 
 use linda_disk::MemDisk;
-use linda_shared::{Account, Group, MOST_ASKED, Post, Sent, Shared, SharedFault, hear_answer};
+use linda_shared::{
+    Account, Group, MAX_GROUP, MOST_ASKED, Post, Sent, ServedGroup, Shared, SharedFault,
+    hear_answer,
+};
 use linda_shared_accounts::PARTS;
 use linda_test_script::{read_batch, write_reply};
 use linda_test_server::{ROOMY, Stand, hello, shared_on};
@@ -18,7 +21,7 @@ use std::sync::ledger::{Blank, Ledger};
 /// The clients.
 const CLIENTS: [u32; 3] = [7, 8, 9];
 
-/// A put of 7 and one of 8, what 9 asks for behind them, a wrong number of 7, and the put of 8 once
+/// A put of 7 and one of 8, what 9 asks for after them, a wrong number of 7, and the put of 8 once
 /// more.
 const MIXED: &str =
     "7 out 1 (\"a\", 3); 8 out 1 (\"b\", 4); 9 in 1 (\"b\", ?i); 7 out 3 (\"a\", 5); \
@@ -46,9 +49,9 @@ const DOWN: &str = "7 down\n8 down\n9 down\n7 down\n8 down\nnobody is up\n";
 
 /// What was posted.
 #[derive(Drop)]
-struct Posted {
-    sent: Vec<Sent>,
-    is_lost: bool,
+pub(crate) struct Posted {
+    pub(crate) sent: Vec<Sent>,
+    pub(crate) is_lost: bool,
 }
 
 impl Post for Posted {
@@ -59,8 +62,8 @@ impl Post for Posted {
 }
 
 impl Posted {
-    // Nothing.
-    fn new(alloc: Global) -> Posted {
+    /// Nothing.
+    pub(crate) fn new(alloc: Global) -> Posted {
         Posted {
             sent: Vec::new(alloc),
             is_lost: false,
@@ -114,7 +117,7 @@ fn place_of<L: Ledger>(accounts: &[Account<L>], client: u32) -> Option<usize> {
 
 // Puts a message of a client into the group.
 fn put_in<L: Ledger>(
-    group: &mut Group<L>,
+    group: &mut Group<usize, L>,
     accounts: &mut [Account<L>],
     client: u32,
     message: Message,
@@ -145,14 +148,15 @@ fn play_group<L: Ledger, R: Wait>(
     let Ok(messages) = read_batch(alloc, words) else {
         return Err(AllocError);
     };
-    let mut group = Group::new(alloc)?;
+    let mut group = Group::new(alloc, MAX_GROUP)?;
     for (client, message) in messages {
         put_in(&mut group, accounts, client, message)?;
     }
     let mut posted = Posted::new(alloc);
-    let is_up = shared.serve_group(rt, &mut group, &mut posted);
-    for _ in 0..group.len() {
-        tell_answer(accounts, &mut group, told)?;
+    let (served, is_up) = shared.serve_group(rt, group, &mut posted);
+    let mut served = served;
+    for _ in 0..served.len() {
+        tell_answer(accounts, &mut served, told)?;
     }
     posted.tell(alloc, told)?;
     tell_state(rt, shared, is_up, told)
@@ -161,17 +165,16 @@ fn play_group<L: Ledger, R: Wait>(
 // Writes what comes of the next answer.
 fn tell_answer<L: Ledger>(
     accounts: &mut Vec<Account<L>>,
-    group: &mut Group<L>,
+    served: &mut ServedGroup<usize, L>,
     told: &mut String,
 ) -> Result<(), AllocError> {
-    let Some((message, answered)) = group.next() else {
+    let Some((client, message, answered)) = served.next() else {
         return Err(AllocError);
     };
-    let sender = *answered.address();
-    let Some(account) = accounts.get_mut(sender.key()) else {
+    let Some(account) = accounts.get_mut(*answered.address()) else {
         return Err(AllocError);
     };
-    if account.client() != sender.client() || account.asked() == 0 {
+    if account.client() != client || account.asked() == 0 {
         return Err(AllocError);
     }
     match hear_answer(account, &message, answered) {
@@ -195,7 +198,7 @@ fn tell_state<L: Ledger, R: Wait>(
     Ok(told.push_str("nobody is up\n")?)
 }
 
-// All clients leave; then all seats are back, and what they were told is what was stored.
+// All clients leave; then all seats are back, and what was reported to them is what was stored.
 fn leave_all<L: Ledger, R: Wait>(
     rt: &R,
     alloc: Global,

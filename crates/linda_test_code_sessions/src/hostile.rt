@@ -1,5 +1,5 @@
-//! What sessions are told that leave with an offer, come again, and greet where they are known, and
-//! whose client leaves for good; and what all were told at the end.
+//! Sessions that leave with an offer, come again, and greet if they are known, or whose client
+//! leaves for good: what is reported to them, and to all at the end.
 
 use super::steps::{AsFarAsMemoryGoes, Step, Strictly};
 use linda_test_server::{Kept, ROOMY, play};

@@ -1,5 +1,5 @@
-//! Tests of sessions over one server, in one thread: what a session and its neighbours are told,
-//! failed allocations, batches, and servers that go down.
+//! Tests of sessions over one server, in one thread: what a session and its neighbours hear, failed
+//! allocations, batches, and servers that go down.
 #![tactic(auto)]
 
 #[cfg(test)]
@@ -14,6 +14,8 @@ mod groups;
 mod hostile;
 #[cfg(test)]
 mod largest;
+#[cfg(test)]
+mod life;
 #[cfg(test)]
 mod pacing;
 #[cfg(test)]

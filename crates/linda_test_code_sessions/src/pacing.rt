@@ -1,5 +1,5 @@
-//! When a snapshot is due: by how many records there are since the last one, and if it was put off
-//! by how many bytes too.
+//! Snapshots that are due: by the records since the last one, and if it was put off by their bytes
+//! too.
 
 use super::script::Sessions;
 use super::steps::comes;

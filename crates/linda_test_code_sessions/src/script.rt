@@ -1,12 +1,12 @@
 //! Sessions in one thread, line by line.
 //!
-//! `greet hello 2 7 fresh` greets; `7 out 1 ("a", 3)` submits a message of client 7, and
-//! `all 7 out 1 ("a", 3); 7 cancel 2` several at once; `leave 7`, `pays`, `snapshot`; `begin` and
-//! `step` for one in steps; `off 100` puts snapshots off, `from 100` says what the bank took when it
-//! was new; and `finish 7 8`, which gives both seats back; `wait 7` waits until
-//! client 7 has a reply, or none will come, and `mailboxes` counts. What comes of a line is written:
-//! `7 did 1` of a receipt for message 1, whether a snapshot pays, a fault in words, and then all
-//! replies that are there, session by session.
+//! `greet hello 2 7 fresh` greets; `7 out 1 ("a", 3)` submits a message of client 7, and `all 7 out
+//! 1 ("a", 3); 7 cancel 2` several at once; `leave 7`, `pays`, `snapshot`; `begin` and `step` for
+//! one in steps; `off 100` puts snapshots off, `from 100` says what the bank took when it was new;
+//! and `finish 7 8`, which gives both seats back; `wait 7` waits until client 7 has a reply, or
+//! none will come, and `mailboxes` counts. What comes of a line is written: `7 did 1` of a receipt
+//! for message 1, whether a snapshot pays, a fault in words, and then all replies that are there,
+//! session by session.
 
 ghost use Rattle.std.specs.Prelude.{◌≡◌, ◌≤◌, ◌<◌, true, length, All, IfOk};
 ghost use Rattle.linda_store_step.specs.declared.size.TheConstants.{MAX_BATCH};
@@ -116,7 +116,7 @@ impl<S: Drop, O: Drop, H: Host<S, O>> Sessions<S, O, H> {
         self.submit_all(rt, client, &messages, came)
     }
 
-    // Submits the message of the client whose number stands first.
+    // Submits the message of the client whose number is first.
     fn submit_one<R: Wait>(
         &mut self,
         rt: &R,
@@ -210,7 +210,7 @@ impl<S: Drop, O: Drop, H: Host<S, O>> Sessions<S, O, H> {
         }
     }
 
-    // The session of the client whose number stands first, which is here no more.
+    // The session of the client whose number is first, which is here no more.
     fn taken(&mut self, words: &str) -> Result<Session<S, O>, WordsFault> {
         let (client, _) = read_numbered(words)?;
         match self.place(client) {
@@ -267,8 +267,8 @@ impl<S: Drop, O: Drop, H: Host<S, O>> Sessions<S, O, H> {
         written(writeln!(came, "> mailboxes {count}"))
     }
 
-    // Waits until the client whose number stands first has a reply, or none will come; writes what
-    // is there.
+    // Waits until the client whose number is first has a reply, or none will come; writes what is
+    // there.
     fn wait<R: Wait>(
         &mut self,
         rt: &R,
@@ -320,7 +320,7 @@ impl<S: Drop, O: Drop, H: Host<S, O>> Sessions<S, O, H> {
     }
 }
 
-// The seat that stands at a place, if it is one.
+// The seat that is at a place, if it is one.
 fn seat_at<S: Drop, O: Drop>(
     sessions: &mut [Session<S, O>],
     place: Option<usize>,
@@ -334,7 +334,7 @@ fn seat_at<S: Drop, O: Drop>(
     }
 }
 
-// The outlet that stands at a place, if it is one.
+// The outlet that is at a place, if it is one.
 fn outlet_at<S: Drop, O: Drop>(
     sessions: &mut [Session<S, O>],
     place: Option<usize>,

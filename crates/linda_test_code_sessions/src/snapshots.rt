@@ -1,5 +1,5 @@
-//! Snapshots that sessions' server takes: the new bank stands on the disk that was not in use, for
-//! the same state, and later deeds go there.
+//! Snapshots that sessions' server takes: the new bank is on the disk that was not in use, for the
+//! same state, and later deeds go there.
 
 use super::script::Sessions;
 use super::steps::{Step, done_as_said};
@@ -36,7 +36,7 @@ const STEPS: &[Step] = &[
     ("step", "> idle\n", FOUR),
 ];
 
-/// So many first steps are played, and these banks stand on the disks then.
+/// So many first steps are played, and these banks are on the disks then.
 #[derive(Clone, Copy)]
 struct Standing {
     steps: usize,

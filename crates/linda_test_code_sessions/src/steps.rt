@@ -20,8 +20,8 @@ pub(super) struct Strictly {
 /// All comes as the steps say, until an allocation is refused. Then a call says that memory ran
 /// out, and done again it gives what it does else; or the server is down, and what it keeps on its
 /// disks is what it kept before the step, or after it. A batch that goes one by one may be cut
-/// short after its first message, which is kept: what it led to stands beside `down` then, and
-/// nothing else ever does.
+/// short after its first message, which is kept: what it led to is beside `down` then, and nothing
+/// else ever does.
 #[derive(Clone, Copy)]
 pub(super) struct AsFarAsMemoryGoes {
     pub(super) limit: usize,
@@ -106,7 +106,7 @@ fn opened<R: Wait + Abort>(
     Ok(())
 }
 
-// Does a step, once more where memory ran out for it. Where the server is down, it stays so.
+// Does a step, once more if memory ran out for it. If the server is down, it stays so.
 fn step_taken<S: Drop, O: Drop, H: Host<S, O>, R: Wait + Abort>(
     rt: &R,
     alloc: Global,

@@ -1,4 +1,4 @@
-//! Tests of sessions over one server in threads side by side, by public calls alone: outlets, and
+//! Tests of sessions over one server in threads side by side, by public calls only: outlets, and
 //! many that come and go.
 #![tactic(auto)]
 

@@ -1,4 +1,4 @@
-//! Where replies come out, beside the threads that lead to them.
+//! Outlets, read beside the threads that lead to the replies.
 
 use super::scene::{Scene, play};
 use linda_test_server::{Host, ask, put, seated};
@@ -24,7 +24,7 @@ fn done<S: Drop, O: Drop, H: Host<S, O>, R: Wait + Abort>(
 }
 
 // The ids under which something was stored, until no reply comes any more, as the digits of a
-// number; none where another reply came.
+// number; none if another reply came.
 fn ids_read<S: Drop, O: Drop, H: Host<S, O>, R: Wait>(
     rt: &R,
     host: &H,
@@ -145,8 +145,8 @@ enum Part<S, O> {
     Waits(O),
 }
 
-// Plays a part: 0 for whoever leaves, the id of the one offer for whoever waits, and none where
-// something else came.
+// Plays a part: 0 for the one that leaves, the id of the one offer for the one that waits, and none
+// if something else came.
 fn played<S: Drop, O: Drop, H: Host<S, O>, R: Wait + Clock>(
     rt: &R,
     host: &H,
@@ -175,8 +175,8 @@ fn played<S: Drop, O: Drop, H: Host<S, O>, R: Wait + Clock>(
     }
 }
 
-// Client 7 leaves for good by its message 5 and says one more: 0 where that is a deed and no more
-// is, and it is told that it left, and then that it is refused.
+// Client 7 leaves for good by its message 5 and says one more: 0 if that is a deed and no more is,
+// and it hears that it left, and then that it is refused.
 fn given_up<S: Drop, O: Drop, H: Host<S, O>, R: Wait>(
     rt: &R,
     host: &H,

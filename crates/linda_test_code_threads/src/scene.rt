@@ -1,4 +1,4 @@
-//! What is played over a new server that sessions share, with many threads.
+//! Scenes that are played over a new server that sessions share, with many threads.
 
 ghost use Rattle.std.specs.Prelude.{◌≡◌};
 ghost use Rattle.linda_shared_accounts.specs.declared.limits.TheConstants.{PARTS};

@@ -9,7 +9,7 @@ use std::sync::Wait;
 use std::sync::atomic::{AtomicU64, Ordering};
 use std::time::Clock;
 
-/// By id, what was put and what was taken: the job's number and one; 0 where nothing was. And how
+/// By id, what was put and what was taken: the job's number and one; 0 if nothing was. And how
 /// often an id came twice, or a tuple that is no job.
 #[derive(Drop)]
 pub(super) struct Tally {
@@ -72,9 +72,8 @@ impl Tally {
     }
 }
 
-/// Puts so many jobs, numbered from 0 on, and then takes as many. Where a request of it came to
-/// nothing, neither a
-/// `Stored` nor a `Taken`, it ends and waits for nothing more.
+/// Puts so many jobs, numbered from 0 on, and then takes as many. If a request of it came to
+/// nothing, neither a `Stored` nor a `Taken`, it ends and waits for nothing more.
 #[derive(Drop)]
 pub(super) struct Jobs<'t> {
     alloc: Global,
@@ -117,7 +116,7 @@ impl<'t> Jobs<'t> {
         }
     }
 
-    // What it sends next; none where it waits for an offer.
+    // What it sends next; none if it waits for an offer.
     fn message(&mut self) -> Result<Option<Message>, AllocError> {
         if self.number < self.all {
             let job = i64::try_from(self.number).unwrap_or(0);

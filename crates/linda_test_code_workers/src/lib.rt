@@ -1,4 +1,4 @@
-//! Tests of `run_workers`: workers in threads of their own over one server, by public calls alone.
+//! Tests of `run_workers`: workers in threads of their own over one server, by public calls only.
 #![tactic(auto)]
 
 #[cfg(test)]

@@ -140,7 +140,7 @@ fn are_of_all<L: Ledger>(seats: &[Seat<L>], clients: u32) -> bool {
     client == clients
 }
 
-// A crew works over a new server; where all end well each job was taken once.
+// A crew works over a new server; if all end well each job was taken once.
 fn play_crew<L: Ledger + Send + Sync, R: Threads + Wait + Clock + Abort + Sync>(
     rt: &R,
     alloc: Global,
@@ -159,7 +159,7 @@ fn play_crew<L: Ledger + Send + Sync, R: Threads + Wait + Clock + Abort + Sync>(
     Ok(())
 }
 
-// A crew does so many jobs in all; where it ends well each was put once and taken once.
+// A crew does so many jobs in all; if it ends well each was put once and taken once.
 fn do_all<L: Ledger + Send + Sync, R: Threads + Wait + Clock + Abort + Sync>(
     rt: &R,
     alloc: Global,
@@ -272,7 +272,7 @@ fn play_cut<L: Ledger + Send + Sync, R: Threads + Wait + Clock + Abort + Sync>(
     Ok(())
 }
 
-// Four workers work until the server is down: of how many deeds they were told.
+// Four workers work until the server is down: of how many deeds they heard.
 fn told_until_down<L: Ledger + Send + Sync, R: Threads + Wait + Clock + Abort + Sync>(
     rt: &R,
     alloc: Global,
@@ -293,7 +293,7 @@ fn told_until_down<L: Ledger + Send + Sync, R: Threads + Wait + Clock + Abort + 
     Ok(told)
 }
 
-// Of how many deeds all of them were told.
+// Of how many deeds all of them heard.
 fn deeds_told<L: Ledger>(seats: &[Seat<L>]) -> u64 {
     let mut told: u64 = 0;
     for seat in seats {
@@ -302,7 +302,7 @@ fn deeds_told<L: Ledger>(seats: &[Seat<L>]) -> u64 {
     told
 }
 
-// How many deeds led to what is kept, where each was a put or a take.
+// How many deeds led to what is kept, if each was a put or a take.
 fn deeds_of(kept: Kept) -> u64 {
     let (next, tuples, _) = kept;
     let puts = next.saturating_sub(1);

@@ -1,7 +1,7 @@
 //! A client's run in which an allocation may be refused: a call that runs out of memory leaves the
 //! client as it was, so it is made again, and then gives what it gives else. It is made to be run
-//! with each allocation refused, one after another; where the allocation is one of the test's own,
-//! the test fails and says that memory ran out.
+//! with each allocation refused, one after another; if the allocation is one of the test's own, the
+//! test fails and says that memory ran out.
 
 use linda_client::{Client, ClientFault, Outcome, Reaction};
 use linda_shell_text::{read_event, write_outcome};
@@ -77,7 +77,7 @@ fn made_of(alloc: Global, client: &mut Client, call: Call) -> Made {
     }
 }
 
-/// What the client makes of it, where a call that runs out of memory is made again.
+/// What the client makes of it, if a call that runs out of memory is made again.
 fn made_at_last(alloc: Global, client: &mut Client, call: Call) -> Result<Reaction, Fail> {
     match made_of(alloc, client, call)? {
         Err(ClientFault::Memory) => Ok(made_of(alloc, client, call)??),

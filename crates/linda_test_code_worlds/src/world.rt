@@ -1,4 +1,4 @@
-//! Worlds over servers in memory and over servers on disks: rows of what happens, where memory may
+//! Worlds over servers in memory and over servers on disks: rows of what happens, and memory may
 //! run out.
 
 mod made;

@@ -1,13 +1,11 @@
-//! A client alone: what is done with it, and what comes of it.
+//! A single client: what is done with it, and what comes of it.
 //!
 //! A row begins with client 7 over two servers. A line is a call: `out TUPLE`, `sync EVENT`, `tick
-//! NOW`, `resend`,
-//! `reconnected SERVER`, `abandon`, `leave`, or a reply after the server that it comes from, as `1
-//! offer 1 4 ("a", 3)`. The lines after it say all that comes of the call: packets, after the
-//! servers that they go to; then the outcome, as
-//! `linda run` prints it, that of an event after its base; a server's fault; or why the call is
-//! refused. By
-//! `client C over S` a row goes on with a new client C over S servers, and gives how many it has.
+//! NOW`, `resend`, `reconnected SERVER`, `abandon`, `leave`, or a reply after the server that it
+//! comes from, as `1 offer 1 4 ("a", 3)`. The lines after it say all that comes of the call:
+//! packets, after the servers that they go to; then the outcome, as `linda run` prints it, that of
+//! an event after its base; a server's fault; or why the call is refused. By `client C over S` a
+//! row goes on with a new client C over S servers, and gives how many it has.
 
 mod call;
 mod told;
@@ -58,7 +56,7 @@ impl Clients {
         push_told(alloc, came, number, client.call(alloc, call))
     }
 
-    // Goes on with a new client, where there can be one.
+    // Goes on with a new client, if there can be one.
     fn renew(&mut self, alloc: Global, words: &str, came: &mut String) -> Result<(), WordsFault> {
         let (number, rest) = read_numbered(words)?;
         let Some(servers) = rest.strip_prefix("over ") else {

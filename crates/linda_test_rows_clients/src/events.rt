@@ -6,9 +6,9 @@
 //! | `check` | `fits`, or why it is refused |
 //! | `count` | how many bases there are, and how many of them ask |
 //! | `bases` | each base after its number, a line each |
-//! | `at TIME` | `ready` where a base is ready then without a server, else `not ready` |
+//! | `at TIME` | `ready` if a base is ready then without a server, else `not ready` |
 //! | `base K` | the labels above the base of this number, and what a commitment to it raises |
-//! | `nothing` | what is raised where no base is chosen |
+//! | `nothing` | what is raised if no base is chosen |
 //! | `labels K` | how many labels are above the base |
 
 mod made;

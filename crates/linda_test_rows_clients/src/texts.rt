@@ -1,9 +1,8 @@
 //! Texts of events: what is read, given by the one text that is written of it, or the fault.
 //!
-//! `read TEXT` reads the text, which stands as a string where it begins or ends with a blank or has
-//! a tab in it.
-//! `nested COUNT NODE END` reads so many nodes that begin as the first string says, and then the
-//! second one, and gives how many bases there are.
+//! `read TEXT` reads the text, which is written as a string if it begins or ends with a blank or
+//! has a tab in it. `nested COUNT NODE END` reads so many nodes that begin as the first string
+//! says, and then the second one, and gives how many bases there are.
 
 use crate::words::done;
 use linda_event::{Event, base_count};
@@ -23,7 +22,7 @@ pub fn play_text(alloc: Global, words: &str, came: &mut String) -> Result<(), Wo
     }
 }
 
-// Writes the event that is read of a text that stands there as a string.
+// Writes the event that is read of a text that is there as a string.
 fn tell_quoted(alloc: Global, words: &str, came: &mut String) -> Result<(), WordsFault> {
     let (text, _behind) = string_at(alloc, words, 0)?;
     tell_event(alloc, &text, came)

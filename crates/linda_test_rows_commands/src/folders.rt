@@ -84,7 +84,7 @@ impl Folders {
     }
 }
 
-// The file holds these bytes, or is missing where there are none.
+// The file holds these bytes, or is missing if there are none.
 fn put_bank(files: &HostRuntime, path: &str, bytes: &[u8]) -> Result<(), WordsFault> {
     if bytes.is_empty() {
         return Ok(());
@@ -92,7 +92,7 @@ fn put_bank(files: &HostRuntime, path: &str, bytes: &[u8]) -> Result<(), WordsFa
     known(fs::write(files, path, bytes))
 }
 
-// A line is not understood where the files fail.
+// A line is not understood if the files fail.
 fn known(ended: io::Result<()>) -> Result<(), WordsFault> {
     match ended {
         Ok(()) => Ok(()),

@@ -119,7 +119,7 @@ fn tell_stamp(seconds: u64, came: &mut String) -> Result<(), AllocError> {
     }
 }
 
-// Gives a line without its time, and as it is where there are not 20 bytes and a blank in front.
+// Gives a line without its time, and as it is if there are not 20 bytes and a blank in front.
 fn tell_line(line: &str, came: &mut String) -> Result<(), AllocError> {
     match line.split_once(' ') {
         Some((time, rest)) if time.len() == 20 => writeln!(came, "> {rest}"),
@@ -174,7 +174,7 @@ fn tell_event<C: Clock>(
     Ok(())
 }
 
-// The bank that is in use, as `right 4`, where it is known.
+// The bank that is in use, as `right 4`, if it is known.
 fn bank_of(words: &str) -> Result<Option<InUse>, WordsFault> {
     if words == "unknown" {
         return Ok(None);
@@ -228,7 +228,7 @@ fn why_of(name: &str) -> Result<Why, WordsFault> {
     }
 }
 
-// The notice of this name, which took so many milliseconds where it is a snapshot.
+// The notice of this name, which took so many milliseconds if it is a snapshot.
 fn notice_of(name: &str, millis: &str) -> Result<Notice, WordsFault> {
     match name {
         "minute" => Ok(Notice::Minute),

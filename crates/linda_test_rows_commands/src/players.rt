@@ -1,4 +1,4 @@
-//! Who plays a row: the player of its subject.
+//! Players of rows, by their subject.
 
 use crate::folders::Folders;
 use crate::logs::Logs;

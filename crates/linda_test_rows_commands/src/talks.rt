@@ -1,4 +1,4 @@
-//! What a pipe, a conversation and a script write to a peer, and how they end.
+//! Talks with a peer of a pipe, a conversation and a script, and how they end.
 
 use crate::peers::{Narrow, Pieces};
 use crate::texts::{done, push_bytes};
@@ -54,7 +54,7 @@ impl Talks {
         Ok(())
     }
 
-    // Serves the peer by this command, within the bounds that the words give, and tells what came
+    // Serves the peer by this command, within the bounds that the words give, and reports what came
     // of it.
     fn serve(
         &self,
@@ -97,7 +97,7 @@ impl Talks {
         writeln!(came, ", unread {unread}, failed {failed}")
     }
 
-    // Writes how much was written of what is wanted, or all of it where it is something else.
+    // Writes how much was written of what is wanted, or all of it if it is something else.
     fn tell_written(
         &self,
         alloc: Global,

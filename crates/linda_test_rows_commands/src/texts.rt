@@ -4,7 +4,7 @@ use linda_test_script::{WordsFault, read_hex, string_at};
 use std::alloc::{AllocError, Global};
 
 /// Appends what the words say: a string between quotes, the bytes of hexadecimal digits after the
-/// word `bytes`, with blanks between them, or else a line as it stands, with its line feed.
+/// word `bytes`, with blanks between them, or else a line as it is, with its line feed.
 pub(crate) fn push_bytes(
     alloc: Global,
     bytes: &mut Vec<u8>,
@@ -30,7 +30,7 @@ fn push_string(alloc: Global, bytes: &mut Vec<u8>, words: &str) -> Result<(), Wo
     Ok(bytes.extend_from_slice(text.as_bytes())?)
 }
 
-// Appends a line as it stands.
+// Appends a line as it is.
 fn push_line(bytes: &mut Vec<u8>, words: &str) -> Result<(), AllocError> {
     bytes.extend_from_slice(words.as_bytes())?;
     Ok(bytes.push(b'\n')?)

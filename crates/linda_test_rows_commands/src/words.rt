@@ -1,4 +1,4 @@
-//! What is read of the command line, and what is printed of the faults of a pipe.
+//! Words of the command line, as they are read, and the lines of a pipe's faults.
 
 use crate::texts::done;
 use linda_args::{asks_for_version, read_task};
@@ -44,7 +44,7 @@ fn tell_fault(words: &str, came: &mut String) -> Result<(), WordsFault> {
     done(writeln!(came, "> {fault}, status {}", fault.status()))
 }
 
-// The words of a command line, which stand between bars.
+// The words of a command line, which are between bars.
 fn words_of(alloc: Global, line: &str) -> Result<Vec<String>, AllocError> {
     let mut words = Vec::new(alloc);
     for word in line.split('|') {
@@ -72,7 +72,7 @@ fn fault_of(words: &str) -> Result<PipeFault, WordsFault> {
     }
 }
 
-// The number of the line that stands in front.
+// The number of the line that is in front.
 fn line_of(words: &str) -> Result<u64, WordsFault> {
     let (line, _) = read_numbered(words)?;
     Ok(u64::from(line))

@@ -64,7 +64,7 @@ fn tell_fault(fault: ChoiceFault, came: &mut String) -> Result<(), WordsFault> {
 }
 
 // Switches from the bank that is chosen to the other disk, whose power goes off inside a device
-// call. The disks are then the one that was in use, and the other; where none is chosen, they are
+// call. The disks are then the one that was in use, and the other; if none is chosen, they are
 // gone.
 fn switch_once(
     alloc: Global,
@@ -83,7 +83,7 @@ fn switch_once(
     }
 }
 
-// The limit of a bank, and how many calls of the other device the power lasts: all, where no number
+// The limit of a bank, and how many calls of the other device the power lasts: all, if no number
 // says it.
 fn read_switch(words: &str) -> Result<(u16, u64), WordsFault> {
     let (limit, calls) = split_word(words);
@@ -96,7 +96,7 @@ fn read_switch(words: &str) -> Result<(u16, u64), WordsFault> {
     Ok((limit, read_number(calls)?))
 }
 
-// Chooses one of the banks on two disks and switches to the other disk, where the power goes off
+// Chooses one of the banks on two disks and switches to the other disk, if the power goes off
 // inside the device call of this number. Gives the two disks: the one that was in use, and the
 // other.
 fn switched(

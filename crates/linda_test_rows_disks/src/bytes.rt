@@ -43,12 +43,11 @@ const NAMED: &str = "\
 const MANY: usize = 16;
 
 /// The bytes that the words represent: those of this name; a text, `"abc"`; or pieces of
-/// hexadecimal digits, where
-/// `34*00` is a byte so many times.
+/// hexadecimal digits, if `34*00` is a byte so many times.
 ///
 /// # Errors
 ///
-/// `Unknown` where they represent none; `Memory`.
+/// `Unknown` if they represent none; `Memory`.
 pub(crate) fn read_bytes(alloc: Global, words: &str) -> Result<Vec<u8>, WordsFault> {
     let mut bytes = Vec::new(alloc);
     push_bytes(alloc, &mut bytes, words)?;
@@ -59,7 +58,7 @@ pub(crate) fn read_bytes(alloc: Global, words: &str) -> Result<Vec<u8>, WordsFau
 ///
 /// # Errors
 ///
-/// `Unknown` where they represent none; `Memory`. Some of them may then stand there.
+/// `Unknown` if they represent none; `Memory`. Some of them may then be there.
 pub(crate) fn push_bytes(
     alloc: Global,
     bytes: &mut Vec<u8>,
@@ -71,7 +70,7 @@ pub(crate) fn push_bytes(
     }
 }
 
-// Appends a text, before which a quotation mark stood, and after which one stands.
+// Appends a text, before which a quotation mark stood, and after which one is.
 fn push_text(bytes: &mut Vec<u8>, text: &str) -> Result<(), WordsFault> {
     match text.strip_suffix('"') {
         Some(text) => done(bytes.extend_from_slice(text.as_bytes())),
@@ -79,7 +78,7 @@ fn push_text(bytes: &mut Vec<u8>, text: &str) -> Result<(), WordsFault> {
     }
 }
 
-// The digits of the bytes of this name, or where nothing has it, the same words.
+// The digits of the bytes of this name, or if nothing has it, the same words.
 fn digits_of(words: &str) -> &str {
     match entry_of(words) {
         Some((_name, digits)) => digits,
@@ -134,7 +133,7 @@ fn push_equal(bytes: &mut Vec<u8>, byte: u8, count: usize) -> Result<(), AllocEr
     Ok(())
 }
 
-/// Writes the name of the bytes, or where they have none, their pieces.
+/// Writes the name of the bytes, or if they have none, their pieces.
 pub(crate) fn tell_name(alloc: Global, bytes: &[u8], came: &mut String) -> Result<(), WordsFault> {
     match pieces_of(alloc, bytes) {
         Ok(pieces) => tell(came, name_of(&pieces)),
@@ -154,7 +153,7 @@ pub(crate) fn tell_pieces(
     }
 }
 
-// The name of the bytes of these digits, or where they have none, the digits.
+// The name of the bytes of these digits, or if they have none, the digits.
 fn name_of(digits: &str) -> &str {
     match entry_of(digits) {
         Some((name, _digits)) => name,
@@ -162,8 +161,7 @@ fn name_of(digits: &str) -> &str {
     }
 }
 
-// The bytes in hexadecimal digits, where many equal ones one after another are a piece of their
-// own.
+// The bytes in hexadecimal digits, if many equal ones one after another are a piece of their own.
 fn pieces_of(alloc: Global, bytes: &[u8]) -> Result<String, AllocError> {
     let mut text = String::new(alloc);
     write_pieces(&mut text, bytes)?;

@@ -7,7 +7,7 @@ use linda_test_script::{WordsFault, read_number, read_numbered, read_size, split
 use std::alloc::{AllocError, Global};
 use std::mem;
 
-/// The disk, in whose place an empty one stands then.
+/// The disk, in whose place an empty one is then.
 pub(crate) fn taken(alloc: Global, disk: &mut MemDisk) -> MemDisk {
     mem::replace(disk, MemDisk::new(alloc))
 }
@@ -123,7 +123,7 @@ fn tell_done(done: Result<(), DiskFault>, came: &mut String) -> Result<(), Words
     }
 }
 
-// Shows what the disk holds, how often it failed, or whether it holds an open gate and what stands
+// Shows what the disk holds, how often it failed, or whether it holds an open gate and what is
 // after it; or lets it hold other bytes.
 fn show_or_hold(
     alloc: Global,
@@ -188,7 +188,7 @@ fn keep_front(bytes: &mut Vec<u8>, len: &str) -> Result<(), WordsFault> {
     Ok(())
 }
 
-// Another byte stands at an offset; both are decimal numbers.
+// Another byte is at an offset; both are decimal numbers.
 fn set_byte(bytes: &mut Vec<u8>, words: &str) -> Result<(), WordsFault> {
     let (at, byte) = split_word(words);
     let at = read_size(at)?;

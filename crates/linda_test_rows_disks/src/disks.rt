@@ -24,7 +24,7 @@ impl Disks {
         }
     }
 
-    /// The two disks, in whose places empty ones stand then.
+    /// The two disks, in whose places empty ones are then.
     pub(crate) fn take(&mut self, alloc: Global) -> Disks {
         mem::replace(self, Disks::new(alloc))
     }

@@ -1,5 +1,5 @@
-//! Rows of disks and of what stands on them: disks in memory, banks with their journals, two banks
-//! of which one is chosen, and a server on two disks that is stopped inside each device call, fails
+//! Rows of disks and of what is on them: disks in memory, banks with their journals, two banks of
+//! which one is chosen, and a server on two disks that is stopped inside each device call, fails
 //! there, or finds a damage.
 //!
 //! The README says what the lines of a row may be.

@@ -1,4 +1,4 @@
-//! How a server on both disks is made and opened, and gives them back.
+//! Servers on both disks, made and opened, which give these back.
 
 use crate::disks::Disks;
 use crate::serving::look;

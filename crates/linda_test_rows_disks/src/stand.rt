@@ -1,4 +1,4 @@
-//! Two disks in memory, and what stands on them.
+//! Two disks in memory, and what is on them.
 
 use crate::bank::play_bank;
 use crate::banks::play_banks;
@@ -13,7 +13,7 @@ use linda_server::Durable;
 use linda_test_script::{Player, WordsFault, split_word};
 use std::alloc::Global;
 
-/// The two disks, where nothing stands on them, and what does.
+/// The two disks, which hold nothing, and what does.
 #[derive(Drop)]
 pub(crate) struct Stand {
     disks: Disks,

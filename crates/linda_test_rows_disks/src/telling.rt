@@ -1,4 +1,4 @@
-//! What came, as lines.
+//! Lines of what came.
 
 use linda_bag::{Bag, ListBag};
 use linda_store_state::State;

@@ -3,8 +3,7 @@
 use linda_disk::Torn;
 use linda_test_script::{WordsFault, split_word};
 
-/// The way to crash that begins the text, as `kept`, `lost` or `filled ff`, and what stands after
-/// it.
+/// The way to crash that begins the text, as `kept`, `lost` or `filled ff`, and what is after it.
 pub(crate) fn split_torn(text: &str) -> Result<(Torn, &str), WordsFault> {
     let (word, rest) = split_word(text);
     match word {
@@ -15,7 +14,7 @@ pub(crate) fn split_torn(text: &str) -> Result<(Torn, &str), WordsFault> {
     }
 }
 
-// The byte that each byte becomes, and what stands after it.
+// The byte that each byte becomes, and what is after it.
 fn split_filled(text: &str) -> Result<(Torn, &str), WordsFault> {
     let (digits, rest) = split_word(text);
     match read_byte(digits) {

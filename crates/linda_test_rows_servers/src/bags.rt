@@ -28,7 +28,7 @@ impl Bags {
         }
     }
 
-    /// Lets both bags do what the words say, and says what came of it, of each where they differ.
+    /// Lets both bags do what the words say, and says what came of it, of each if they differ.
     pub(crate) fn play(
         &mut self,
         alloc: Global,
@@ -63,7 +63,7 @@ impl Bags {
     }
 
     // Takes what many templates ask for, in turn, from both bags: so often in all, `(n % tags, n %
-    // keys)`, and at each tenth turn `(n % tags, ?i)` too. Writes where the two differ.
+    // keys)`, and at each tenth turn `(n % tags, ?i)` too. Writes if the two differ.
     fn take_all(
         &mut self,
         alloc: Global,
@@ -81,7 +81,7 @@ impl Bags {
         Ok(())
     }
 
-    // Takes what the template of this tag and key asks for from both bags, and says what came where
+    // Takes what the template of this tag and key asks for from both bags, and says what came if
     // they differ.
     fn take_alike<K: Display + Drop>(
         &mut self,
@@ -120,8 +120,7 @@ fn tell_kind(alloc: Global, kind: Kind<'_>, came: &mut String) -> Result<(), Wor
     done(writeln!(came, "> {tag} with {fields}: {tuples}"))
 }
 
-// Writes what came of both, or of each where they differ; nothing comes of what has nothing to
-// give.
+// Writes what came of both, or of each if they differ; nothing comes of what has nothing to give.
 fn tell_both(came: &mut String, plain: &str, index: &str) -> Result<(), WordsFault> {
     if plain != index {
         done(writeln!(came, "> plain {plain}, index {index}"))
@@ -132,7 +131,7 @@ fn tell_both(came: &mut String, plain: &str, index: &str) -> Result<(), WordsFau
     }
 }
 
-// Writes what came of the words at each, where they differ.
+// Writes what came of the words at each, if they differ.
 fn tell_unlike(came: &mut String, words: &str, plain: &str, index: &str) -> Result<(), WordsFault> {
     if plain == index {
         Ok(())
@@ -148,7 +147,7 @@ fn read_three(words: &str) -> Result<(u64, u64, u64), WordsFault> {
     Ok((first, second, read_number(rest)?))
 }
 
-// What is left of a number divided by another one; 0 where that is 0.
+// What is left of a number divided by another one; 0 if that is 0.
 fn rest_of(n: u64, by: u64) -> u64 {
     n.checked_rem(by).unwrap_or(0)
 }

@@ -1,4 +1,4 @@
-//! What is said of deeds.
+//! Deeds, and the questions about them.
 
 use crate::step::tell_deed;
 use crate::told::{done, tell, tell_two};
@@ -68,8 +68,7 @@ fn read_deed(alloc: Global, word: &str, words: &str) -> Result<Deed, WordsFault>
 }
 
 // Writes the deed that is reported of a message of client 7, after its last number, and of the
-// reply, as
-// `1: accept 2 1 4; gone 2`.
+// reply, as `1: accept 2 1 4; gone 2`.
 fn report(alloc: Global, words: &str, came: &mut String) -> Result<(), WordsFault> {
     let (last, message, reply) = split_report(words)?;
     let mut sends: Vec<(u32, Reply)> = Vec::new(alloc);

@@ -1,4 +1,4 @@
-//! Which tuple is held for which request.
+//! Holds: which tuple is held for which request.
 
 use crate::told::{done, tell_found, tell_two};
 use crate::waits::{read_request, tell_request};
@@ -28,8 +28,7 @@ pub(crate) fn play_holds(
     }
 }
 
-// Lets the tuple be held for the request, as `1 2 3`; where that holds one already, its id is
-// given.
+// Lets the tuple be held for the request, as `1 2 3`; if that holds one already, its id is given.
 fn hold(holds: &mut Holds, words: &str, came: &mut String) -> Result<(), WordsFault> {
     let (id, rest) = split_number(words)?;
     let request = read_request(rest)?;

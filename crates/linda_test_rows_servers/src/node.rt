@@ -117,7 +117,7 @@ fn tell_answer(
     }
 }
 
-// Shows what the node has, where these words ask.
+// Shows what the node has, if these words ask.
 fn show(
     alloc: Global,
     node: &Volatile,

@@ -1,4 +1,4 @@
-//! What the rows play with: a value of each subject.
+//! Values that the rows play with, one of each subject.
 
 use crate::bags::Bags;
 use crate::book::play_book;

@@ -9,8 +9,8 @@ use linda_snap::{SnapshotFault, get_state};
 use linda_store_state::{BANK_FORM, Deed, State};
 use linda_store_step::{Step, Store};
 use linda_test_script::{
-    WordsFault, read_hex, read_message, read_number, read_numbered, read_small_number, split_word,
-    tell_replies, tell_tuple,
+    WordsFault, read_hex, read_message, read_number, read_numbered, read_small_number,
+    split_number, split_word, tell_replies, tell_tuple,
 };
 use linda_text::write_tuple;
 use linda_tuple::Form;
@@ -33,7 +33,7 @@ impl Stores {
         }
     }
 
-    /// Lets both stores do what the words say, and says what came of it, of each where they differ.
+    /// Lets both stores do what the words say, and says what came of it, of each if they differ.
     pub(crate) fn play(
         &mut self,
         alloc: Global,
@@ -60,6 +60,7 @@ fn play_store<B: Bag>(
         "state" => take_state(alloc, store, rest),
         "close" => close(alloc, store, rest, came),
         "puts" => puts(alloc, store, rest),
+        "many" => puts_many(alloc, store, rest),
         "asks" => asks(alloc, store, rest),
         "passes" => passes(alloc, store, rest),
         "size" => tell_size(alloc, store, rest, came),
@@ -132,6 +133,18 @@ fn puts<B: Bag>(alloc: Global, store: &mut Store<B>, fields: &str) -> Result<(),
     Ok(())
 }
 
+// Client 6 puts the tuples `("b", n, n % KEYS, n % 7)` for n from 1 on, so many, as its messages n.
+fn puts_many<B: Bag>(alloc: Global, store: &mut Store<B>, words: &str) -> Result<(), WordsFault> {
+    let (count, rest) = split_number(words)?;
+    let keys = read_number(rest)?;
+    for n in 1..=count {
+        let key = n.checked_rem(keys).unwrap_or(0);
+        let words = format!(in alloc; "out {n} (\"b\", {n}, {key}, {})", n % 7)?;
+        hear(alloc, store, 6, &words)?;
+    }
+    Ok(())
+}
+
 // Client 8 asks by the tickets from 1 on, below this one, for the tuple 5: to take it by an odd
 // one, else to read it.
 fn asks<B: Bag>(alloc: Global, store: &mut Store<B>, end: &str) -> Result<(), WordsFault> {
@@ -181,7 +194,7 @@ fn hear_of<B: Bag>(
     )
 }
 
-// The form that is asked for, which is that of new banks where none is, and the words after it.
+// The form that is asked for, which is that of new banks if none is, and the words after it.
 fn split_form(words: &str) -> (Form, &str) {
     match words.strip_prefix("one ") {
         Some(rest) => (Form::One, rest),
@@ -229,7 +242,7 @@ fn tell_act<T: Display + Drop>(
     writeln!(came, "> {verb} {client} {n} {what}")
 }
 
-// Appends what the store has, where these words ask.
+// Appends what the store has, if these words ask.
 fn show<B: Bag>(
     alloc: Global,
     store: &Store<B>,

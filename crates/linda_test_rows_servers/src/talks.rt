@@ -57,8 +57,8 @@ impl Talks {
     }
 
     // The conversation over the stream, which comes in pieces of this size; the reader fails at its
-    // end where the word `fails` stands there, and the writer after so many bytes. Gives what was
-    // written, and the end.
+    // end if the word `fails` is there, and the writer after so many bytes. Gives what was written,
+    // and the end.
     fn talk(&mut self, alloc: Global, words: &str, came: &mut String) -> Result<(), WordsFault> {
         let (size, rest) = split_word(words);
         let (word, room) = split_word(rest);

@@ -34,7 +34,7 @@ pub(crate) fn tell_found<T: Display + Drop>(
     }
 }
 
-/// Appends the lines that came of both bags, or those of each where they differ.
+/// Appends the lines that came of both bags, or those of each if they differ.
 pub(crate) fn tell_alike(came: &mut String, plain: &str, index: &str) -> Result<(), AllocError> {
     came.push_str(plain)?;
     if plain == index {

@@ -51,7 +51,7 @@ pub(crate) fn tell_request(request: Option<Request>, came: &mut String) -> Resul
     }
 }
 
-// Lets a request wait, as `2 1 rd (7)`; where it waits already, that is said.
+// Lets a request wait, as `2 1 rd (7)`; if it waits already, that is said.
 fn wait(
     alloc: Global,
     waits: &mut Waits,
@@ -69,7 +69,7 @@ fn wait(
     add(waits, Request { client, ticket }, asked, came)
 }
 
-// Lets the request wait, where it does not already.
+// Lets the request wait, if it does not already.
 fn add(
     waits: &mut Waits,
     request: Request,

@@ -1,14 +1,13 @@
 //! Values as bytes.
 //!
 //! `spell tuple TUPLE` gives the bytes; `put BYTES ATOM ..` gives these bytes with the atoms' after
-//! them; where the form has no spelling, they say so. `get tuple AT BYTES`, and so `template` and
+//! them; if the form has no spelling, they say so. `get tuple AT BYTES`, and so `template` and
 //! `atom`, reads from an offset on, and gives the value and the offset after it. `read tuple
-//! BYTES`, and so `template`, `atom`, `u8`, `u32`, `u64` and
-//! `bool`, gives the value and the bytes after it. `skip tuple BYTES` and `skip template BYTES`
-//! give the bytes after it alone. Each gives the fault where nothing is read. Values are in the
-//! first form; with `two` after the verb, as in
-//! `spell two tuple TUPLE`, they are in the second one. A template is spelled in the second one
-//! alone, where each has a spelling: `spell two template TEMPLATE`.
+//! BYTES`, and so `template`, `atom`, `u8`, `u32`, `u64` and `bool`, gives the value and the bytes
+//! after it. `skip tuple BYTES` and `skip template BYTES` give only the bytes after it. Each gives
+//! the fault if nothing is read. Values are in the first form; with `two` after the verb, as in
+//! `spell two tuple TUPLE`, they are in the second one. A template is spelled only in the second
+//! one, in which each has a spelling: `spell two template TEMPLATE`.
 
 use crate::hexadecimal::{bytes_of, tell_bytes};
 use crate::texts::{atoms_in, split_offset};
@@ -29,7 +28,7 @@ const NO_SPELLING: &str = "> no spelling\n";
 ///
 /// # Errors
 ///
-/// `Unknown` where it says nothing of the kind; `Memory` where memory runs out.
+/// `Unknown` if it says nothing of the kind; `Memory` if memory runs out.
 pub(crate) fn play_bytes(alloc: Global, words: &str, came: &mut String) -> Result<(), WordsFault> {
     let (verb, rest) = split_word(words);
     let (form, rest) = split_form(rest);
@@ -80,7 +79,7 @@ fn spell_tuple(
     tell_bytes(alloc, came, &bytes)
 }
 
-// Templates are put in the second form alone, in which each has a spelling: its patterns are within
+// Templates are put only in the second form, in which each has a spelling: its patterns are within
 // the limits.
 fn spell_template(
     alloc: Global,
@@ -109,7 +108,7 @@ fn put(
     done(put_atoms(alloc, form, came, &mut bytes, &atoms))
 }
 
-// Appends the bytes with the atoms' after them, where each has a spelling.
+// Appends the bytes with the atoms' after them, if each has a spelling.
 fn put_atoms(
     alloc: Global,
     form: Form,

@@ -14,7 +14,7 @@ use std::alloc::{AllocError, Global};
 ///
 /// # Errors
 ///
-/// `Unknown` where it says nothing of the kind; `Memory` where memory runs out.
+/// `Unknown` if it says nothing of the kind; `Memory` if memory runs out.
 pub(crate) fn play_copies(alloc: Global, words: &str, came: &mut String) -> Result<(), WordsFault> {
     let (verb, rest) = split_word(words);
     match verb {

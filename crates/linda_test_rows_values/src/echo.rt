@@ -8,7 +8,7 @@ use crate::told::done;
 use linda_test_script::{Played, Player, WordsFault, play_rows, split_word};
 use std::alloc::{AllocError, Global};
 
-/// Says what it is told to say.
+/// Says what it is given to say.
 #[derive(Drop)]
 struct Echo;
 
@@ -33,7 +33,7 @@ impl Player for Echo {
 ///
 /// # Errors
 ///
-/// `Unknown` where it says nothing of the kind; `Memory` where memory runs out.
+/// `Unknown` if it says nothing of the kind; `Memory` if memory runs out.
 pub(crate) fn play_rows_in_text(
     alloc: Global,
     words: &str,

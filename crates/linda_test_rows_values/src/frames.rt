@@ -7,7 +7,7 @@ use linda_test_script::{WordsFault, write_message, write_reply};
 use linda_wire::{Framed, Message, Reply, encode_message, encode_reply};
 use std::alloc::{AllocError, Global};
 
-/// What stands in a frame, and has words.
+/// What is in a frame, and has words.
 pub(crate) trait Spoken: Framed + Typed {
     /// Appends its frame.
     fn push_frame(&self, bytes: &mut Vec<u8>) -> Result<(), AllocError>;
@@ -41,7 +41,7 @@ impl Spoken for Reply {
 ///
 /// # Errors
 ///
-/// `AllocError` where memory runs out.
+/// `AllocError` if memory runs out.
 pub(crate) fn push_words_of_copy<T: Spoken>(
     alloc: Global,
     came: &mut String,
@@ -55,7 +55,7 @@ pub(crate) fn push_words_of_copy<T: Spoken>(
 ///
 /// # Errors
 ///
-/// `Unknown` where they say nothing; `Memory` where memory runs out.
+/// `Unknown` if they say nothing; `Memory` if memory runs out.
 pub(crate) fn frame_of<T: Spoken>(alloc: Global, words: &str) -> Result<Vec<u8>, WordsFault> {
     let mut frame = Vec::new(alloc);
     push_frame_of::<T>(alloc, &mut frame, words)?;

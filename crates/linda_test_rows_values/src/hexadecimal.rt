@@ -4,11 +4,11 @@ use crate::told::done;
 use linda_test_script::{WordsFault, read_hex};
 use std::alloc::{AllocError, Global};
 
-/// The bytes of these digits, between which blanks may stand.
+/// The bytes of these digits, between which blanks may be.
 ///
 /// # Errors
 ///
-/// `Unknown` where they are none; `Memory` where memory runs out.
+/// `Unknown` if they are none; `Memory` if memory runs out.
 pub(crate) fn bytes_of(alloc: Global, digits: &str) -> Result<Vec<u8>, WordsFault> {
     let mut bytes = Vec::new(alloc);
     for group in digits.split(' ') {
@@ -21,7 +21,7 @@ pub(crate) fn bytes_of(alloc: Global, digits: &str) -> Result<Vec<u8>, WordsFaul
 ///
 /// # Errors
 ///
-/// Why none were made; `Memory` where memory runs out.
+/// Why none were made; `Memory` if memory runs out.
 pub(crate) fn tell_made(
     alloc: Global,
     came: &mut String,
@@ -35,16 +35,16 @@ pub(crate) fn tell_made(
 ///
 /// # Errors
 ///
-/// `AllocError` where memory runs out.
+/// `AllocError` if memory runs out.
 pub(crate) fn tell_bytes(alloc: Global, came: &mut String, bytes: &[u8]) -> Result<(), AllocError> {
     push_digits(alloc, came, "> ", bytes)
 }
 
-/// Appends what stands before the bytes, their digits, and the end of the line.
+/// Appends what is before the bytes, their digits, and the end of the line.
 ///
 /// # Errors
 ///
-/// `AllocError` where memory runs out; a part of them may then stand there.
+/// `AllocError` if memory runs out; a part of them may then be there.
 pub(crate) fn push_digits(
     alloc: Global,
     came: &mut String,

@@ -12,7 +12,7 @@ use std::alloc::{AllocError, Global};
 ///
 /// # Errors
 ///
-/// `Unknown` where it says nothing of the kind; `Memory` where memory runs out.
+/// `Unknown` if it says nothing of the kind; `Memory` if memory runs out.
 pub(crate) fn play_limits(alloc: Global, words: &str, came: &mut String) -> Result<(), WordsFault> {
     let (verb, rest) = split_word(words);
     let (tag, parts) = split_word(rest);
@@ -69,7 +69,7 @@ impl Part for Pattern {
     }
 }
 
-// What the parts say, between which blanks stand.
+// What the parts say, between which blanks are.
 fn all_of<P: Part>(alloc: Global, parts: &str) -> Result<Vec<P>, AllocError> {
     let mut all = Vec::new(alloc);
     for part in parts.split_whitespace() {

@@ -1,10 +1,9 @@
 //! The lines of scripts.
 //!
 //! `line LINE` gives what the line says, and what it tells. `tidied SCRIPT` gives the script
-//! without its blanks.
-//! `kept ID TUPLE` and `kept ID none`, both also with ` | CLIENT TICKET` at the end, give what is
-//! said of a tuple that is kept, or of none, and held for that request; `sent CLIENT REPLY | CLIENT
-//! REPLY` what is said of two replies.
+//! without its blanks. `kept ID TUPLE` and `kept ID none`, both also with ` | CLIENT TICKET` at the
+//! end, give what is said of a tuple that is kept, or of none, and held for that request; `sent
+//! CLIENT REPLY | CLIENT REPLY` what is said of two replies.
 
 use crate::notation::{push_written, tell};
 use crate::told::done;
@@ -22,7 +21,7 @@ use std::alloc::{AllocError, Global};
 ///
 /// # Errors
 ///
-/// `Unknown` where it says nothing of the kind; `Memory` where memory runs out.
+/// `Unknown` if it says nothing of the kind; `Memory` if memory runs out.
 pub(crate) fn play_lines(alloc: Global, words: &str, came: &mut String) -> Result<(), WordsFault> {
     let (verb, rest) = split_word(words);
     match verb {

@@ -1,10 +1,9 @@
 //! Rows of the values of the tuple space, and of their texts, bytes, frames and words, by public
-//! calls alone.
+//! calls only.
 //!
-//! The rows stand in the file `stdin` beside `src`, and what has to come of them, which is the same
-//! text, in `stdout`.
-//! `linda_test_script` says how a row is written, and plays it; here stands what each line does.
-//! The README has its words.
+//! The rows are in the file `stdin` beside `src`, and what has to come of them, which is the same
+//! text, in `stdout`. `linda_test_script` says how a row is written, and plays it; here is what
+//! each line does. The README has its words.
 #![tactic(auto)]
 
 mod bytes;

@@ -1,4 +1,4 @@
-//! What a template matches, and what it binds.
+//! Matches of a template, and what it binds.
 //!
 //! `match TEMPLATE | TUPLE` gives what the template binds in the tuple. `fits TEMPLATE | TUPLE`
 //! gives of each field of the tuple whether the template's first pattern fits it.
@@ -15,7 +15,7 @@ use std::alloc::{AllocError, Global};
 ///
 /// # Errors
 ///
-/// `Unknown` where it says nothing of the kind; `Memory` where memory runs out.
+/// `Unknown` if it says nothing of the kind; `Memory` if memory runs out.
 pub(crate) fn play_matching(
     alloc: Global,
     words: &str,

@@ -1,7 +1,7 @@
-//! How texts are written in rows, where they would be long or could not be seen.
+//! Notation of texts in rows that would be long or could not be seen.
 //!
-//! In braces stands what bytes are there in hexadecimal digits, as `{0a}` for a line feed; or how
-//! often what stands after a blank is there, as `{255 a}`.
+//! In braces are bytes in hexadecimal digits, as `{0a}` for a line feed; or how often what is after
+//! a blank is there, as `{255 a}`.
 
 use crate::hexadecimal::bytes_of;
 use crate::told::done;
@@ -23,7 +23,7 @@ const LONG: u64 = 20;
 ///
 /// # Errors
 ///
-/// `Unknown` where braces hold something else, or are not closed; `Memory` where memory runs out.
+/// `Unknown` if braces hold something else, or are not closed; `Memory` if memory runs out.
 pub(crate) fn spread(alloc: Global, written: &str) -> Result<String, WordsFault> {
     match written.split_once('{') {
         Some((front, parts)) => spread_parts(alloc, front, parts),
@@ -40,7 +40,7 @@ fn spread_parts(alloc: Global, front: &str, parts: &str) -> Result<String, Words
     Ok(text)
 }
 
-// Appends what stands in braces, of which the first one is gone, and what stands after them.
+// Appends what is in braces, of which the first one is gone, and what is after them.
 fn push_part(alloc: Global, text: &mut String, part: &str) -> Result<(), WordsFault> {
     let Some((inside, behind)) = part.split_once('}') else {
         return Err(WordsFault::Unknown);
@@ -78,7 +78,7 @@ fn push_bytes(alloc: Global, text: &mut String, digits: &str) -> Result<(), Word
 ///
 /// # Errors
 ///
-/// `AllocError` where memory runs out; a part of the line may then stand there.
+/// `AllocError` if memory runs out; a part of the line may then be there.
 pub(crate) fn tell(came: &mut String, text: &str) -> Result<(), AllocError> {
     came.push_str("> ")?;
     push_written(came, text)?;
@@ -89,7 +89,7 @@ pub(crate) fn tell(came: &mut String, text: &str) -> Result<(), AllocError> {
 ///
 /// # Errors
 ///
-/// `AllocError` where memory runs out; a part of it may then stand there.
+/// `AllocError` if memory runs out; a part of it may then be there.
 pub(crate) fn push_written(came: &mut String, text: &str) -> Result<(), AllocError> {
     let mut last = ' ';
     let mut count = 0u64;

@@ -1,6 +1,6 @@
 //! The order of atoms and of texts, and when tuples and templates are equal.
 //!
-//! `atoms ATOM ..` gives a line for each of them, how it stands to each: `<`, `=` or `>`. `texts
+//! `atoms ATOM ..` gives a line for each of them, how it compares to each: `<`, `=` or `>`. `texts
 //! ATOM ..` compares what the strings say. `tuples TUPLE | TUPLE` and `templates TEMPLATE |
 //! TEMPLATE` give whether they are equal.
 
@@ -17,7 +17,7 @@ use std::cmp::Ordering;
 ///
 /// # Errors
 ///
-/// `Unknown` where it says nothing of the kind; `Memory` where memory runs out.
+/// `Unknown` if it says nothing of the kind; `Memory` if memory runs out.
 pub(crate) fn play_order(alloc: Global, words: &str, came: &mut String) -> Result<(), WordsFault> {
     let (verb, rest) = split_word(words);
     match verb {
@@ -50,7 +50,7 @@ fn tell_orders<T: Ord + Drop>(
     done(push_orders(came, &items))
 }
 
-// A line for each, which says how it stands to each.
+// A line for each, which says how it compares to each.
 fn push_orders<T: Ord>(came: &mut String, items: &[T]) -> Result<(), AllocError> {
     for one in items {
         came.push('>')?;

@@ -68,7 +68,7 @@ impl ValuePlayer {
         }
     }
 
-    // Plays a line in which nothing stands in braces any more.
+    // Plays a line in which nothing is in braces any more.
     fn play_spread(
         &mut self,
         alloc: Global,

@@ -1,10 +1,9 @@
 //! Streams of frames, of messages or of replies.
 //!
 //! `frame WORDS` gives the frame of a message or a reply. `feed BYTES` is a piece of the row's
-//! stream; `next` gives what stands at its front, `nothing` where that is not whole, or the fault;
-//! `left` how many bytes are not read.
-//! `bytewise BYTES` feeds them one by one, and gives how often there was nothing before a byte
-//! came.
+//! stream; `next` gives what is at its front, `nothing` if that is not whole, or the fault; `left`
+//! how many bytes are not read. `bytewise BYTES` feeds them one by one, and gives how often there
+//! was nothing before a byte came.
 //!
 //! `behind BYTES` says what `fault` lets come after. `fault BYTES` gives a new stream all of them
 //! but the last one, the last one, and what comes after, and gives what is next after each, and how
@@ -38,7 +37,7 @@ impl<T: Spoken> Stream<T> {
     ///
     /// # Errors
     ///
-    /// `Unknown` where it says nothing of the kind; `Memory` where memory runs out.
+    /// `Unknown` if it says nothing of the kind; `Memory` if memory runs out.
     pub(crate) fn play(
         &mut self,
         alloc: Global,

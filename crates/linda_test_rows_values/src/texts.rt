@@ -3,9 +3,8 @@
 //! `tuple TEXT` and `template TEXT` give what is read, as it is written, or why nothing is.
 //! `template-at AT TEXT` and `atom-at AT TEXT` read from an offset on, and give the offset after it
 //! too. `split BYTES` gives the template at the front of bytes, which need be no UTF-8, and the
-//! bytes after it; `skip BYTES` gives these alone.
-//! `triples ATOM ..` gives how many of all tuples of three of these atoms are written, read again
-//! and the same.
+//! bytes after it; `skip BYTES` gives only these. `triples ATOM ..` gives how many of all tuples of
+//! three of these atoms are written, read again and the same.
 
 use crate::hexadecimal::bytes_of;
 use crate::told::{done, tell_alone, tell_front, tell_placed, tell_rest};
@@ -22,7 +21,7 @@ use std::alloc::{AllocError, Global};
 ///
 /// # Errors
 ///
-/// `Unknown` where it says nothing of the kind; `Memory` where memory runs out.
+/// `Unknown` if it says nothing of the kind; `Memory` if memory runs out.
 pub(crate) fn play_texts(alloc: Global, words: &str, came: &mut String) -> Result<(), WordsFault> {
     let (verb, rest) = split_word(words);
     match verb {
@@ -57,21 +56,21 @@ fn tell_skipped(alloc: Global, came: &mut String, digits: &str) -> Result<(), Wo
     done(tell_rest(alloc, came, skip_template(&bytes)))
 }
 
-/// The offset at the front, and what stands after the blank after it.
+/// The offset at the front, and what is after the blank after it.
 ///
 /// # Errors
 ///
-/// `Unknown` where no number stands there.
+/// `Unknown` if no number is there.
 pub(crate) fn split_offset(words: &str) -> Result<(usize, &str), WordsFault> {
     let (at, rest) = split_word(words);
     Ok((read_size(at)?, rest))
 }
 
-/// The atoms that stand in a text, one after the other.
+/// The atoms that are in a text, one after the other.
 ///
 /// # Errors
 ///
-/// `Unknown` where something else stands there; `Memory` where memory runs out.
+/// `Unknown` if something else is there; `Memory` if memory runs out.
 pub(crate) fn atoms_in(alloc: Global, text: &str) -> Result<Vec<Atom>, WordsFault> {
     let mut atoms = Vec::new(alloc);
     let mut at = 0;

@@ -1,4 +1,4 @@
-//! What is read, or why nothing is, as lines.
+//! Lines of what was read, or of why nothing was.
 
 use crate::hexadecimal::push_digits;
 use crate::notation::{push_written, tell};
@@ -62,7 +62,7 @@ impl Written for bool {
 ///
 /// # Errors
 ///
-/// `Memory` where memory ran out.
+/// `Memory` if memory ran out.
 pub(crate) fn done(appended: Result<(), AllocError>) -> Result<(), WordsFault> {
     Ok(appended?)
 }
@@ -71,7 +71,7 @@ pub(crate) fn done(appended: Result<(), AllocError>) -> Result<(), WordsFault> {
 ///
 /// # Errors
 ///
-/// `AllocError` where memory runs out; a part of the line may then stand there.
+/// `AllocError` if memory runs out; a part of the line may then be there.
 pub(crate) fn tell_fault<F: Display + Drop>(came: &mut String, fault: F) -> Result<(), AllocError> {
     writeln!(came, "> {fault}")
 }
@@ -80,7 +80,7 @@ pub(crate) fn tell_fault<F: Display + Drop>(came: &mut String, fault: F) -> Resu
 ///
 /// # Errors
 ///
-/// `AllocError` where memory runs out; a part of it may then stand there.
+/// `AllocError` if memory runs out; a part of it may then be there.
 pub(crate) fn push_fault<F: Display + Drop>(came: &mut String, fault: F) -> Result<(), AllocError> {
     write!(came, "{fault}")
 }
@@ -89,7 +89,7 @@ pub(crate) fn push_fault<F: Display + Drop>(came: &mut String, fault: F) -> Resu
 ///
 /// # Errors
 ///
-/// `AllocError` where memory runs out; a part of the line may then stand there.
+/// `AllocError` if memory runs out; a part of the line may then be there.
 pub(crate) fn tell_alone<V: Written, F: Display + Drop>(
     alloc: Global,
     came: &mut String,
@@ -105,7 +105,7 @@ pub(crate) fn tell_alone<V: Written, F: Display + Drop>(
 ///
 /// # Errors
 ///
-/// `AllocError` where memory runs out; a part of the line may then stand there.
+/// `AllocError` if memory runs out; a part of the line may then be there.
 pub(crate) fn tell_value<V: Written>(
     alloc: Global,
     came: &mut String,
@@ -119,7 +119,7 @@ pub(crate) fn tell_value<V: Written>(
 ///
 /// # Errors
 ///
-/// `AllocError` where memory runs out; a part of the line may then stand there.
+/// `AllocError` if memory runs out; a part of the line may then be there.
 pub(crate) fn tell_placed<V: Written, F: Display + Drop>(
     alloc: Global,
     came: &mut String,
@@ -138,7 +138,7 @@ pub(crate) fn tell_placed<V: Written, F: Display + Drop>(
 ///
 /// # Errors
 ///
-/// `AllocError` where memory runs out; a part of the line may then stand there.
+/// `AllocError` if memory runs out; a part of the line may then be there.
 pub(crate) fn tell_front<V: Written, F: Display + Drop>(
     alloc: Global,
     came: &mut String,
@@ -158,7 +158,7 @@ pub(crate) fn tell_front<V: Written, F: Display + Drop>(
 ///
 /// # Errors
 ///
-/// `AllocError` where memory runs out; a part of the line may then stand there.
+/// `AllocError` if memory runs out; a part of the line may then be there.
 pub(crate) fn tell_rest<F: Display + Drop>(
     alloc: Global,
     came: &mut String,

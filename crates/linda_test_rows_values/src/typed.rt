@@ -60,7 +60,7 @@ impl Typed for Reply {
 ///
 /// # Errors
 ///
-/// `Unknown` where they say none; `Memory` where memory runs out.
+/// `Unknown` if they say none; `Memory` if memory runs out.
 pub(crate) fn is_said<V: Typed + PartialEq>(
     alloc: Global,
     value: &V,

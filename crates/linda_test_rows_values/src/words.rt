@@ -1,8 +1,8 @@
 //! The words of messages and replies.
 //!
 //! `message WORDS` and `reply WORDS` give what is read, in words. `said LINE` and `told LINE` give
-//! the frames of a script's line. `numbered WORDS` gives the number at the front, and what stands
-//! after it.
+//! the frames of a script's line. `numbered WORDS` gives the number at the front, and what is after
+//! it.
 
 use crate::hexadecimal::tell_made;
 use crate::told::{done, tell_alone, tell_fault};
@@ -15,7 +15,7 @@ use std::alloc::{AllocError, Global};
 ///
 /// # Errors
 ///
-/// `Unknown` where it says nothing of the kind; `Memory` where memory runs out.
+/// `Unknown` if it says nothing of the kind; `Memory` if memory runs out.
 pub(crate) fn play_words(alloc: Global, words: &str, came: &mut String) -> Result<(), WordsFault> {
     let (verb, rest) = split_word(words);
     match verb {
@@ -32,7 +32,7 @@ pub(crate) fn play_words(alloc: Global, words: &str, came: &mut String) -> Resul
 ///
 /// # Errors
 ///
-/// `Unknown` where no such bar stands there.
+/// `Unknown` if no such bar is there.
 pub(crate) fn split_pair(words: &str) -> Result<(&str, &str), WordsFault> {
     match words.split_once(" | ") {
         Some(pair) => Ok(pair),

@@ -1,8 +1,8 @@
 //! Rows of scripts, their traces and whole worlds, each worked by hand.
 //!
-//! The rows stand in the file `stdin` beside `src/`: what is done, a line each, and after it what
-//! is to come of it. A row's subject says who plays its lines: `scripts` or `worlds`, in the module
-//! of that name. What came is the text that was read where every row comes as it says.
+//! The rows are in the file `stdin` beside `src/`: what is done, a line each, and after it what is
+//! to come of it. A row's subject says who plays its lines: `scripts` or `worlds`, in the module of
+//! that name. What came is the text that was read if every row comes as it says.
 #![tactic(auto)]
 
 mod players;

@@ -2,11 +2,11 @@
 //!
 //! A line is a line of the script, and what it prints comes after it: each time the script is run
 //! from its beginning, and what it printed before has to come again. Its fault, if it has one,
-//! comes after that. `servers N` begins a script over that many servers; where a row does not say
-//! so, it is over one. `script TEXT` runs a script that stands there as a string, since its blanks
-//! and line ends matter, and gives all that it prints. `times N LINE` is a line that stands there N
-//! times: how many lines that prints is written, and the last of them. A tilde in a line represents
-//! a string of 255 letters. `skip N` is N lines that are passed over.
+//! comes after that. `servers N` begins a script over that many servers; if a row does not say so,
+//! it is over one. `script TEXT` runs a script that is there as a string, since its blanks and line
+//! ends matter, and gives all that it prints. `times N LINE` is a line that is there N times: how
+//! many lines that prints is written, and the last of them. A tilde in a line represents a string
+//! of 255 letters. `skip N` is N lines that are passed over.
 //!
 //! In a row of traces each line gives the lines of the trace in place of what is printed, which has
 //! to be what is printed without a trace.
@@ -70,7 +70,7 @@ impl Scripts {
         Ok(())
     }
 
-    // Runs the script that stands there as a string.
+    // Runs the script that is there as a string.
     fn play_script(
         &mut self,
         alloc: Global,
@@ -83,7 +83,7 @@ impl Scripts {
         self.run(alloc, came, false)
     }
 
-    // Runs the script with a line that stands there so many times.
+    // Runs the script with a line that is there so many times.
     fn play_lines(
         &mut self,
         alloc: Global,
@@ -106,7 +106,7 @@ impl Scripts {
     }
 
     // Runs the script, and gives what it printed that it had not printed before: all of it, or only
-    // the last line where there are many.
+    // the last line if there are many.
     fn run(&mut self, alloc: Global, came: &mut String, are_many: bool) -> Result<(), WordsFault> {
         let (printed, end) = if self.are_traced {
             traced_by(alloc, &self.script, self.servers)?

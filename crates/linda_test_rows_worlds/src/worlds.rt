@@ -1,8 +1,8 @@
 //! Worlds of servers and clients: what happens, and what comes of it.
 //!
 //! A row makes its worlds first, each with clients 7, 8 and 9. Then each line happens in all of
-//! them: what comes of it is written once where it is the same in each, and else world by world,
-//! from 0.
+//! them: what comes of it is written once if it is the same in each, and else world by world, from
+//! 0.
 //!
 //! | line | what it does |
 //! |---|---|
@@ -15,7 +15,7 @@
 //! | `7 out`, `8 in`, `8 rd` | a client puts `("a", 3)`, takes `("a", ?i)`, or reads that |
 //! | `7 sync EVENT`, `7 abandon` | a client waits for an event, and gives up |
 //! | `7 leave` | a client leaves |
-//! | `7 tick 5` | a client is told the time |
+//! | `7 tick 5` | a client is given the time |
 //! | `7 resend`, `7 reconnect 1` | a client sends again what is unanswered, or what server 1 has
 //! not answered |
 //! | `deliver 3` | packet 3 is delivered, or delivered again |
@@ -34,8 +34,8 @@
 //!
 //! What was not synced is `kept` or `lost` at a stop, or each byte of it becomes `00`, `01` or
 //! `ff`; `each` means all five. A stop that does not say so is inside the first device call, and
-//! what was not synced is lost. Where as many are said as there are worlds, as `at 2 kept, 3 lost,
-//! 4 each`, they are for a world each, in their order.
+//! what was not synced is lost. If as many are said as there are worlds, as `at 2 kept, 3 lost, 4
+//! each`, they are for a world each, in their order.
 
 mod call;
 mod event;
@@ -99,7 +99,7 @@ impl Worlds {
     }
 }
 
-// Writes what came: once, where it is the same in each world.
+// Writes what came: once, if it is the same in each world.
 fn push_told(told: &[String], came: &mut String) -> Result<(), AllocError> {
     match told {
         [] => Ok(()),

@@ -1,4 +1,4 @@
-//! Why words could not be read.
+//! Faults of words that could not be read.
 
 use linda_text::TextFault;
 use std::alloc::{AllocError, AllocFailed};

@@ -12,7 +12,7 @@ use std::alloc::Global;
 ///
 /// # Errors
 ///
-/// `Unknown` where a line says no message; `Memory` where memory runs out.
+/// `Unknown` if a line says no message; `Memory` if memory runs out.
 pub fn said_frames(alloc: Global, script: &str) -> Result<Vec<u8>, WordsFault> {
     let mut frames = Vec::new(alloc);
     for line in script.lines() {
@@ -27,7 +27,7 @@ pub fn said_frames(alloc: Global, script: &str) -> Result<Vec<u8>, WordsFault> {
 ///
 /// # Errors
 ///
-/// `Unknown` where a line tells no reply; `Memory` where memory runs out.
+/// `Unknown` if a line tells no reply; `Memory` if memory runs out.
 pub fn told_frames(alloc: Global, script: &str) -> Result<Vec<u8>, WordsFault> {
     let mut frames = Vec::new(alloc);
     for line in script.lines() {
@@ -38,7 +38,7 @@ pub fn told_frames(alloc: Global, script: &str) -> Result<Vec<u8>, WordsFault> {
     Ok(frames)
 }
 
-// Appends the frame of the message that is said, or the bytes whose digits stand after the word
+// Appends the frame of the message that is said, or the bytes whose digits are after the word
 // `bytes`.
 fn push_said(alloc: Global, frames: &mut Vec<u8>, words: &str) -> Result<(), WordsFault> {
     match words.strip_prefix("bytes ") {
@@ -51,7 +51,7 @@ fn push_said(alloc: Global, frames: &mut Vec<u8>, words: &str) -> Result<(), Wor
 ///
 /// # Errors
 ///
-/// `Unknown` where they are none, or of an odd number; `Memory` where memory runs out.
+/// `Unknown` if they are none, or of an odd number; `Memory` if memory runs out.
 pub fn read_hex(alloc: Global, digits: &str) -> Result<Vec<u8>, WordsFault> {
     match hex::decode(alloc, digits.as_bytes()) {
         Ok(bytes) => Ok(bytes),

@@ -1,4 +1,4 @@
-//! What a server sends and keeps, as lines that tell it.
+//! Lines of what a server sends and keeps.
 
 use linda_shell_text::write_reply;
 use linda_text::write_tuple;
@@ -10,7 +10,7 @@ use std::alloc::{AllocError, Global};
 ///
 /// # Errors
 ///
-/// `AllocError` where memory runs out; some of the lines may then stand there.
+/// `AllocError` if memory runs out; some of the lines may then be there.
 pub fn tell_replies(
     alloc: Global,
     lines: &mut String,
@@ -24,12 +24,12 @@ pub fn tell_replies(
 }
 
 /// Appends the line of what is kept under an id, and for which request it is held, as `> tuple 1
-/// ("a", 3) free`, or
-/// `> tuple 1 ("a", 3) held 8 2`; `none` is written for a tuple that is not there.
+/// ("a", 3) free`, or `> tuple 1 ("a", 3) held 8 2`; `none` is written for a tuple that is not
+/// there.
 ///
 /// # Errors
 ///
-/// `AllocError` where memory runs out; a part of the line may then stand there.
+/// `AllocError` if memory runs out; a part of the line may then be there.
 pub fn tell_tuple(
     alloc: Global,
     lines: &mut String,

@@ -1,12 +1,11 @@
 //! Scripts for tests: what goes into a server or a client and what comes of it, as lines of text.
 //!
 //! A line says what goes in, as `7 out 1 ("a", 3)`; the lines after it that begin with `> ` say
-//! what comes of it, as
-//! `> 7 stored 1 1`. Messages and replies have each one text, in the words that linda_shell_text
-//! writes; tuples and templates are written as people type them. What is read says exactly the text
-//! that it was read from. A test plays what its script says and compares what came with the whole
-//! script, which `tidied` gives; a program plays the rows on its standard input, and writes them
-//! with what came.
+//! what comes of it, as `> 7 stored 1 1`. Messages and replies have each one text, in the words
+//! that linda_shell_text writes; tuples and templates are written as people type them. What is read
+//! says exactly the text that it was read from. A test plays what its script says and compares what
+//! came with the whole script, which `tidied` gives; a program plays the rows on its standard
+//! input, and writes them with what came.
 #![tactic(auto)]
 
 mod fault;

@@ -2,8 +2,8 @@
 
 use std::alloc::{AllocError, Global};
 
-/// What a line says that goes in: the line without the blanks around it, if anything stands there
-/// and it is not told after `>`.
+/// What a line says that goes in: the line without the blanks around it, if anything is there and
+/// it is not told after `>`.
 pub fn said(line: &str) -> Option<&str> {
     let line = line.trim();
     if line.is_empty() || line.starts_with('>') {
@@ -13,7 +13,7 @@ pub fn said(line: &str) -> Option<&str> {
     }
 }
 
-/// What a line tells that comes out: what stands after `> `, if it begins so.
+/// What a line tells that comes out: what is after `> `, if it begins so.
 pub fn told(line: &str) -> Option<&str> {
     line.trim().strip_prefix("> ")
 }
@@ -23,7 +23,7 @@ pub fn told(line: &str) -> Option<&str> {
 ///
 /// # Errors
 ///
-/// `AllocError` where memory runs out.
+/// `AllocError` if memory runs out.
 pub fn tidied(alloc: Global, script: &str) -> Result<String, AllocError> {
     let mut lines = String::new(alloc);
     for line in script.lines() {

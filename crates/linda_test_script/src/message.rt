@@ -1,4 +1,4 @@
-//! What clients say to servers, in words.
+//! Messages of clients, in words.
 
 ghost use Rattle.std.specs.Prelude.{◌≡◌, IfOk};
 ghost use Rattle.linda_shell_text.specs.MessageWords.{message_words};
@@ -15,7 +15,7 @@ use std::alloc::Global;
 ///
 /// # Errors
 ///
-/// `Unknown` where they say no message so; `Memory` where memory runs out.
+/// `Unknown` if they say no message so; `Memory` if memory runs out.
 pub fn read_message(alloc: Global, text: &str) -> Result<Message, WordsFault>
     ensures { IfOk result (λ m. text.now ≡ message_words m) }
 {
@@ -32,7 +32,7 @@ pub fn read_message(alloc: Global, text: &str) -> Result<Message, WordsFault>
 ///
 /// # Errors
 ///
-/// `Unknown` where a line says no message so; `Memory` where memory runs out.
+/// `Unknown` if a line says no message so; `Memory` if memory runs out.
 pub fn read_messages(alloc: Global, script: &str) -> Result<Vec<(u32, Message)>, WordsFault> {
     let mut messages = Vec::new(alloc);
     for line in script.lines() {
@@ -49,7 +49,7 @@ pub fn read_messages(alloc: Global, script: &str) -> Result<Vec<(u32, Message)>,
 ///
 /// # Errors
 ///
-/// `Unknown` where they say other than that; `Memory` where memory runs out.
+/// `Unknown` if they say other than that; `Memory` if memory runs out.
 pub fn read_batch(alloc: Global, words: &str) -> Result<Vec<(u32, Message)>, WordsFault> {
     let mut messages = Vec::new(alloc);
     if !words.is_empty() {

@@ -2,8 +2,8 @@
 
 use crate::fault::WordsFault;
 
-/// The first word of a text and what stands after the blank after it, which is nothing where no
-/// blank stands there.
+/// The first word of a text and what is after the blank after it, which is nothing if no blank is
+/// there.
 pub fn split_word(text: &str) -> (&str, &str) {
     match text.split_once(' ') {
         Some((word, rest)) => (word, rest),
@@ -15,7 +15,7 @@ pub fn split_word(text: &str) -> (&str, &str) {
 ///
 /// # Errors
 ///
-/// `Unknown` where it is none.
+/// `Unknown` if it is none.
 pub fn read_number(text: &str) -> Result<u64, WordsFault> {
     match text.parse::<u64>() {
         Ok(number) => Ok(number),
@@ -27,7 +27,7 @@ pub fn read_number(text: &str) -> Result<u64, WordsFault> {
 ///
 /// # Errors
 ///
-/// `Unknown` where it is none.
+/// `Unknown` if it is none.
 pub fn read_small_number(text: &str) -> Result<u32, WordsFault> {
     match text.parse::<u32>() {
         Ok(number) => Ok(number),
@@ -39,7 +39,7 @@ pub fn read_small_number(text: &str) -> Result<u32, WordsFault> {
 ///
 /// # Errors
 ///
-/// `Unknown` where it is none.
+/// `Unknown` if it is none.
 pub fn read_size(text: &str) -> Result<usize, WordsFault> {
     match text.parse::<usize>() {
         Ok(size) => Ok(size),
@@ -47,23 +47,22 @@ pub fn read_size(text: &str) -> Result<usize, WordsFault> {
     }
 }
 
-/// The number of 64 bits that is the first word of a text, and what stands after the blank after
-/// it.
+/// The number of 64 bits that is the first word of a text, and what is after the blank after it.
 ///
 /// # Errors
 ///
-/// `Unknown` where there is no such number.
+/// `Unknown` if there is no such number.
 pub fn split_number(text: &str) -> Result<(u64, &str), WordsFault> {
     let (word, rest) = split_word(text);
     Ok((read_number(word)?, rest))
 }
 
-/// The number of 32 bits that is the first word, of a client or a server, and what stands after the
+/// The number of 32 bits that is the first word, of a client or a server, and what is after the
 /// blank after it.
 ///
 /// # Errors
 ///
-/// `Unknown` where there is no such number.
+/// `Unknown` if there is no such number.
 pub fn read_numbered(text: &str) -> Result<(u32, &str), WordsFault> {
     let (number, rest) = split_number(text)?;
     match u32::try_from(number) {

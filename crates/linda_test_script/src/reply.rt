@@ -1,4 +1,4 @@
-//! What servers say to clients, in words.
+//! Replies of servers, in words.
 
 ghost use Rattle.std.specs.Prelude.{◌≡◌, IfOk};
 ghost use Rattle.linda_shell_text.specs.MessageWords.{reply_words};
@@ -15,7 +15,7 @@ use std::alloc::Global;
 ///
 /// # Errors
 ///
-/// `Unknown` where they say no reply so; `Memory` where memory runs out.
+/// `Unknown` if they say no reply so; `Memory` if memory runs out.
 pub fn read_reply(alloc: Global, text: &str) -> Result<Reply, WordsFault>
     ensures { IfOk result (λ r. text.now ≡ reply_words r) }
 {

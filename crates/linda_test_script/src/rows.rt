@@ -11,7 +11,7 @@
 //!
 //! A row begins with a line `== SUBJECT: what is to be seen`, and the player begins anew there. A
 //! line that begins with `>` is wanted of the line before it; a line that begins with `#`, and an
-//! empty one, says nothing; each other line is played. The rows come as they say where their text,
+//! empty one, says nothing; each other line is played. The rows come as they say if their text,
 //! with what came in place of what is wanted, is the text that it was.
 
 mod running;
@@ -32,7 +32,7 @@ pub trait Player {
     ///
     /// # Errors
     ///
-    /// `Unknown` for a subject that is not known: no line of the row is played then. `Memory` where
+    /// `Unknown` for a subject that is not known: no line of the row is played then. `Memory` if
     /// memory runs out.
     fn begin(&mut self, alloc: Global, subject: &str) -> Result<(), WordsFault>;
 
@@ -40,7 +40,7 @@ pub trait Player {
     ///
     /// # Errors
     ///
-    /// `Unknown` where the words say nothing to do. `Memory` where memory runs out.
+    /// `Unknown` if the words say nothing to do. `Memory` if memory runs out.
     fn play(&mut self, alloc: Global, words: &str, came: &mut String) -> Result<(), WordsFault>;
 }
 
@@ -50,7 +50,7 @@ pub struct Played {
     /// How many rows there are.
     pub rows: u64,
     /// Their text, line by line, with what came of a line in place of what is wanted of it. After a
-    /// line that says nothing to do stands `> ? not understood`.
+    /// line that says nothing to do is `> ? not understood`.
     pub came: String,
     /// Of each row that came otherwise its number, its heading, and the first line that did.
     pub others: String,
@@ -60,7 +60,7 @@ pub struct Played {
 ///
 /// # Errors
 ///
-/// `Memory` where memory runs out.
+/// `Memory` if memory runs out.
 pub fn play_rows<P: Player>(
     alloc: Global,
     player: &mut P,
@@ -105,7 +105,7 @@ struct Row {
 }
 
 impl Row {
-    // What stands before the first row.
+    // What is before the first row.
     fn new(alloc: Global) -> Row {
         Row {
             number: 0,

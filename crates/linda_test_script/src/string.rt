@@ -5,11 +5,11 @@ use linda_text::read_atom_at;
 use linda_tuple::Atom;
 use std::alloc::Global;
 
-/// The string that stands at this place of the words, and the place after it.
+/// The string that is at this place of the words, and the place after it.
 ///
 /// # Errors
 ///
-/// `Unknown` where no string stands there; `Memory` where memory runs out.
+/// `Unknown` if no string is there; `Memory` if memory runs out.
 pub fn string_at(alloc: Global, words: &str, at: usize) -> Result<(String, usize), WordsFault> {
     let (atom, behind) = read_atom_at(alloc, words, at)?;
     match atom {

@@ -1,4 +1,4 @@
-//! Which bank stands on which disk, read back from both.
+//! Banks of two disks: which one is in use, read back from both.
 
 use crate::stand::{Kept, kept_in};
 use linda_bag::IndexBag;
@@ -12,16 +12,15 @@ pub type Banked = (u64, usize, Kept);
 /// The banks on two disks.
 #[derive(Clone, Copy, Debug, PartialEq, Eq)]
 pub struct Banks {
-    /// Whether the one in use stands on the right disk.
+    /// Whether the one in use is on the right disk.
     pub is_right: bool,
     /// The one in use.
     pub in_use: Banked,
-    /// The one on the other disk, read by itself; none where no bank is there.
+    /// The one on the other disk, read by itself; none if no bank is there.
     pub other: Option<Banked>,
 }
 
-/// The banks on these disks, as a server that is opened on them finds them; none where it finds
-/// none.
+/// The banks on these disks, as a server that is opened on them finds them; none if it finds none.
 pub fn banks_on(alloc: Global, disks: (MemDisk, MemDisk), limit: usize) -> Option<Banks> {
     let (left, right) = disks;
     let (is_right, in_use, other) = chosen(alloc, left, right, limit)?;
@@ -32,7 +31,7 @@ pub fn banks_on(alloc: Global, disks: (MemDisk, MemDisk), limit: usize) -> Optio
     })
 }
 
-// The bank on this disk alone.
+// The bank on this disk, by itself.
 fn bank_on(alloc: Global, disk: MemDisk, limit: usize) -> Option<Banked> {
     let (_, bank, _) = chosen(alloc, disk, MemDisk::new(alloc), limit)?;
     Some(bank)

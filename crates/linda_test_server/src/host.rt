@@ -1,4 +1,4 @@
-//! What tests ask of the server that sessions share.
+//! Hosts of tests: what these ask of the server that sessions share.
 //!
 //! A test speaks to a host, whatever that is made of; here alone it is a `Shared` over disks in
 //! memory, so that the prover goes through its parts in few places.
@@ -33,7 +33,7 @@ pub trait Host<S, O>: Drop {
     /// Greets with a message.
     fn greet<R: Wait>(&self, rt: &R, hello: &Message) -> Result<Welcome<S, O>, SharedFault>;
 
-    /// Submits a message, and gives its receipt where it was a deed.
+    /// Submits a message, and gives its receipt if it was a deed.
     fn submit<R: Wait>(
         &self,
         rt: &R,

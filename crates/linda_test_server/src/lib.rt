@@ -3,8 +3,7 @@
 //!
 //! `play` plays a test's `Scene` over a new server, as a `Stand` says, that it speaks to as a
 //! `Host`; `shared_on` makes that server. `words` has the messages that tests send;
-//! `kept_after_crash` says what is there after a stop, and
-//! `banks_on` which bank stands on which disk.
+//! `kept_after_crash` says what is there after a stop, and `banks_on` which bank is on which disk.
 #![tactic(auto)]
 
 mod banks;

@@ -1,4 +1,4 @@
-//! What a test plays over a new server that sessions share, in one thread.
+//! Scenes that a test plays over a new server that sessions share, in one thread.
 
 ghost use Rattle.std.specs.Prelude.{◌≡◌};
 ghost use Rattle.linda_shared_accounts.specs.declared.limits.TheConstants.{PARTS};
@@ -19,7 +19,7 @@ pub trait Scene<R> {
     ///
     /// # Errors
     ///
-    /// `AllocError` where memory runs out.
+    /// `AllocError` if memory runs out.
     fn play<S: Drop, O: Drop, H: Host<S, O>>(
         &self,
         rt: &R,
@@ -32,7 +32,7 @@ pub trait Scene<R> {
 ///
 /// # Errors
 ///
-/// `AllocError` where memory runs out.
+/// `AllocError` if memory runs out.
 pub fn play<R, P: Scene<R>>(
     rt: &R,
     alloc: Global,

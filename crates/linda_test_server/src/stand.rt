@@ -38,7 +38,7 @@ pub const ROOMY: Stand = Stand {
 ///
 /// # Errors
 ///
-/// `AllocError` where memory runs out.
+/// `AllocError` if memory runs out.
 pub fn shared_on<L: Ledger>(
     alloc: Global,
     blank: Blank,
@@ -52,7 +52,7 @@ pub fn shared_on<L: Ledger>(
     }
 }
 
-// A new server. None where there is no memory for it.
+// A new server. None if there is no memory for it.
 fn made(alloc: Global, stand: Stand) -> Option<Durable<MemDisk>>
     ensures { IfSome result (λ s. s.down ≡ false) }
 {
@@ -76,8 +76,8 @@ pub(crate) fn kept_in(state: &State<IndexBag>) -> Kept {
     (state.next, state.bag.len(), state.book.len())
 }
 
-/// What the server keeps that stands on these disks after a crash that leaves so much of the left
-/// one; `None` where it cannot crash so, or none opens there.
+/// What the server keeps that is on these disks after a crash that leaves so much of the left one;
+/// `None` if it cannot crash so, or none opens there.
 pub fn kept_after_crash(
     alloc: Global,
     disks: (MemDisk, MemDisk),

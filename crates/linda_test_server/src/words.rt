@@ -10,7 +10,7 @@ fn text(alloc: Global, word: &str) -> Result<Atom, AllocError> {
     Ok(Atom::Text(Text::new(String::from_str(alloc, word)?)))
 }
 
-/// The greeting of a client, which knows of none before where it is fresh.
+/// The greeting of a client, which knows of none before if it is fresh.
 pub fn hello(client: u32, fresh: bool) -> Message {
     Message::Hello {
         version: VERSION,
@@ -23,7 +23,7 @@ pub fn hello(client: u32, fresh: bool) -> Message {
 ///
 /// # Errors
 ///
-/// `AllocError` where memory runs out.
+/// `AllocError` if memory runs out.
 pub fn put(alloc: Global, n: u64, word: &str, number: i64) -> Result<Message, AllocError> {
     let mut fields = Vec::new(alloc);
     fields.push(Atom::Int(number))?;
@@ -37,7 +37,7 @@ pub fn put(alloc: Global, n: u64, word: &str, number: i64) -> Result<Message, Al
 ///
 /// # Errors
 ///
-/// `AllocError` where memory runs out.
+/// `AllocError` if memory runs out.
 pub fn ask(
     alloc: Global,
     ticket: u64,
@@ -68,7 +68,7 @@ pub fn number_in(tuple: &Tuple) -> Option<i64> {
 ///
 /// # Errors
 ///
-/// `AllocError` where it is refused, or memory runs out.
+/// `AllocError` if it is refused, or memory runs out.
 pub fn seated<S: Drop, O: Drop, H: Host<S, O>, R: Wait>(
     rt: &R,
     host: &H,

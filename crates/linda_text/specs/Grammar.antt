@@ -16,23 +16,23 @@ use Rattle.linda_text.specs.Letters.{is_blank, is_special, escaped, truth_word}
 use Rattle.linda_text.specs.Letters.{int_word, text_word, bool_word, any_word}
 use Rattle.linda_text.specs.declared.marks.TheConstants as mark
 
--- Spaces and tabs, or nothing: what may stand between tokens.
+-- Spaces and tabs, or nothing: what may be between tokens.
 abbrev pub AreBlanks : List ℕ → Type 0
 AreBlanks bytes = AllByRecursion (λ b. is_blank b ≡ true) bytes
 
--- A byte that stands as itself: any that is not special. The bytes of a character beyond ASCII are
--- never special, so such a character stands as itself; so do tabs and control characters.
+-- A byte that is written as itself: any that is not special. The bytes of a character beyond ASCII
+-- are never special, so such a character is written as itself; so are tabs and control characters.
 abbrev pub IsPlain : ℕ → List ℕ → Type 0
 IsPlain b form = (is_special b ≡ false) × (form ≡ b ∷ [])
 
--- A byte that stands as an escape: a backslash, and the letter that represents the byte.
+-- A byte that is written as an escape: a backslash, and the letter that represents the byte.
 abbrev pub IsEscape : ℕ → List ℕ → Type 0
 IsEscape b form = (e : ℕ) × (escaped e ≡ Some b) × (form ≡ mark.BACKSLASH ∷ e ∷ [])
 
 abbrev pub IsForm : ℕ → List ℕ → Type 0
 IsForm b form = IsPlain b form ⊎ IsEscape b form
 
--- What stands between the quotes of a string: each of its bytes in one of its forms.
+-- What is between the quotes of a string: each of its bytes in one of its forms.
 abbrev pub IsContent : List ℕ → List ℕ → Type 0
 IsContent [] text = text ≡ []
 IsContent (b ∷ bytes) text =
@@ -54,7 +54,7 @@ IsPatternText patterns.TextFormal text = text ≡ text_word
 IsPatternText patterns.BoolFormal text = text ≡ bool_word
 IsPatternText patterns.Any text = text ≡ any_word
 
--- No digit stands at the front: where one does, the digits of an integer before it go on.
+-- No digit is at the front: if one is, the digits of an integer before it go on.
 abbrev pub EndsNumeral : List ℕ → Type 0
 EndsNumeral [] = Unit {0}
 EndsNumeral (b ∷ rest) = is_ascii_digit b ≡ false
@@ -84,8 +84,7 @@ IsTupleText tuple text = IsRowText IsAtomText tuple.tag tuple.fields text
 abbrev pub IsTemplateText : Template → List ℕ → Type 0
 IsTemplateText template text = IsRowText IsPatternText template.tag template.fields text
 
--- A text of the value stands at the front, after blanks or none, and these are the bytes after
--- it.
+-- A text of the value is at the front, after blanks or none, and these are the bytes after it.
 abbrev pub Stands : {A : Type 0} → (A → List ℕ → Type 0) → A → List ℕ → List ℕ → Type 0
 Stands IsText a bytes rest =
     (blanks text : List ℕ) × AreBlanks blanks × IsText a text × (bytes ≡ blanks ++ (text ++ rest))
@@ -104,11 +103,11 @@ IsTupleAlone bytes tuple = IsWithin tuple × IsAlone IsTupleText tuple bytes
 abbrev pub IsTemplateAlone : List ℕ → Template → Type 0
 IsTemplateAlone bytes template = IsWithinTemplate template × IsAlone IsTemplateText template bytes
 
--- A template within its limits stands from the offset on, and these are the bytes after it.
+-- A template within its limits is there from the offset on, and these are the bytes after it.
 abbrev pub IsTemplateAt : List ℕ → ℕ → Template → List ℕ → Type 0
 IsTemplateAt bytes at template rest =
     IsWithinTemplate template × Stands IsTemplateText template (drop at bytes) rest
 
--- An atom within its limits stands from the offset on, and these are the bytes after it.
+-- An atom within its limits is there from the offset on, and these are the bytes after it.
 abbrev pub IsAtomAt : List ℕ → ℕ → Atom → List ℕ → Type 0
 IsAtomAt bytes at atom rest = IsSound atom × Stands IsAtomText atom (drop at bytes) rest

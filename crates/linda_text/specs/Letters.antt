@@ -1,4 +1,4 @@
--- The bytes that texts are made of: blanks, marks, and what stands after a backslash.
+-- The bytes that texts are made of: blanks, marks, and what is after a backslash.
 use Rattle.std.specs.Prelude.{ℕ, Bool, true, false, ◌==◌, ◌||◌, List, [], ◌∷◌}
 use Rattle.std.specs.Prelude.{Option, Some, None, if◌then◌else◌}
 use Rattle.std.specs.Str.Parse.{true_text, false_text}
@@ -8,7 +8,8 @@ use Rattle.linda_text.specs.declared.marks.TheConstants as mark
 abbrev pub is_blank : ℕ → Bool
 is_blank b = b == mark.SPACE || b == mark.TAB
 
--- What may not stand as itself in a string: a quote, a backslash, a line feed, a carriage return.
+-- What may not be written as itself in a string: a quote, a backslash, a line feed, a carriage
+-- return.
 abbrev pub is_special : ℕ → Bool
 is_special b =
     b == mark.QUOTE || b == mark.BACKSLASH || b == mark.LINE_FEED || b == mark.CARRIAGE_RETURN

@@ -6,7 +6,7 @@ use Rattle.linda_text.specs.declared.fault.TextFault.TheVariants.{TooManyFields,
 use Rattle.linda_text.specs.declared.fault.TextFault.TheVariants.{NumberRange}
 use Rattle.linda_text.specs.Steps.{Read, Reader}
 
--- A fault given by its offset, where so many bytes were there in all.
+-- A fault given by its offset, if so many bytes were there in all.
 abbrev pub placed : ℕ → TextFault → TextFault
 placed n Memory = Memory
 placed n (SyntaxAt left) = SyntaxAt (n - left)

@@ -1,4 +1,4 @@
--- What the readers give: the value, or the first fault from the left.
+-- Reading of a text: the value, or the first fault from the left.
 use Rattle.std.specs.Prelude.{ℕ, zero, suc, ◌^◌, ◌==◌, ◌&&◌, ℤ, pos, neg_ℤ, Bool, true, false, not}
 use Rattle.std.specs.Prelude.{nat_lt}
 use Rattle.std.specs.Prelude.{List, [], ◌∷◌, length, take, drop, if◌then◌else◌}
@@ -47,7 +47,7 @@ named a word bytes = word_at word bytes >>= λ rest. Ok (a, rest)
 
 -- ---- numbers
 
--- How many decimal digits stand at the front.
+-- How many decimal digits are at the front.
 unfoldable pub digit_count : List ℕ → ℕ
 digit_count [] = 0
 digit_count (b ∷ rest) = if is_ascii_digit b then suc (digit_count rest) else 0
@@ -72,7 +72,7 @@ positive_at bytes = do
   number ← number_of (take len bytes)
   Ok (number, drop len bytes)
 
--- A number without a sign: a 0 alone, or digits that do not begin with 0.
+-- A number without a sign: a single 0, or digits that do not begin with 0.
 unfoldable pub natural_at : Reader ℕ
 natural_at [] = wrong []
 natural_at (b ∷ rest) = if b == mark.ZERO then Ok (0, rest) else positive_at (b ∷ rest)
@@ -122,8 +122,8 @@ abbrev pub with_escape : Option ℕ → Read (List ℕ) → Read (List ℕ) → 
 with_escape None fault read = fault
 with_escape (Some b) fault read = with_byte b read
 
--- What a string says whose quote was opened, up to its closing quote; in an escape, a backslash
--- stands before the first byte.
+-- What a string says whose quote was opened, up to its closing quote; in an escape, a backslash is
+-- before the first byte.
 unfoldable pub content_at : Bool → Reader (List ℕ)
 content_at in_escape [] = wrong []
 content_at true (e ∷ rest) =
@@ -187,7 +187,7 @@ more_at (b ∷ rest) =
     if b == mark.COMMA then Ok (true, rest)
     else (if b == mark.CLOSING then Ok (false, rest) else wrong (b ∷ rest))
 
--- The closing parenthesis, where no more fields may follow.
+-- The closing parenthesis, if no more fields may follow.
 unfoldable pub no_more_at : List ℕ → Result (List ℕ) TextFault
 no_more_at bytes =
     more_at (after_blanks bytes) >>= λ more. if more.0 then Err TooManyFields else Ok more.1

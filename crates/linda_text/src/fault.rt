@@ -1,4 +1,4 @@
-//! Why a text could not be read.
+//! Faults of a text.
 
 ghost use Rattle.std.specs.Prelude.{◌≡◌};
 ghost use Rattle.linda_text.specs.declared.fault.TextFault.TheVariants.{Memory};
@@ -16,7 +16,7 @@ pub enum TextFault {
     /// its offset in bytes; of `split_..` and `skip_..` it counts the bytes from there to the end.
     #[error("no text goes on at {0}")]
     SyntaxAt(usize),
-    /// A comma stands after the 32nd field.
+    /// A comma comes after the 32nd field.
     #[error("more than 32 fields")]
     TooManyFields,
     /// A string says more than 4,095 bytes.

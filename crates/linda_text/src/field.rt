@@ -13,7 +13,7 @@ use crate::marks::{CLOSING, COMMA};
 use linda_tuple::MAX_FIELDS;
 use std::alloc::Global;
 
-/// What a field may be: an atom in a tuple, a pattern in a template. No blanks stand before it.
+/// What a field may be: an atom in a tuple, a pattern in a template. No blanks are before it.
 pub(crate) trait Field: Drop {
     ghost reading: { Reader Self };
 
@@ -64,7 +64,7 @@ pub(crate) fn skip_fields<F: Field>(bytes: &[u8]) -> Result<&[u8], TextFault>
     read_no_more(rest)
 }
 
-// Whether a comma stands after the blanks, or the closing parenthesis; and the bytes after it.
+// Whether a comma is after the blanks, or the closing parenthesis; and the bytes after it.
 #[tactic(auto, unfolding(crate::specs::Reading::more_at))]
 fn read_more(bytes: &[u8]) -> Result<(bool, &[u8]), TextFault>
     ensures { GivesAlways (λ x. (x.0, x.1.now)) result (more_at (after_blanks bytes.now)) }
@@ -78,7 +78,7 @@ fn read_more(bytes: &[u8]) -> Result<(bool, &[u8]), TextFault>
     }
 }
 
-// The bytes after the closing parenthesis, where no more fields may follow.
+// The bytes after the closing parenthesis, if no more fields may follow.
 #[tactic(auto, unfolding(crate::specs::Reading::no_more_at))]
 fn read_no_more(bytes: &[u8]) -> Result<&[u8], TextFault>
     ensures { GivesAlways (λ rest. rest.now) result (no_more_at bytes.now) }

@@ -4,13 +4,13 @@
 /// A blank.
 pub const SPACE: u8 = b' ';
 
-/// A blank; in a string, it stands as itself or as an escape.
+/// A blank; in a string, it is written as itself or as an escape.
 pub const TAB: u8 = b'\t';
 
-/// In a string, it stands as an escape alone.
+/// In a string, it is written only as an escape.
 pub const LINE_FEED: u8 = b'\n';
 
-/// In a string, it stands as an escape alone.
+/// In a string, it is written only as an escape.
 pub const CARRIAGE_RETURN: u8 = b'\r';
 
 /// Before a string and after it.
@@ -40,7 +40,7 @@ pub const COMMA: u8 = b',';
 /// Before the digits of an integer below 0.
 pub const MINUS: u8 = b'-';
 
-/// The first digit of 0 alone.
+/// The only digit of 0.
 pub const ZERO: u8 = b'0';
 
 /// The greatest digit.

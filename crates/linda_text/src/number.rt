@@ -14,8 +14,8 @@ use crate::marks::ZERO;
 ///
 /// # Errors
 ///
-/// `SyntaxAt` with the count of bytes left where no digit stands at the front; `NumberRange` where
-/// the number needs more than 64 bits.
+/// `SyntaxAt` with the count of bytes left if no digit is at the front; `NumberRange` if the number
+/// needs more than 64 bits.
 #[tactic(auto, unfolding(crate::specs::Reading::natural_at))]
 pub fn split_number(bytes: &[u8]) -> Result<(u64, &[u8]), TextFault>
     ensures { GivesAlways (λ x. (x.0, x.1.now)) result (natural_at bytes.now) }
@@ -56,7 +56,7 @@ fn positive_len(bytes: &[u8]) -> Result<usize, TextFault>
     }
 }
 
-// How many digits stand at the front.
+// How many digits are at the front.
 #[tactic(auto, unfolding(crate::specs::Reading::digit_count))]
 fn digit_count(bytes: &[u8]) -> usize
     ensures value { result ≡ digit_count bytes.now }

@@ -1,5 +1,4 @@
-//! Readers of what stands in a text from an offset on, which give the value and the offset after
-//! it.
+//! Readers of what is in a text from an offset on, which give the value and the offset after it.
 //!
 //! A text is judged first, which takes no memory; then the value is made. So every fault is
 //! returned before `Memory`.
@@ -18,26 +17,26 @@ use crate::row::{skip_template, split_spaced_atom, split_template};
 use linda_tuple::{Atom, Template};
 use std::alloc::Global;
 
-/// The template that stands from the offset on, after blanks or none, and the offset of the byte
+/// The template that is there from the offset on, after blanks or none, and the offset of the byte
 /// after it. Past the end there are no bytes.
 ///
 /// # Errors
 ///
-/// The first fault from the left; `Memory` where a template stands there and finds none.
+/// The first fault from the left; `Memory` if a template is there and finds none.
 pub fn read_template_at(
     alloc: Global,
     text: &str,
     at: usize,
 ) -> Result<(Template, usize), TextFault>
-    // What is read stands there, and ends within the text.
+    // What is read is there, and ends within the text.
     ensures found { IfOk result (λ x. IsTemplateAt text.now at x.0 (drop x.1 text.now)) }
     ensures within { IfOk result (λ x. x.1 ≤ length text.now) }
-    // What stands there is read, unless memory runs out.
+    // What is there is read, unless memory runs out.
     ensures only { (template : Template) (rest : List ℕ) → IsTemplateAt text.now at template rest
         → Gives (λ x. x) result (Ok (template, length text.now - length rest)) }
     // Which fault it is, and where.
     ensures exact { Gives (λ x. x) result (read_at template_at text.now at) }
-    // Memory runs out only where a template stands there.
+    // Memory runs out only if a template is there.
     ensures memory { IsErrOf result TextFault.Memory
         → (template : Template) × (rest : List ℕ) × IsTemplateAt text.now at template rest }
 {
@@ -47,24 +46,23 @@ pub fn read_template_at(
     }
 }
 
-/// The atom that stands from the offset on, after blanks or none, and the offset of the byte
+/// The atom that is there from the offset on, after blanks or none, and the offset of the byte
 /// after it. Past the end there are no bytes.
 ///
 /// # Errors
 ///
-/// The first fault from the left; `Memory` where an atom stands there that is a string and finds
-/// none.
+/// The first fault from the left; `Memory` if an atom is there that is a string and finds none.
 pub fn read_atom_at(alloc: Global, text: &str, at: usize) -> Result<(Atom, usize), TextFault>
-    // What is read stands there, and ends within the text.
+    // What is read is there, and ends within the text.
     ensures found { IfOk result (λ x. IsAtomAt text.now at x.0 (drop x.1 text.now)) }
     ensures within { IfOk result (λ x. x.1 ≤ length text.now) }
-    // What stands there, with no digit after it, is read, unless memory runs out.
+    // What is there, with no digit after it, is read, unless memory runs out.
     ensures only { (atom : atoms.Atom) (rest : List ℕ) → IsAtomAt text.now at atom rest
         → EndsNumeral rest
         → Gives (λ x. x) result (Ok (atom, length text.now - length rest)) }
     // Which fault it is, and where.
     ensures exact { Gives (λ x. x) result (read_at spaced_atom_at text.now at) }
-    // Memory runs out only where an atom stands there.
+    // Memory runs out only if an atom is there.
     ensures memory { IsErrOf result TextFault.Memory
         → (atom : atoms.Atom) × (rest : List ℕ) × IsAtomAt text.now at atom rest }
 {
@@ -95,7 +93,7 @@ fn tail(text: &str, at: usize) -> &[u8]
 }
 
 impl TextFault {
-    /// The fault given by its offset, where it counts the bytes left of so many.
+    /// The fault given by its offset, if it counts the bytes left of so many.
     pub fn placed(self, len: usize) -> TextFault
         ensures value { result ≡ placed len self }
         ensures memory { result ≡ TextFault.Memory → self ≡ TextFault.Memory }

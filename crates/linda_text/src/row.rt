@@ -61,8 +61,8 @@ pub fn skip_template(bytes: &[u8]) -> Result<&[u8], TextFault>
 ///
 /// # Errors
 ///
-/// The first fault from the left, given by the count of bytes left; `Memory` where an atom stands
-/// there that is a string and finds none.
+/// The first fault from the left, given by the count of bytes left; `Memory` if an atom is there
+/// that is a string and finds none.
 #[tactic(auto, unfolding(crate::specs::Reading::spaced_atom_at))]
 pub fn split_spaced_atom(alloc: Global, bytes: &[u8]) -> Result<(Atom, &[u8]), TextFault>
     ensures value { Gives (λ x. (x.0, x.1.now)) result (spaced_atom_at bytes.now) }

@@ -1,7 +1,7 @@
-//! Strings between quotes: each character stands as itself or as an escape.
+//! Strings between quotes: each character is written as itself or as an escape.
 //!
 //! A string is judged first, which takes no memory, and then read into room for as many bytes as it
-//! says. Whether it says UTF-8 is judged by its bytes as they stand: an escape is of ASCII and
+//! says. Whether it says UTF-8 is judged by its bytes as they are: an escape is of ASCII and
 //! represents a byte of ASCII, and each other byte represents itself.
 
 ghost use Rattle.std.specs.Prelude.{◌≡◌, ◌<◌, false, length, IfOk, IsOk, IsErrOf};
@@ -115,7 +115,7 @@ fn read_said(bytes: &[u8]) -> Result<(Option<u8>, &[u8]), TextFault>
     }
 }
 
-// What stands after a backslash.
+// What is after a backslash.
 #[tactic(auto, unfolding(crate::specs::Reading::escape_at))]
 fn read_escape(bytes: &[u8]) -> Result<(Option<u8>, &[u8]), TextFault>
     ensures value { GivesAlways (λ x. (x.0, x.1.now)) result (escape_at bytes.now) }

@@ -21,16 +21,16 @@ use std::alloc::Global;
 ///
 /// # Errors
 ///
-/// The first fault from the left; `Memory` where a tuple stands there and finds none.
+/// The first fault from the left; `Memory` if a tuple is there and finds none.
 pub fn read_tuple(alloc: Global, text: &str) -> Result<Tuple, TextFault>
-    // What is read stands there.
+    // What is read is there.
     ensures found { IfOk result (IsTupleAlone text.now) }
-    // What stands there is read, unless memory runs out: so a text is refused only where none does.
+    // What is there is read, unless memory runs out: so a text is refused only if none is there.
     ensures only { (tuple : Tuple) → IsTupleAlone text.now tuple
         → Gives (λ t. t) result (Ok tuple) }
     // Which fault it is, and where.
     ensures exact { Gives (λ t. t) result (told (length text.now) (only_of (tuple_at text.now))) }
-    // Memory runs out only where a tuple stands there.
+    // Memory runs out only if a tuple is there.
     ensures memory { IsErrOf result TextFault.Memory
         → (tuple : Tuple) × IsTupleAlone text.now tuple }
 {
@@ -44,17 +44,17 @@ pub fn read_tuple(alloc: Global, text: &str) -> Result<Tuple, TextFault>
 ///
 /// # Errors
 ///
-/// The first fault from the left; `Memory` where a template stands there and finds none.
+/// The first fault from the left; `Memory` if a template is there and finds none.
 pub fn read_template(alloc: Global, text: &str) -> Result<Template, TextFault>
-    // What is read stands there.
+    // What is read is there.
     ensures found { IfOk result (IsTemplateAlone text.now) }
-    // What stands there is read, unless memory runs out: so a text is refused only where none does.
+    // What is there is read, unless memory runs out: so a text is refused only if none is there.
     ensures only { (template : Template) → IsTemplateAlone text.now template
         → Gives (λ t. t) result (Ok template) }
     // Which fault it is, and where.
     ensures exact { Gives (λ t. t) result
         (told (length text.now) (only_of (template_at text.now))) }
-    // Memory runs out only where a template stands there.
+    // Memory runs out only if a template is there.
     ensures memory { IsErrOf result TextFault.Memory
         → (template : Template) × IsTemplateAlone text.now template }
 {

@@ -1,4 +1,4 @@
-//! Words and marks that stand as they are.
+//! Words and marks that are written as they are.
 
 ghost use Rattle.std.specs.Prelude.{◌≡◌};
 ghost use Rattle.linda_text.specs.Reading.{word_at};
@@ -10,8 +10,8 @@ use crate::fault::TextFault;
 ///
 /// # Errors
 ///
-/// `SyntaxAt` with the count of bytes left from the first wrong one on, or 0 where the bytes end
-/// too early.
+/// `SyntaxAt` with the count of bytes left from the first wrong one on, or 0 if the bytes end too
+/// early.
 #[tactic(auto, unfolding(crate::specs::Reading::word_at))]
 pub fn skip_word<'a>(bytes: &'a [u8], word: &[u8]) -> Result<&'a [u8], TextFault>
     ensures { GivesAlways (λ rest. rest.now) result (word_at word.now bytes.now) }

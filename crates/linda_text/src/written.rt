@@ -11,11 +11,11 @@ ghost use Rattle.linda_text.specs.Written.{written_template, IsWrittenBehind};
 use linda_tuple::{Atom, Pattern, Template, Tuple};
 use std::alloc::{AllocError, Global};
 
-/// The text of the tuple, with `, ` between what stands in it and no other blanks.
+/// The text of the tuple, with `, ` between what is in it and no other blanks.
 ///
 /// # Errors
 ///
-/// `AllocError` where memory runs out.
+/// `AllocError` if memory runs out.
 pub fn write_tuple(alloc: Global, tuple: &Tuple) -> Result<String, AllocError>
     ensures { IfOk result (λ s. string_bytes s ≡ written_tuple tuple.now) }
 {
@@ -28,7 +28,7 @@ pub fn write_tuple(alloc: Global, tuple: &Tuple) -> Result<String, AllocError>
 ///
 /// # Errors
 ///
-/// `AllocError` where memory runs out.
+/// `AllocError` if memory runs out.
 pub fn write_atom(alloc: Global, atom: &Atom) -> Result<String, AllocError>
     ensures { IfOk result (λ s. string_bytes s ≡ written_atom atom.now) }
 {
@@ -37,11 +37,11 @@ pub fn write_atom(alloc: Global, atom: &Atom) -> Result<String, AllocError>
     Ok(out)
 }
 
-/// Appends the text of the template, with `, ` between what stands in it and no other blanks.
+/// Appends the text of the template, with `, ` between what is in it and no other blanks.
 ///
 /// # Errors
 ///
-/// `AllocError` where memory runs out; a part of the text may then stand there.
+/// `AllocError` if memory runs out; a part of the text may then be there.
 pub fn push_template(out: &mut String, template: &Template) -> Result<(), AllocError>
     ensures { OnOk result (IsWrittenBehind out.old out.new (written_template template.now)) }
 {
@@ -52,7 +52,7 @@ pub fn push_template(out: &mut String, template: &Template) -> Result<(), AllocE
 ///
 /// # Errors
 ///
-/// `AllocError` where memory runs out; a part of the text may then stand there.
+/// `AllocError` if memory runs out; a part of the text may then be there.
 pub fn push_atom(out: &mut String, atom: &Atom) -> Result<(), AllocError>
     ensures { OnOk result (IsWrittenBehind out.old out.new (written_atom atom.now)) }
 {
@@ -85,7 +85,7 @@ fn push_fields<F: Written>(out: &mut String, fields: &[F]) -> Result<(), AllocEr
     Ok(())
 }
 
-// What stands in a row: an atom in a tuple, a pattern in a template.
+// What is in a row: an atom in a tuple, a pattern in a template.
 trait Written {
     ghost written: { Self → List ℕ };
 

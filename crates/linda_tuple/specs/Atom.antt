@@ -15,7 +15,7 @@ IsSoundIn form (atoms.Int n) = FitsSigned w64 n
 IsSoundIn form (atoms.Text t) = (length t ≤ longest_text form) × (is_utf8 t ≡ true)
 IsSoundIn form (atoms.Bool b) = Unit {0}
 
--- An atom that may stand in a tuple: the second form has a spelling for it.
+-- An atom that may be in a tuple: the second form has a spelling for it.
 abbrev pub IsSound : Atom → Type 0
 IsSound atom = IsSoundIn Two atom
 

@@ -1,4 +1,4 @@
--- How an atom, a row, a pattern and a shape are stored where a model's value holds one.
+-- Codes of an atom, a row, a pattern and a shape, for a model's value that holds one.
 use Rattle.std.specs.Prelude.{◌≡◌, ℕ, ℤ, ◌⊎◌, Bool, true, false, List, refl}
 use Rattle.std.specs.Coded.{Coded, code_by, coded×, coded⊎, coded_ℕ, coded_ℤ, coded_bool}
 use Rattle.std.specs.Coded.{coded_list}

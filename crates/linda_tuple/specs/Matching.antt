@@ -1,4 +1,4 @@
--- What a template matches, and what a match binds.
+-- Matches of a template, and what a match binds.
 use Rattle.std.specs.Prelude.{IsTrue, Bool, true, false, ◌&&◌, List, [], ◌∷◌, map, filter, zip}
 use Rattle.linda_tuple.specs.declared.atom.Atom.{Atom}
 use Rattle.linda_tuple.specs.declared.pattern.Pattern.{Pattern}

@@ -1,4 +1,4 @@
--- Whether two values are equal, as tests: what `==` computes.
+-- Equality of two values as tests: what `==` computes.
 use Rattle.std.specs.Prelude.{◌≡◌, Bool, true, false, refl}
 use Rattle.std.specs.Bool.{Decides}
 use Rattle.std.specs.Cmp.{IsEquivalence, booleans_Decides, decided, and_equiv, on_equiv}
@@ -112,7 +112,7 @@ same_pattern-decides patterns.Any patterns.TextFormal = never (λ e. cc)
 same_pattern-decides patterns.Any patterns.BoolFormal = never (λ e. cc)
 same_pattern-decides patterns.Any patterns.Any = ((λ e. refl), (λ p. refl))
 
--- Tuples are equal where their tags and their fields are.
+-- Tuples are equal if their tags and their fields are.
 pub same_tuple-decides : (a b : Tuple) → Decides (same_tuple a b) (a ≡ b)
 same_tuple-decides a b =
     Decides-like (same_tuple a b) (λ both i. record { tag = both.0 i; fields = both.1 i })

@@ -21,7 +21,7 @@ IsSoundPatternIn form patterns.TextFormal = Unit {0}
 IsSoundPatternIn form patterns.BoolFormal = Unit {0}
 IsSoundPatternIn form patterns.Any = Unit {0}
 
--- A pattern that may stand in a template: the second form has a spelling for it.
+-- A pattern that may be in a template: the second form has a spelling for it.
 abbrev pub IsSoundPattern : Pattern → Type 0
 IsSoundPattern pattern = IsSoundPatternIn Two pattern
 

@@ -29,7 +29,7 @@ impl Atom {
         }
     }
 
-    /// Whether the atom may stand in a tuple: any atom but a text of more than 4,095 bytes.
+    /// Whether the atom may be in a tuple: any atom but a text of more than 4,095 bytes.
     pub fn is_sound(&self) -> bool
         ensures { IsTrue result ↔ IsSound self.now }
     {

@@ -1,4 +1,4 @@
-//! Why a value is refused.
+//! Faults of a value.
 
 use thiserror::Error;
 

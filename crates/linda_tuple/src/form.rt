@@ -10,10 +10,10 @@ use crate::tuple::Tuple;
 /// How values are spelled in bytes.
 #[derive(Clone, Copy, Debug, PartialEq, Eq)]
 pub enum Form {
-    /// A text stands after a length of one byte. Texts have at most 255 bytes, and at most 16
-    /// fields follow a tag.
+    /// A text comes after a length of one byte. Texts have at most 255 bytes, and at most 16 fields
+    /// follow a tag.
     One,
-    /// A text stands after a length of two bytes. Every tuple and every template has a spelling.
+    /// A text comes after a length of two bytes. Every tuple and every template has a spelling.
     Two,
 }
 

@@ -2,9 +2,9 @@
 //!
 //! A tuple is a tag and at most 32 fields; each of them is a 64-bit integer, a text of at most
 //! 4,095 bytes of UTF-8, or a truth value. A template has patterns in place of the fields. Every
-//! `Tuple` and every `Template` keeps these limits, so whoever holds one need not test them again.
-//! `matches` says which tuples a template asks for, and `bindings` what its formals bind there.
-//! A `Form` is one of the two ways to spell values in bytes, and `fits` says whether a tuple has a
+//! `Tuple` and every `Template` keeps these limits, so those who have one need not test them again.
+//! `matches` says which tuples a template asks for, and `bindings` what its formals bind there. A
+//! `Form` is one of the two ways to spell values in bytes, and `fits` says whether a tuple has a
 //! spelling in one.
 //!
 //! Contracts see a text as its bytes, a tuple as the `Tuple` of `specs/Tuple` and a template as the

@@ -1,4 +1,4 @@
-//! How large a value may be.
+//! Limits of values.
 
 /// The longest text of a tuple or a template, in bytes.
 pub const MAX_TEXT: usize = 4095;

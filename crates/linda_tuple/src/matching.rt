@@ -1,4 +1,4 @@
-//! Which tuples a template matches, and what it binds there.
+//! Matches of a template, and what it binds there.
 
 ghost use Rattle.std.specs.Prelude.{◌≡◌, IfOk};
 ghost use Rattle.linda_tuple.specs.Matching.{Matches, are_fit, bindings_of, is_match};
@@ -35,7 +35,7 @@ fn all_fit(patterns: &[Pattern], atoms: &[Atom]) -> bool
 ///
 /// # Errors
 ///
-/// `AllocError` where memory runs out.
+/// `AllocError` if memory runs out.
 pub fn bindings(alloc: Global, template: &Template, tuple: &Tuple) -> Result<Vec<Atom>, AllocError>
     requires { Matches template.now tuple.now }
     ensures { IfOk result (λ v. v.items ≡ bindings_of template.now tuple.now) }

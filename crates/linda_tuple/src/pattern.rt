@@ -32,8 +32,8 @@ impl Pattern {
         }
     }
 
-    /// Whether the pattern may stand in a template: any but a value that is a text of more than
-    /// 4,095 bytes.
+    /// Whether the pattern may be in a template: any but a value that is a text of more than 4,095
+    /// bytes.
     pub fn is_sound(&self) -> bool
         ensures { IsTrue result ↔ IsSoundPattern self.now }
     {

@@ -36,13 +36,13 @@ impl Model for Template {
 }
 
 impl Template {
-    /// The template of a tag and patterns, which it keeps: no memory is taken. Where it is refused,
+    /// The template of a tag and patterns, which it keeps: no memory is taken. If it is refused,
     /// they are dropped.
     ///
     /// # Errors
     ///
-    /// `TooManyFields` where more than 32 patterns follow the tag, else `TextTooLong` where the tag
-    /// or a value among the patterns is a text of more than 4,095 bytes.
+    /// `TooManyFields` if more than 32 patterns follow the tag, else `TextTooLong` if the tag or a
+    /// value among the patterns is a text of more than 4,095 bytes.
     pub fn new(tag: Atom, fields: Vec<Pattern>) -> Result<Template, ValueFault>
         ensures made { IfOk result (λ t. t ≡ record { tag = tag; fields = fields.items }) }
         ensures within { IsOk result ↔ IsWithinTemplate

@@ -35,13 +35,13 @@ impl Model for Tuple {
 }
 
 impl Tuple {
-    /// The tuple of a tag and fields, which it keeps: no memory is taken. Where it is refused, they
+    /// The tuple of a tag and fields, which it keeps: no memory is taken. If it is refused, they
     /// are dropped.
     ///
     /// # Errors
     ///
-    /// `TooManyFields` where more than 32 fields follow the tag, else `TextTooLong` where the tag
-    /// or a field is a text of more than 4,095 bytes.
+    /// `TooManyFields` if more than 32 fields follow the tag, else `TextTooLong` if the tag or a
+    /// field is a text of more than 4,095 bytes.
     pub fn new(tag: Atom, fields: Vec<Atom>) -> Result<Tuple, ValueFault>
         ensures made { IfOk result (λ t. t ≡ record { tag = tag; fields = fields.items }) }
         ensures within { IsOk result ↔ IsWithin (record { tag = tag; fields = fields.items }) }
@@ -116,7 +116,7 @@ impl PartialEq for Tuple {
 
     ghost laws = { partial_equiv_from_equiv same_tuple-equiv };
 
-    // Tuples compare equal exactly where they are.
+    // Tuples compare equal exactly if they are.
     fn eq(&self, other: &Tuple) -> bool
         ensures test { result ≡ same_tuple self.now other.now }
         ensures exact { (result ≡ true) ↔ (self.now ≡ other.now) }

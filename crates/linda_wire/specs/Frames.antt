@@ -1,4 +1,4 @@
--- The formats of messages and replies, and the frames that they stand in.
+-- The formats of messages and replies, and the frames that they are in.
 use Rattle.std.specs.Prelude.{ℕ, Bool, List, [], ◌∷◌, ◌++◌, length, take}
 use Rattle.std.specs.Int.{w32, to_be_bytes, from_be_bytes}
 use Rattle.linda_tuple.specs.declared.form.Form.{Form}
@@ -101,7 +101,7 @@ message_kinds =
     ∷ (kind.ASK, made_at ask_of ask) ∷ (kind.ACCEPT, made_at accept_of accept)
     ∷ (kind.CANCEL, made_at cancel_of number) ∷ (kind.LEAVE, made_at leave_of number) ∷ []
 
--- What stands behind the kind byte of a message.
+-- What is after the kind byte of a message.
 abbrev pub message_body_at : ℕ → Reader Message
 message_body_at = body_at message_kinds no_kind
 
@@ -182,7 +182,7 @@ reply_kinds =
     ∷ (kind.TAKEN, made_at taken_of entry) ∷ (kind.GONE, made_at gone_of number)
     ∷ (kind.REFUSED, made_at refused_of refusal) ∷ (kind.LEFT, made_at left_of number) ∷ []
 
--- What stands behind the kind byte of a reply.
+-- What is after the kind byte of a reply.
 abbrev pub reply_body_at : ℕ → Reader Reply
 reply_body_at = body_at reply_kinds no_kind
 

@@ -31,7 +31,7 @@ code_of (TooManyAsks ticket) = TOO_MANY_ASKS
 code_of (Left last) = CLIENT_LEFT
 code_of NoHello = NO_HELLO
 
--- A refusal's detail; 0 where there is none.
+-- A refusal's detail; 0 if there is none.
 abbrev pub detail_of : Refusal → ℕ
 detail_of Version = VERSION
 detail_of (Known last) = last

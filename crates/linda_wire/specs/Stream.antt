@@ -1,4 +1,4 @@
--- What stands at the front of a stream of frames, for values of any format.
+-- Streams of frames: what is at the front of one, for values of any format.
 use Rattle.std.specs.Prelude.{◌≡◌, ◌≢◌, ℕ, suc, ◌+◌, ◌-◌, ◌<◌, ◌≤◌, List, [], ◌∷◌, ◌++◌, All}
 use Rattle.std.specs.Prelude.{length, take, drop, Option, Some, None, Result, Ok, Err, IsOk, nat_lt}
 use Rattle.std.specs.Prelude.{◌==◌, if◌then◌else◌}
@@ -24,7 +24,7 @@ use Rattle.linda_wire.specs.FrameLaws.{IsPayload}
 abbrev pub malformed_with : ℕ → ℕ → FrameFault
 malformed_with len left = Malformed (LENGTH_BYTES + len - left)
 
--- A fault of a value in a payload of so many bytes, as a fault of the frame; where the value is cut
+-- A fault of a value in a payload of so many bytes, as a fault of the frame; if the value is cut
 -- short it is reported at the frame's end.
 abbrev pub frame_fault : ℕ → ReadFault → FrameFault
 frame_fault len reading.Memory = Memory
@@ -40,7 +40,7 @@ abbrev pub with_no_rest : {A : Type 0} → ℕ → A → List ℕ → Result A F
 with_no_rest len value [] = Ok value
 with_no_rest len value (first ∷ rest) = Err (malformed_with len (suc (length rest)))
 
--- What was read from a payload of so many bytes, as what stands in a frame.
+-- What was read from a payload of so many bytes, as what is in a frame.
 abbrev pub in_frame : {A : Type 0} → ℕ → Read A → Result A FrameFault
 in_frame len (Ok x) = with_no_rest len x.0 x.1
 in_frame len (Err fault) = Err (frame_fault len fault)
@@ -54,13 +54,13 @@ pub record IsFramed {A : Type 0} (f : Format A) : Type 0 where
   pub lawful : IsFormat f
   pub sized : (value : A) → f.Fits value → IsPayload (f.spell value)
 
--- What the code returned is what stands there, unless memory ran out.
+-- What the code returned is what is there, unless memory ran out.
 abbrev pub GivesWhole : {A : Type 0} → Result A FrameFault → Result A FrameFault → Type 0
 GivesWhole (Ok value) there = there ≡ Ok value
 GivesWhole (Err fault) there = fault ≢ Memory → there ≡ Err fault
 
--- What the code returned says whether a value stands there, and which fault if not; it takes no
--- memory, so none can run out.
+-- What the code returned says whether a value is there, and which fault if not; it takes no memory,
+-- so none can run out.
 abbrev pub Judges : {U A : Type 0} → Result U FrameFault → Result A FrameFault → Type 0
 Judges (Ok unit) there = IsOk there
 Judges (Err fault) there = (fault ≢ Memory) × (there ≡ Err fault)
@@ -76,8 +76,8 @@ payload_len bytes =
     else if nat_lt (length bytes) (LENGTH_BYTES + told_length bytes) then Ok None
     else Ok (Some (told_length bytes))
 
--- What stands at the front of a stream: less than a whole frame, a value and the bytes after its
--- frame, or a fault.
+-- What is at the front of a stream: less than a whole frame, a value and the bytes after its frame,
+-- or a fault.
 pub data Front (A : Type 0) : Type 0 where
   Partial : Front A
   Whole : (value : A) → (rest : List ℕ) → Front A
@@ -88,39 +88,39 @@ abbrev pub front_with : {A : Type 0} → Result A FrameFault → List ℕ → Fr
 front_with (Ok value) rest = Whole value rest
 front_with (Err fault) rest = Broken fault
 
--- What stands at the front, the payload's length being known.
+-- What is at the front, the payload's length being known.
 abbrev pub front_by : {A : Type 0} → Format A → List ℕ → Result (Option ℕ) FrameFault → Front A
 front_by f bytes (Ok None) = Partial
 front_by f bytes (Ok (Some len)) =
     front_with (whole_of f (take len (drop LENGTH_BYTES bytes))) (drop (LENGTH_BYTES + len) bytes)
 front_by f bytes (Err fault) = Broken fault
 
--- What stands at the front of a stream of values of this format.
+-- What is at the front of a stream of values of this format.
 abbrev pub front : {A : Type 0} → Format A → List ℕ → Front A
 front f bytes = front_by f bytes (payload_len bytes)
 
--- What stands at the front of a stream of messages.
+-- What is at the front of a stream of messages.
 abbrev pub message_front : List ℕ → Front Message
 message_front = front message
 
--- What stands at the front of a stream of replies.
+-- What is at the front of a stream of replies.
 abbrev pub reply_front : List ℕ → Front Reply
 reply_front = front reply
 
--- A value stands at the front.
+-- A value is at the front.
 abbrev pub IsWhole : {A : Type 0} → Front A → Type 0
 IsWhole Partial = ⊥
 IsWhole (Whole value rest) = Unit {0}
 IsWhole (Broken fault) = ⊥
 
--- No value stands at the front.
+-- No value is at the front.
 abbrev pub HasNoValue : {A : Type 0} → Front A → Type 0
 HasNoValue Partial = Unit {0}
 HasNoValue (Whole value rest) = ⊥
 HasNoValue (Broken fault) = Unit {0}
 
--- The answer to a call for the next value: what stands at the front, which is taken off where it is
--- a value. A fault changes nothing, nor does `Memory`.
+-- The answer to a call for the next value: what is at the front, which is taken off if it is a
+-- value. A fault changes nothing, nor does `Memory`.
 abbrev pub Answers : {A : Type 0} → (List ℕ → Front A) → List ℕ → Result (Option A) FrameFault
     → List ℕ → Type 0
 Answers at_front old (Ok (Some value)) new = at_front old ≡ Whole value new
@@ -156,7 +156,7 @@ FaultsStay f =
     (bytes more : List ℕ) (fault : FrameFault) → front f bytes ≡ Broken fault
     → front f (bytes ++ more) ≡ Broken fault
 
--- Two lists of values, each before bytes with no value at their front: where all the bytes are the
+-- Two lists of values, each before bytes with no value at their front: if all the bytes are the
 -- same, so are the values and the bytes after them.
 abbrev pub HasOneReading : {A : Type 0} → Format A → Type 0
 HasOneReading {A = A} f =

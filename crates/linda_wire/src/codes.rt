@@ -24,8 +24,8 @@ pub const CLIENT_LEFT: u8 = 11;
 
 pub const NO_HELLO: u8 = 12;
 
-/// The detail of `NO_ROOM` where the server's store is full.
+/// The detail of `NO_ROOM` if the server's store is full.
 pub const STORE_FULL: u64 = 0;
 
-/// The detail of `NO_ROOM` where ids or numbers are spent.
+/// The detail of `NO_ROOM` if ids or numbers are spent.
 pub const NUMBERS_SPENT: u64 = 1;

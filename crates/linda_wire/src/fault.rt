@@ -1,4 +1,4 @@
-//! Why the bytes of a stream are no frames.
+//! Faults of a stream's bytes that are no frames.
 
 ghost use Rattle.std.specs.Prelude.{◌≡◌};
 ghost use Rattle.linda_wire.specs.declared.fault.FrameFault.TheVariants.{Memory};
@@ -19,7 +19,7 @@ pub enum FrameFault {
     #[error("a frame of {0} bytes")]
     FrameTooLong(u32),
     /// The frame spells nothing: the offset of the first byte at fault, counted from the frame's
-    /// first byte (the length is at 0 to 3, the kind at 4), or the frame's end where a value is cut
+    /// first byte (the length is at 0 to 3, the kind at 4), or the frame's end if a value is cut
     /// short.
     #[error("malformed at {0}")]
     Malformed(u32),

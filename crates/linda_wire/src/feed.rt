@@ -69,19 +69,19 @@ impl<T: Framed> FrameFeed<T> {
         self.unread.append(piece)
     }
 
-    /// The value at the front, which is then read; None where less than a whole frame is there.
+    /// The value at the front, which is then read; None if less than a whole frame is there.
     ///
     /// # Errors
     ///
     /// The fault of the frame at the front, once it can be known: of its length with its first four
     /// bytes, else with its last byte. It stays at the front, so the same fault is answered from
-    /// then on. `Memory` where the value at the front finds none. An error changes nothing.
+    /// then on. `Memory` if the value at the front finds none. An error changes nothing.
     pub fn next(&mut self, alloc: Global) -> Result<Option<T>, FrameFault>
         ensures found { IfOk result (λ o.
             IfSome o (λ v. (self.old ≡ frame (T.format.spell v) ++ self.new) × T.format.Fits v)) }
         ensures partial { (result ≡ Ok None) ↔ (front T.format self.old ≡ Partial) }
         ensures told { IfErr result (λ fault. IsFaultOf self.old fault) }
-        // Memory runs out only where a value stands at the front.
+        // Memory runs out only if a value is at the front.
         ensures memory { IsErrOf result FrameFault.Memory → IsWhole (front T.format self.old) }
         ensures exact { Answers (front T.format) self.old result self.new }
     {

@@ -1,4 +1,4 @@
-//! What frames are made of, and how a value is written as a frame.
+//! Framed values: the parts of a frame, and how a value is written as one.
 
 ghost use Rattle.std.specs.Prelude.{◌≡◌, ◌+◌, ◌≤◌, ◌∷◌, ◌++◌, length, take, drop, OnOk, OnErr};
 ghost use Rattle.linda_tuple.specs.Tuple.{FitsIn};
@@ -15,7 +15,7 @@ use linda_codec::{ReadFault, put_template, put_tuple};
 use linda_tuple::{Template, Tuple};
 use std::alloc::{AllocError, Global};
 
-/// A value that stands in a frame: a kind byte and a body, by a lawful format.
+/// A value that is in a frame: a kind byte and a body, by a lawful format.
 pub trait Framed: Drop {
     ghost format: { Format Self };
 
@@ -40,7 +40,7 @@ pub trait Framed: Drop {
     ///
     /// # Errors
     ///
-    /// Where memory runs out, a part of them may stand after the old bytes.
+    /// If memory runs out, a part of them may be after the old bytes.
     fn push(&self, out: &mut Vec<u8>) -> Result<(), AllocError>
         ensures ok { OnOk result (out.new.items ≡ out.old.items ++ format.spell self.now) }
         ensures front { take (length out.old.items) out.new.items ≡ out.old.items }
@@ -61,8 +61,7 @@ pub(crate) fn rest_of<T: Drop>(read: Result<(T, &[u8]), ReadFault>) -> Result<&[
     }
 }
 
-/// Appends a kind byte and a number; where memory runs out, a part of them may stand after the old
-/// bytes.
+/// Appends a kind byte and a number; if memory runs out, a part of them may be after the old bytes.
 pub(crate) fn push_numbered(out: &mut Vec<u8>, kind: u8, n: u64) -> Result<(), AllocError>
     ensures ok { OnOk result (out.new.items ≡ out.old.items ++ (kind ∷ number.spell n)) }
     ensures front { take (length out.old.items) out.new.items ≡ out.old.items }
@@ -71,7 +70,7 @@ pub(crate) fn push_numbered(out: &mut Vec<u8>, kind: u8, n: u64) -> Result<(), A
     out.extend_from_slice(&n.to_be_bytes())
 }
 
-/// Appends two numbers; where memory runs out, a part of them may stand after the old bytes.
+/// Appends two numbers; if memory runs out, a part of them may be after the old bytes.
 pub(crate) fn push_pair(out: &mut Vec<u8>, first: u64, second: u64) -> Result<(), AllocError>
     ensures ok { OnOk result (out.new.items
         ≡ out.old.items ++ (number.spell first ++ number.spell second)) }
@@ -81,7 +80,7 @@ pub(crate) fn push_pair(out: &mut Vec<u8>, first: u64, second: u64) -> Result<()
     out.extend_from_slice(&second.to_be_bytes())
 }
 
-/// Appends the tuple in the form of frames, in which every tuple has a spelling; where memory runs
+/// Appends the tuple in the form of frames, in which every tuple has a spelling; if memory runs
 /// out, `out` is left as it was.
 pub(crate) fn push_tuple(out: &mut Vec<u8>, tuple: &Tuple) -> Result<(), AllocError>
     ensures ok { OnOk result (out.new.items
@@ -104,7 +103,7 @@ pub(crate) fn push_template(out: &mut Vec<u8>, template: &Template) -> Result<()
     put_template(FORM, out, template)
 }
 
-/// Appends the value's frame; where memory runs out, `out` is left as it was.
+/// Appends the value's frame; if memory runs out, `out` is left as it was.
 pub(crate) fn encode<T: Framed>(out: &mut Vec<u8>, value: &T) -> Result<(), AllocError>
     ensures ok { OnOk result (out.new.items ≡ out.old.items ++ frame (T.format.spell value.now)) }
     ensures err { OnErr result (out.new.items ≡ out.old.items) }
@@ -119,7 +118,7 @@ pub(crate) fn encode<T: Framed>(out: &mut Vec<u8>, value: &T) -> Result<(), Allo
     }
 }
 
-// Appends the value's frame; where memory runs out, a part of it may stand after the old bytes.
+// Appends the value's frame; if memory runs out, a part of it may be after the old bytes.
 fn push_frame<T: Framed>(out: &mut Vec<u8>, value: &T) -> Result<(), AllocError>
     ensures ok { OnOk result (out.new.items ≡ out.old.items ++ frame (T.format.spell value.now)) }
     ensures front { take (length out.old.items) out.new.items ≡ out.old.items }

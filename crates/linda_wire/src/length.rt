@@ -1,4 +1,4 @@
-//! The length that stands before a frame's kind and body.
+//! The length that is before a frame's kind and body.
 
 ghost use Rattle.std.specs.Prelude.{◌≡◌, ◌≢◌, ◌≤◌, length, IfOk, IfSome, Err};
 ghost use Rattle.linda_codec.specs.Lawful.{IsBytes};

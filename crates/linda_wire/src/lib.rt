@@ -5,8 +5,8 @@
 //! bytes of a stream in any pieces and gives its messages: these and no others, whatever the
 //! pieces, up to the first frame that spells nothing, whose fault it returns from then on. A
 //! `ReplyFeed` does so for the replies of the other side. A `Refusal` is why a server says no, with
-//! its code and detail. `specs/Frames` says what the bytes are, `specs/Stream` what stands at the
-//! front of a stream.
+//! its code and detail. `specs/Frames` says what the bytes are, `specs/Stream` what is at the front
+//! of a stream.
 //!
 //! A call that may take memory has a fault for that; no other call takes any.
 #![tactic(auto)]

@@ -1,4 +1,4 @@
-//! How frames are measured, and what a refusal reports.
+//! Limits of frames, and of the numbers in them.
 
 use linda_tuple::Form;
 

@@ -1,4 +1,4 @@
-//! What a client sends to a server.
+//! Messages of a client to a server.
 
 ghost use Rattle.std.specs.Prelude.{◌≡◌, ◌++◌, IfOk, OnOk, OnErr};
 ghost use Rattle.linda_wire.specs.Frames.{message_frame};
@@ -25,8 +25,8 @@ pub enum Message {
         tuple: Tuple,
     },
     /// Is there a tuple that the template matches? With `remove` the client wants to take it, and
-    /// it is to be offered and held; else a copy is to be read. The client tells its asks apart by
-    /// the ticket.
+    /// it is to be offered and held; else a copy is to be read. The client distinguishes its asks
+    /// by the ticket.
     Ask {
         ticket: u64,
         remove: bool,
@@ -93,7 +93,7 @@ impl Message {
 ///
 /// # Errors
 ///
-/// Where memory runs out, `out` is left as it was.
+/// If memory runs out, `out` is left as it was.
 pub fn encode_message(out: &mut Vec<u8>, message: &Message) -> Result<(), AllocError>
     ensures ok { OnOk result (out.new.items ≡ out.old.items ++ message_frame message.now) }
     ensures err { OnErr result (out.new.items ≡ out.old.items) }

@@ -1,5 +1,5 @@
-//! Payloads: a kind byte and a body, which is to be all of what stands between a frame's length and
-//! its end.
+//! Payloads: a kind byte and a body, which is to be all of what is between a frame's length and its
+//! end.
 
 ghost use Rattle.std.specs.Prelude.{◌≡◌, ◌≤◌, length, IsOk, IsErrOf};
 ghost use Rattle.linda_wire.specs.declared.limits.TheConstants.{MAX_PAYLOAD};

@@ -1,4 +1,4 @@
-//! Why a server refuses a message.
+//! Refusals of a message by a server.
 
 ghost use Rattle.std.specs.Prelude.{◌≡◌};
 ghost use Rattle.linda_wire.specs.Refusal.{code_of, detail_of, refused};
@@ -33,8 +33,8 @@ pub enum Refusal {
     TooManyClients,
     /// The server is down.
     Down,
-    /// The frame spells nothing: the offset in it of the first byte at fault, 0 where its length is
-    /// at fault.
+    /// The frame spells nothing: the offset in it of the first byte at fault, 0 if its length is at
+    /// fault.
     Malformed(u32),
     /// The client has as many open asks as it may have: the ticket of this one is reported.
     TooManyAsks(u64),

@@ -1,4 +1,4 @@
-//! What a server sends to a client.
+//! Replies of a server to a client.
 
 ghost use Rattle.std.specs.Prelude.{◌≡◌, ◌++◌, IfOk, OnOk, OnErr};
 ghost use Rattle.linda_wire.specs.Frames.{reply_frame};
@@ -70,7 +70,7 @@ impl Reply {
 ///
 /// # Errors
 ///
-/// Where memory runs out, `out` is left as it was.
+/// If memory runs out, `out` is left as it was.
 pub fn encode_reply(out: &mut Vec<u8>, reply: &Reply) -> Result<(), AllocError>
     ensures ok { OnOk result (out.new.items ≡ out.old.items ++ reply_frame reply.now) }
     ensures err { OnErr result (out.new.items ≡ out.old.items) }

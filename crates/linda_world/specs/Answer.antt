@@ -1,5 +1,5 @@
--- What a call of a world, or of a part of it, answers: that something is done, that it is refused,
--- or that memory ran out.
+-- Answers of a world's calls, or of a part of it: that something is done, that it is refused, or
+-- that memory ran out.
 use Rattle.std.specs.Prelude.{◌≡◌, ℕ, List, ◌++◌, Result, Ok, Err, map}
 use Rattle.linda_store_state.specs.declared.deed.Deed.{Deed}
 use Rattle.linda_store.specs.Node.{Node, NodeAnswer}

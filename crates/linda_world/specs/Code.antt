@@ -1,4 +1,4 @@
--- How the parts of a world are stored where a model's value holds them.
+-- Codes of the parts of a world, for a model's value that holds them.
 use Rattle.std.specs.Prelude.{◌≡◌, ℕ, Bool, ◌⊎◌, List, refl}
 use Rattle.std.specs.Coded.{Coded, code_by, coded×, coded⊎, coded_ℕ, coded_bool, coded_list}
 use Rattle.std.specs.FinMap as map

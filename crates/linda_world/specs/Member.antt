@@ -1,4 +1,4 @@
--- What a call of a client comes to, for that client and among all.
+-- Members of a world: what a call of a client comes to, for that client and among all.
 use Rattle.std.specs.Prelude.{◌≡◌, ℕ, List, ◌++◌, Option, Some, None, Result, Ok, Err, map}
 use Rattle.std.specs.Option.{option_map}
 use Rattle.std.specs.FinMap as maps

@@ -1,4 +1,4 @@
--- How messages and replies are stored where a model's value holds them.
+-- Codes of messages and replies, for a model's value that holds them.
 use Rattle.std.specs.Prelude.{◌≡◌, ℕ, Bool, ◌⊎◌, refl}
 use Rattle.std.specs.Coded.{Coded, code_by, coded×, coded⊎, coded_ℕ, coded_bool}
 use Rattle.std.proofs.Common.{inl, inr}

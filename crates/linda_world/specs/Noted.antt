@@ -9,7 +9,7 @@ use Rattle.linda_store_step.specs.Deeds.{last_in}
 abbrev pub Lasts : Type 0
 Lasts = map.FinMap nat_cmp ℕ
 
--- the number that is noted, 0 where none is
+-- the number that is noted, 0 if none is
 abbrev pub noted_number : Option ℕ → ℕ
 noted_number None = 0
 noted_number (Some n) = n

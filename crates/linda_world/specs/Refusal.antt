@@ -1,4 +1,4 @@
--- Why an event is refused, if it is. A refused event changes nothing.
+-- Refusals of events, and their reasons. A refused event changes nothing.
 use Rattle.std.specs.Prelude.{ℕ, ◌==◌, nat_lt, Bool, true, false, ◌&&◌, if◌then◌else◌, List, length}
 use Rattle.std.specs.Prelude.{Option, Some, None}
 use Rattle.std.specs.List.{slice_get, list_all}

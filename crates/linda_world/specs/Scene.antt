@@ -1,4 +1,4 @@
--- What an event of a world comes to: a step, a refusal, or `Memory`.
+-- Scene of a world: what an event comes to, a step, a refusal, or `Memory`.
 use Rattle.std.specs.Prelude.{◌≡◌, ℕ, List, [], Option, Some, None, IsSome, Result, Ok, Err, map}
 use Rattle.std.specs.FinMap as maps
 use Rattle.linda_store.specs.Node.{Node}
@@ -18,7 +18,7 @@ pub record IsShownAs (old new : World) : Type 0 where
   pub got : SameGot old.members new.members
   pub packets : new.packets ≡ old.packets
 
--- what the world answers where a server returned this, or memory ran out
+-- what the world answers if a server returned this, or memory ran out
 abbrev pub answer_of : Told → Result Seen WorldFault
 answer_of (Ok seen) = Ok seen
 answer_of (Err s) = Err (faults.Down s)
@@ -28,7 +28,7 @@ seen_of (Ok told) = answer_of told
 seen_of (Err short) = Err faults.Memory
 
 -- It is not refused, and this came of it; or it is refused so, and nothing changed; or memory ran
--- out, where it was not refused early, and what is shown is as before.
+-- out, if it was not refused early, and what is shown is as before.
 abbrev pub TriesOrNot : (World → Told → World → Type 0) → Option WorldFault → Option WorldFault
     → World
     → Result Seen WorldFault → World → Type 0
@@ -37,7 +37,7 @@ TriesOrNot Comes refused early old result new =
     (λ fault. (refused ≡ Some fault) × (new ≡ old))
     ((early ≡ None) × IsShownAs old new) result
 
--- As `TriesOrNot`, where memory runs out only if it is not refused.
+-- As `TriesOrNot`, but memory runs out only if it is not refused.
 abbrev pub AsksOrNot : (World → Told → World → Type 0) → Option WorldFault → World
     → Result Seen WorldFault → World → Type 0
 AsksOrNot Comes refused old result new = TriesOrNot Comes refused refused old result new
@@ -52,11 +52,11 @@ Answers old event result new =
 abbrev pub new_server : Node → Server
 new_server node = record { deeds = []; node = node }
 
--- A world of these nodes, where nothing has happened.
+-- A world of these nodes, in which nothing has happened.
 abbrev pub world_of : List Node → World
 world_of nodes = record { servers = map new_server nodes; members = maps.empty; packets = [] }
 
--- A client joined; or its number is known, or memory ran out where it is not, and nothing changed.
+-- A client joined; or its number is known, or memory ran out if it is not, and nothing changed.
 abbrev pub AddsOrNot : World → ℕ → Result (Unit {0}) WorldFault → World → Type 0
 AddsOrNot old c (Ok done) new = HasJoined c old new
 AddsOrNot old c (Err faults.ClientKnown) new = IsSome (maps.get old.members c) × (new ≡ old)

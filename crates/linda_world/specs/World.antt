@@ -27,8 +27,8 @@ pub record IsRun (w : World) : Type 0 where
   pub shown : IsShownAs now w.world
   pub whole : w.is_spent ≡ false → w.world ≡ now
 
--- Memory ran out, before, or now where nothing was refused: it is spent, and shows what it showed;
--- and where it was spent before, nothing changed.
+-- Memory ran out, before, or now if nothing was refused: it is spent, and shows what it showed; and
+-- if it was spent before, nothing changed.
 pub record IsShort (refused : Option WorldFault) (old new : World) : Type 0 where
   pub allowed : old.is_spent ≡ false → refused ≡ None
   pub spent : new.is_spent ≡ true
@@ -49,7 +49,7 @@ pub record Refuses (refused : Option WorldFault) (old new : World) (fault : Worl
   pub why : refused ≡ Some fault
   pub same : new ≡ old
 
--- What an event comes to: a step, where a server that is down is reported as a fault; a refusal; or
+-- What an event comes to: a step, if a server that is down is reported as a fault; a refusal; or
 -- `Memory`.
 abbrev pub Steps : World → WorldEvent → Result Seen WorldFault → World → Type 0
 Steps old event result new = Tells (IsStep old event new)
@@ -63,7 +63,7 @@ Runs old [] new = new ≡ old
 Runs old (event ∷ events) new =
     (seen : Seen) × ((mid : World) × (Steps old event (Ok seen) mid × Runs mid events new))
 
--- What an event comes to, where nothing is reported of what is seen.
+-- What an event comes to, if nothing is reported of what is seen.
 abbrev pub Passes : World → WorldEvent → Result (Unit {0}) WorldFault → World → Type 0
 Passes old event (Ok done) new = (seen : Seen) × Steps old event (Ok seen) new
 Passes old event (Err fault) new = Steps old event (Err fault) new

@@ -1,4 +1,4 @@
--- How a world is stored where a model's value holds one.
+-- Code of a world, for a model's value that holds one.
 use Rattle.std.specs.Prelude.{Bool, refl}
 use Rattle.std.specs.Coded.{Coded, code_by, coded×, coded_bool}
 use Rattle.linda_world_laws.specs.World as run

@@ -40,7 +40,7 @@ impl Lasts {
         }
     }
 
-    // The client's number, 0 where it has none.
+    // The client's number, 0 if it has none.
     fn of(&self, client: u32) -> u64
         ensures { result ≡ noted_number (map.get self.now client) }
     {
@@ -119,7 +119,7 @@ impl Deeds {
         &self.all
     }
 
-    /// The number of the client's last deed, 0 where it did none.
+    /// The number of the client's last deed, 0 if it did none.
     pub(crate) fn last_number(&mut self, client: u32) -> Result<u64, AllocError>
         ensures same { self.new ≡ self.old }
         ensures last { IfOk result (λ n. n ≡ last_in self.old client) }
@@ -128,7 +128,7 @@ impl Deeds {
         Ok(self.lasts.of(client))
     }
 
-    /// Appends what was done by a step, and what it sends to the packets: both, or neither where
+    /// Appends what was done by a step, and what it sends to the packets: both, or neither if
     /// memory runs out.
     pub(crate) fn append_with(
         &mut self,
@@ -144,7 +144,7 @@ impl Deeds {
         append_both(packets, more, &mut self.all, deed)
     }
 
-    /// Appends these, which are taken out of their list; where memory runs out nothing changes.
+    /// Appends these, which are taken out of their list; if memory runs out nothing changes.
     pub(crate) fn append(&mut self, added: &mut Vec<Deed>) -> Result<(), AllocError>
         ensures ok { OnOk result (self.new ≡ self.old ++ added.old.items) }
         ensures err { OnErr result (self.new ≡ self.old) }

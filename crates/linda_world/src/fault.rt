@@ -1,4 +1,4 @@
-//! Why a world did nothing, or not all.
+//! Faults of a world that did nothing, or not all.
 
 ghost use Rattle.std.specs.Prelude.{◌≡◌};
 ghost use Rattle.linda_world.specs.declared.fault.WorldFault.TheVariants as faults;

@@ -1,4 +1,4 @@
-//! What a client is given.
+//! Tuples that a client is given.
 
 ghost use Rattle.std.specs.Prelude.{◌≡◌, option_to_list};
 ghost use Rattle.linda_world_laws.specs.World as spec;

@@ -11,7 +11,7 @@ use std::alloc::{AllocError, Global};
 ///
 /// # Errors
 ///
-/// Where memory runs out.
+/// If memory runs out.
 pub(crate) fn packets_by(
     alloc: Global,
     client: u32,
@@ -32,7 +32,7 @@ pub(crate) fn packets_by(
 ///
 /// # Errors
 ///
-/// Where memory runs out.
+/// If memory runs out.
 pub(crate) fn packets_from(
     alloc: Global,
     server: u32,
@@ -53,7 +53,7 @@ pub(crate) fn packets_from(
 ///
 /// # Errors
 ///
-/// Where memory runs out; then both lists are as before.
+/// If memory runs out; then both lists are as before.
 pub(crate) fn append_both<A: Drop, B: Drop>(
     many: &mut Vec<A>,
     more: Vec<A>,

@@ -1,4 +1,4 @@
-//! What the world returns for a client's fault.
+//! Refusals of a world for the faults of its clients.
 
 ghost use Rattle.std.specs.Prelude.{◌≡◌};
 ghost use Rattle.linda_world.specs.Refusal.{world_fault};

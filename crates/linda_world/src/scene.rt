@@ -1,4 +1,4 @@
-//! What a world is made of, and each event as one step of it.
+//! Scene of a world, its servers, clients and packets, and each event as one step of it.
 
 ghost use Rattle.std.specs.Prelude.{◌≡◌, ◌<◌, Some, [], ◌∷◌, length, IfOk, option_copied};
 ghost use Rattle.std.specs.Prelude.{map as map_list};
@@ -64,7 +64,7 @@ fn servers_of<N: Node>(alloc: Global, nodes: Vec<N>) -> Result<Vec<Server<N>>, A
     Ok(servers)
 }
 
-/// What the world answers where a server returned this, or memory ran out.
+/// What the world answers if a server returned this, or memory ran out.
 fn asked(told: Result<Told, AllocError>) -> Result<Seen, WorldFault>
     ensures { result ≡ seen_of told }
 {

@@ -51,7 +51,7 @@ impl<N: Node> World<N> {
     ///
     /// # Errors
     ///
-    /// Where memory runs out.
+    /// If memory runs out.
     pub fn new(alloc: Global, nodes: Vec<N>) -> Result<World<N>, AllocError>
         requires some { 1 ≤ length nodes.items }
         requires few { length nodes.items ≤ MAX_SERVERS }
@@ -73,9 +73,8 @@ impl<N: Node> World<N> {
     ///
     /// # Errors
     ///
-    /// `ClientKnown` where there is one; nothing changes. `Memory` where there is none and memory
-    /// ran out, as in
-    /// `step`.
+    /// `ClientKnown` if there is one; nothing changes. `Memory` if there is none and memory ran
+    /// out, as in `step`.
     pub fn add_client(&mut self, alloc: Global, number: u32) -> Result<(), WorldFault>
         ensures { Joins self.old number result self.new }
     {
@@ -165,11 +164,11 @@ impl<N: Node> World<N> {
     ///
     /// # Errors
     ///
-    /// A refusal changes nothing: `NoClient`, `NoServer`, `NoPacket` or `TooManyPackets` where the
-    /// event names what is not there, or too much; `Client` where the client refuses. `Down` where
-    /// the event took place and the server is down. `Memory` where memory ran out for an event that
-    /// is not refused (only a reply that is delivered is copied before its client is asked): what
-    /// the world shows is as before the event, and it answers `Memory` from then on.
+    /// A refusal changes nothing: `NoClient`, `NoServer`, `NoPacket` or `TooManyPackets` if the
+    /// event names what is not there, or too much; `Client` if the client refuses. `Down` if the
+    /// event took place and the server is down. `Memory` if memory ran out for an event that is not
+    /// refused (only a reply that is delivered is copied before its client is asked): what the
+    /// world shows is as before the event, and it answers `Memory` from then on.
     pub fn step(&mut self, alloc: Global, event: WorldEvent) -> Result<Seen, WorldFault>
         ensures { Steps self.old event result self.new }
     {

@@ -1,4 +1,4 @@
--- The laws of the layers below that a run stands on, as their functions' contracts state them.
+-- The laws of the layers below that a run rests on, as their functions' contracts state them.
 use Rattle.std.specs.Prelude.{◌≡◌, ◌≤◌, ℕ, ◌-◌, List, ◌++◌, Some, All, Contains, Result}
 use Rattle.std.specs.List.{slice_get}
 use Rattle.std.specs.Global.{Vec}

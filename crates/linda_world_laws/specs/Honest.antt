@@ -1,4 +1,4 @@
--- What each step keeps of deeds, replies and what was given: whatever is reported was done.
+-- Honesty of each step, in deeds, replies and what was given: whatever is reported was done.
 use Rattle.std.specs.Prelude.{◌≡◌, ◌≢◌, ℕ, ◌<◌, ◌≤◌, List, length, Some, Contains}
 use Rattle.std.specs.List.{slice_get}
 use Rattle.linda_client.specs.declared.limits.TheConstants.{MAX_SERVERS}

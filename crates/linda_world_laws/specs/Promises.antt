@@ -1,4 +1,5 @@
--- What holds in every world that a run leads to, whatever is lost, repeated, delayed or stopped.
+-- Promises that hold in every world that a run leads to, whatever is lost, repeated, delayed or
+-- stopped.
 use Rattle.std.specs.Prelude.{◌≡◌, ℕ, ◌-◌, ◌≤◌, Bool, true, false, ◌⊎◌, List, ◌++◌, Option, Some}
 use Rattle.std.specs.Prelude.{All, Contains, IfSome, IsSome}
 use Rattle.std.specs.List.{slice_get}
@@ -21,7 +22,7 @@ use Rattle.linda_world_laws.specs.World.{Server, Member, Members, World, Handed,
 abbrev pub OfEach : World → (ℕ → Member → Type 0) → Type 0
 OfEach w P = (c : ℕ) (m : Member) → map.get w.members c ≡ Some m → P c m
 
--- Nothing stands at two places of the list.
+-- Nothing is at two places of the list.
 abbrev pub IsOnce : {X : Type 0} → List X → Type 0
 IsOnce {X} xs = (i k : ℕ) (x : X) → slice_get xs i ≡ Some x → slice_get xs k ≡ Some x → i ≡ k
 

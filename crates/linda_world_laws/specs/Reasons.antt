@@ -1,4 +1,5 @@
--- What each step keeps of requests, offers and holds: whatever is held is held for a reason.
+-- Reasons of requests, offers and holds, which each step keeps: whatever is held is held for a
+-- reason.
 use Rattle.std.specs.Prelude.{◌≡◌, ℕ, ◌<◌, Bool, true, false, List, ◌⊎◌, Some, All}
 use Rattle.std.specs.FinMap as map
 use Rattle.linda_tuple.specs.Tuple.{Tuple}
@@ -107,7 +108,7 @@ pub record IsWaitedFor (ms : Members) (ps : List Packet) (s : ℕ) (server : Ser
   pub held : (id : ℕ) (request : Request) → map.get server.node.soft.holds id ≡ Some request
       → HasReason ms ps s server.deeds id request
 
--- What is kept of a server: its deeds, and those that it may have done where it went down, have
+-- What is kept of a server: its deeds, and those that it may have done if it went down, have
 -- numbers that were used.
 pub record IsReasoned (ms : Members) (ps : List Packet) (s : ℕ) (server : Server) : Type 0 where
   pub deeds : All (IsUsedBy ms s) server.deeds

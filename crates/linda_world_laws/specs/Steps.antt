@@ -1,4 +1,4 @@
--- What each event comes to in a world, and what is seen of it.
+-- Steps of a world: what each event comes to, and what is seen of it.
 use Rattle.std.specs.Prelude.{◌≡◌, ℕ, true, false, List, [], ◌∷◌, ◌++◌, length, Option, Some, None}
 use Rattle.std.specs.Prelude.{Result, Ok, Err, map, slice_set}
 use Rattle.std.specs.List.{slice_get}
@@ -85,7 +85,7 @@ Does (Halts xs) old answer ds new =
     (result : Result (Vec Deed) NodeFault)
     × (Stops old xs result new × ((answer ≡ silent result) × (ds ≡ added result)))
 
--- what is sent where there is no room for a task: a client whose message it is is refused
+-- what is sent if there is no room for a task: a client whose message it is is refused
 abbrev pub without_room : Task → List (ℕ × Reply)
 without_room (Takes c m) = (c, refused refusals.Full) ∷ []
 without_room _ = []

@@ -32,7 +32,7 @@ pub record Member : Type 0 where
 abbrev pub Members : Type 0
 Members = map.FinMap nat_cmp Member
 
--- Servers are numbered by their places, and so are packets, which stand in the order of sending.
+-- Servers are numbered by their places, and so are packets, which are in the order of sending.
 pub record World : Type 0 where
   pub servers : List Server
   pub members : Members

@@ -1,4 +1,4 @@
-//! What may happen in a world.
+//! Events of a world.
 
 use linda_disk::Torn;
 use linda_event::Event;
@@ -23,7 +23,7 @@ pub enum WorldEvent {
     Leave(u32),
     /// The packet of this number is delivered, be it for the first time or again.
     Deliver(usize),
-    /// A client is told the time.
+    /// A client is given the time.
     Tick {
         client: u32,
         now: u64,

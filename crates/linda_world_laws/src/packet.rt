@@ -1,4 +1,4 @@
-//! What is on its way between clients and servers.
+//! Packets on their way between clients and servers.
 
 use linda_wire::{Message, Reply};
 
@@ -20,6 +20,6 @@ pub struct Packet {
     /// The client that sent it or that it goes to.
     pub client: u32,
     pub body: Body,
-    /// Whether it was delivered, or was in hand where its server was stopped.
+    /// Whether it was delivered, or was in hand if its server was stopped.
     pub delivered: bool,
 }

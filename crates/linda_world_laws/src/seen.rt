@@ -1,4 +1,4 @@
-//! What is seen of one step.
+//! View of one step: what is seen of it.
 
 use linda_client::Outcome;
 
@@ -7,7 +7,7 @@ use linda_client::Outcome;
 pub struct Seen {
     /// The client that reacted, if one did.
     pub client: Option<u32>,
-    /// How what it was at came to its end, where it did.
+    /// How what it was at came to its end, if it did.
     pub outcome: Option<Outcome>,
     /// A refusal by a server that it handed on: the server, the code and the detail.
     pub fault: Option<(u32, u8, u64)>,

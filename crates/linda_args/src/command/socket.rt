@@ -1,8 +1,11 @@
 //! A unix socket that a command line names: where a server listens, and who may connect.
 
-ghost use Rattle.std.specs.Prelude.{◌≡◌, ◌<◌, ◌^◌, true, map, IfOk, IfSome};
+ghost use Rattle.std.specs.Prelude.{◌≡◌, ◌<◌, ◌^◌, true, map, codes, IfOk, IfSome};
 ghost use Rattle.std.specs.String.{string_bytes};
+ghost use Rattle.clap.specs.Matches.{first_value};
+ghost use Rattle.clap.specs.Words.{found_of};
 ghost use Rattle.linda_args.specs.Commands.{IsAfterCall, IsAfterServe};
+ghost use Rattle.linda_args.specs.Options.{IsSocket, mode_in, octal_digit, octal_of};
 
 use clap::ArgMatches;
 use std::alloc::{AllocError, Global};
@@ -32,7 +35,9 @@ impl Socket {
     ///
     /// `AllocError` where memory runs out.
     pub(super) fn found(alloc: Global, matches: &ArgMatches) -> Result<Option<Socket>, AllocError>
-        ensures { IfOk result (λ found. IfSome found (λ socket. socket.mode < 2 ^ 9)) }
+        ensures mode { IfOk result (λ found. IfSome found (λ socket. socket.mode < 2 ^ 9)) }
+        ensures found { IfOk result (IsSocket (first_value (found_of matches.now) (codes "socket"))
+            (first_value (found_of matches.now) (codes "mode"))) }
     {
         let Some(path) = matches.get_str(SOCKET) else {
             return Ok(None);
@@ -47,7 +52,8 @@ impl Socket {
 
 /// The mode that the parser found, or that of the owner; none if it is no mode.
 pub(super) fn mode_found(matches: &ArgMatches) -> Option<u32>
-    ensures { IfSome result (λ mode. mode < 2 ^ 9) }
+    ensures few { IfSome result (λ mode. mode < 2 ^ 9) }
+    ensures value { result ≡ mode_in (first_value (found_of matches.now) (codes "mode")) }
 {
     match matches.get_str(MODE) {
         Some(text) => mode_of(text),
@@ -57,7 +63,8 @@ pub(super) fn mode_found(matches: &ArgMatches) -> Option<u32>
 
 // The mode that three octal digits spell.
 fn mode_of(text: &str) -> Option<u32>
-    ensures { IfSome result (λ mode. mode < 2 ^ 9) }
+    ensures few { IfSome result (λ mode. mode < 2 ^ 9) }
+    ensures value { result ≡ octal_of text.now }
 {
     match text.as_bytes() {
         [owner, group, others] => {
@@ -72,7 +79,8 @@ fn mode_of(text: &str) -> Option<u32>
 
 // The number that an octal digit stands for.
 fn octal(digit: u8) -> Option<u32>
-    ensures { IfSome result (λ n. n < 8) }
+    ensures few { IfSome result (λ n. n < 8) }
+    ensures value { result ≡ octal_digit digit }
 {
     if digit < b'0' || digit > b'7' {
         return None;

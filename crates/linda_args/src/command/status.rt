@@ -1,9 +1,13 @@
-//! Where a command line has it asked how a server does, and the tags that are counted there.
+//! Places of the status, a port or a path, and the tags that are counted there.
 
-ghost use Rattle.std.specs.Prelude.{◌≡◌, true, map, IfOk, IfSome};
+ghost use Rattle.std.specs.Prelude.{◌≡◌, ℕ, List, [], Some, true, map, codes, unwrap_or, IfOk, IfSome};
 ghost use Rattle.std.specs.String.{string_bytes};
+ghost use Rattle.clap.specs.Matches.{first_value, one_text};
+ghost use Rattle.clap.specs.Words.{found_of};
 ghost use Rattle.linda_args.specs.Commands.{IsAfterServe, IsStatusPlace};
+ghost use Rattle.linda_args.specs.Options.{IsStatus, options_of};
 
+use super::options::short_number;
 use clap::ArgMatches;
 use std::alloc::{AllocError, Global};
 
@@ -31,7 +35,9 @@ pub(super) fn status_found(
     alloc: Global,
     matches: &ArgMatches,
 ) -> Result<Option<StatusPlace>, AllocError>
-    ensures { IfOk result (λ found. IfSome found IsStatusPlace) }
+    ensures place { IfOk result (λ found. IfSome found IsStatusPlace) }
+    ensures found { IfOk result (IsStatus (first_value (found_of matches.now) (codes "status"))
+        (one_text (found_of matches.now) (codes "status"))) }
 {
     let Some(text) = matches.get_str(STATUS) else {
         return Ok(None);
@@ -45,9 +51,11 @@ pub(super) fn status_found(
 
 // The port of the status; the parser has judged the number.
 fn port_found(matches: &ArgMatches) -> Option<StatusPlace>
-    ensures { IfSome result IsStatusPlace }
+    ensures place { IfSome result IsStatusPlace }
+    ensures found { (text : List ℕ)
+        → IsStatus (Some text) (one_text (found_of matches.now) (codes "status")) result }
 {
-    let port = matches.get_one::<u16>(STATUS)?;
+    let port = short_number(matches, STATUS)?;
     if port == 0 {
         return None;
     }
@@ -59,10 +67,10 @@ fn port_found(matches: &ArgMatches) -> Option<StatusPlace>
 /// # Errors
 ///
 /// `AllocError` where memory runs out.
-pub(super) fn metrics_found(
-    alloc: Global,
-    matches: &ArgMatches,
-) -> Result<Vec<String>, AllocError> {
+pub(super) fn metrics_found(alloc: Global, matches: &ArgMatches) -> Result<Vec<String>, AllocError>
+    ensures { IfOk result (λ metrics. map string_bytes metrics.items
+        ≡ unwrap_or ((options_of (found_of matches.now)).all (codes "metric")) []) }
+{
     let mut metrics = Vec::new(alloc);
     if let Some(tags) = matches.get_strs(METRIC) {
         for tag in tags {

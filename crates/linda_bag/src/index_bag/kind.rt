@@ -1,4 +1,4 @@
-//! How many tuples a bag has of each kind: of each tag and number of fields.
+//! Kinds of tuples, a tag and a number of fields each, and how many tuples a bag has of one.
 
 ghost use Rattle.std.specs.Prelude.{ℕ, IfSome, IfNone};
 ghost use Rattle.std.specs.FinMap as map;

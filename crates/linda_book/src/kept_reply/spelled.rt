@@ -101,7 +101,7 @@ fn read_taken(alloc: Global, form: Form, body: &[u8]) -> Result<(KeptReply, &[u8
     Ok((KeptReply::Taken(id, tuple), rest))
 }
 
-// Reads a Left, of which the kind is read, where the form has Leaves; of another kind that is the
+// Reads a Left, of which the kind is read, if the form has Leaves; of another kind that is the
 // fault.
 fn read_left(form: Form, kind: u8, rest: &[u8]) -> Result<(KeptReply, &[u8]), ReadFault>
     ensures { GivesAlways (λ x. (x.0, x.1.now)) result
@@ -154,7 +154,7 @@ fn skip_left(form: Form, kind: u8, rest: &[u8]) -> Result<&[u8], ReadFault>
     Ok(rest)
 }
 
-// Appends a Stored; where memory runs out, a part of it may stand after the old bytes.
+// Appends a Stored; if memory runs out, a part of it may be after the old bytes.
 fn push_stored(out: &mut Vec<u8>, id: u64) -> Result<(), AllocError>
     ensures ok { OnOk result (out.new.items ≡ out.old.items ++ kind.STORED ∷ number.spell id) }
     ensures front { take (length out.old.items) out.new.items ≡ out.old.items }
@@ -185,9 +185,9 @@ fn push_kind(out: &mut Vec<u8>, byte: u8) -> Result<(), AllocError>
 }
 
 impl KeptReply {
-    /// Whether the reply has a spelling in the form: the tuple that it gives has one, where it
-    /// gives one, and that to a Leave has one where the form has them. In the second form each
-    /// reply has one.
+    /// Whether the reply has a spelling in the form: the tuple that it gives has one, if it gives
+    /// one, and that to a Leave has one if the form has them. In the second form each reply has
+    /// one.
     pub fn fits(&self, form: Form) -> bool
         ensures exact { IsTrue result ↔ format.FitsReply form self.now }
         ensures second { format.FitsReply Two self.now }

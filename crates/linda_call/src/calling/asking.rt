@@ -1,4 +1,4 @@
-//! How the reply that a server keeps to a client is asked for.
+//! Requests for the reply that a server keeps to a client.
 
 ghost use Rattle.std.specs.Prelude.{◌≡◌};
 ghost use Rattle.linda_call.specs.Asking as spec;

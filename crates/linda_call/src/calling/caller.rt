@@ -1,4 +1,4 @@
-//! A client at work over its links: what comes is told to it, and what it answers is sent and
+//! A client at work over its links: what comes is given to it, and what it answers is sent and
 //! written.
 
 ghost use Rattle.std.specs.Prelude.{◌≡◌, ◌≤◌, length};
@@ -42,7 +42,7 @@ impl<'a> Caller<'a> {
     ///
     /// # Errors
     ///
-    /// `Memory`; `Clock` where the time cannot be had.
+    /// `Memory`; `Clock` if the time cannot be had.
     pub(super) fn new(
         rt: &impl Clock,
         alloc: Global,
@@ -420,7 +420,7 @@ impl Caller<'_> {
         }
     }
 
-    // Tells the client the time. Whether what was pending has ended.
+    // Gives the client the time. Whether what was pending has ended.
     fn tick<S: Wait + Clock, W: Write>(
         &mut self,
         rt: &S,
@@ -432,7 +432,7 @@ impl Caller<'_> {
         self.obey(rt, alloc, reaction, writer)
     }
 
-    // Tells the client what came. Whether what was pending has ended.
+    // Gives the client what came. Whether what was pending has ended.
     fn hear<S: Wait, W: Write>(
         &mut self,
         rt: &S,

@@ -1,4 +1,4 @@
-//! Why a call gives up.
+//! Faults that end a call.
 
 ghost use Rattle.std.specs.Prelude.{◌≡◌};
 ghost use Rattle.linda_call.specs.Statuses.{status_of_call};

@@ -9,7 +9,7 @@ use std::alloc::{AllocError, Global};
 ///
 /// # Errors
 ///
-/// `AllocError` where memory runs out.
+/// `AllocError` if memory runs out.
 pub(super) fn write_kept(
     alloc: Global,
     server: u32,
@@ -36,7 +36,7 @@ pub(super) fn write_kept(
 ///
 /// # Errors
 ///
-/// `AllocError` where memory runs out.
+/// `AllocError` if memory runs out.
 pub(super) fn write_without_id(
     alloc: Global,
     server: u32,
@@ -49,7 +49,7 @@ pub(super) fn write_without_id(
 ///
 /// # Errors
 ///
-/// `AllocError` where memory runs out.
+/// `AllocError` if memory runs out.
 pub(super) fn write_none(alloc: Global, server: u32, client: u32) -> Result<String, AllocError> {
     format!(in alloc; "server {server} client {client} none\n")
 }

@@ -1,4 +1,4 @@
-//! What is under way of the tuples that a call puts together, in the order of its lines.
+//! Puts under way of a call that puts together, in the order of its lines.
 
 ghost use Rattle.std.specs.Prelude.{◌≡◌, ◌≤◌, ◌+◌, ◌%◌, ◌++◌, ◌∷◌, [], map, nat_le, IfOk, OnOk, OnErr};
 ghost use Rattle.std.specs.Prelude.{option_copied, vec_len};

@@ -1,4 +1,4 @@
-//! How a client stands with each of its servers.
+//! Standings of a client, one at each of its servers.
 
 ghost use Rattle.std.specs.Prelude.{◌≡◌, IfOk, map, max, true};
 ghost use Rattle.linda_call.specs.Standings as spec;
@@ -62,7 +62,7 @@ const UNMET: Standing = Standing {
 ///
 /// # Errors
 ///
-/// `AllocError` where memory runs out.
+/// `AllocError` if memory runs out.
 pub(super) fn unmet(alloc: Global, servers: usize) -> Result<Vec<Standing>, AllocError>
     ensures { IfOk result (λ all. all.items ≡ spec.all_unmet servers) }
 {

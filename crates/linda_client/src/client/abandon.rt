@@ -16,9 +16,9 @@ impl Client {
     ///
     /// # Errors
     ///
-    /// `Left` where the client has left; else `Busy` where an Accept is unanswered; `Idle` where no
-    /// synchronization is pending; else `Memory` where memory runs out. In each case the client is
-    /// as before.
+    /// `Left` if the client has left; else `Busy` if an Accept is unanswered; `Idle` if no
+    /// synchronization is pending; else `Memory` if memory runs out. In each case the client is as
+    /// before.
     pub fn abandon(&mut self, alloc: Global) -> Result<Reaction, ClientFault>
         ensures { Does self.old result self.new (react self.old Abandon) }
     {

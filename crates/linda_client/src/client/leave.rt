@@ -17,9 +17,9 @@ impl Client {
     ///
     /// # Errors
     ///
-    /// `Left` where the client has left; else `Busy` where an out, a synchronization or a leave is
-    /// pending; else `Spent` where the next number of some server is 2^63; else `Memory` where
-    /// memory runs out. In each case the client is as before.
+    /// `Left` if the client has left; else `Busy` if an out, a synchronization or a leave is
+    /// pending; else `Spent` if the next number of some server is 2^63; else `Memory` if memory
+    /// runs out. In each case the client is as before.
     pub fn leave(&mut self, alloc: Global) -> Result<Reaction, ClientFault>
         ensures { Does self.old result self.new (react self.old Leave) }
     {

@@ -20,11 +20,10 @@ impl Client {
     ///
     /// # Errors
     ///
-    /// `Left` where the client has left; else `Busy` where an out, a synchronization or a leave is
-    /// pending; else
-    /// `Spent` where the next number of that server, or the count of outs, would reach 2^63; else
-    /// `Memory` where memory runs out. In each case the client is as before, and the tuple is
-    /// dropped.
+    /// `Left` if the client has left; else `Busy` if an out, a synchronization or a leave is
+    /// pending; else `Spent` if the next number of that server, or the count of outs, would reach
+    /// 2^63; else `Memory` if memory runs out. In each case the client is as before, and the tuple
+    /// is dropped.
     pub fn out(&mut self, alloc: Global, tuple: Tuple) -> Result<Reaction, ClientFault>
         ensures { Does self.old result self.new (react self.old (Out tuple)) }
     {

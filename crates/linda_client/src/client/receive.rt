@@ -1,4 +1,4 @@
-//! What the client does with a reply of a server.
+//! Replies of servers, as the client takes them.
 
 ghost use Rattle.std.specs.Prelude.{◌≡◌, ◌<◌, [], None, Some, Ok, IfOk, IsSome, is_some, true};
 ghost use Rattle.linda_tuple.specs.Matching.{Matches};
@@ -28,14 +28,11 @@ impl Client {
     ///
     /// - Stored ends the out that is pending, if server and number are its own.
     /// - An offer for an open ticket whose template matches it is accepted, and a copy commits to
-    ///   its base,
-    ///   unless an Accept is unanswered: then both are saved, each once. An offer for any other
-    ///   ticket is answered by a Cancel.
+    ///   its base, unless an Accept is unanswered: then both are saved, each once. An offer for any
+    ///   other ticket is answered by a Cancel.
     /// - Taken, for the Accept that is unanswered, commits to its base. Gone, for that Accept, lets
-    ///   the
-    ///   client
-    ///   go on with the oldest arrival that it saved, else with the first alarm that is ready, else
-    ///   wait.
+    ///   the client go on with the oldest arrival that it saved, else with the first alarm that is
+    ///   ready, else wait.
     /// - Left, for a Leave that is not answered yet, answers it, and after the last the client has
     ///   left.
     /// - Refused is handed on as a fault, whatever is pending.
@@ -46,9 +43,9 @@ impl Client {
     ///
     /// # Errors
     ///
-    /// `NoServer` where there is no such server; else `Spent` where an offer would be accepted and
-    /// the next number of its server is 2^63; else `Memory` where memory runs out. In each case the
-    /// client is as before.
+    /// `NoServer` if there is no such server; else `Spent` if an offer would be accepted and the
+    /// next number of its server is 2^63; else `Memory` if memory runs out. In each case the client
+    /// is as before.
     pub fn receive(
         &mut self,
         alloc: Global,

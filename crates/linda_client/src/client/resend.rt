@@ -1,4 +1,4 @@
-//! What the client sends again.
+//! Messages that the client sends again.
 
 ghost use Rattle.std.specs.Prelude.{◌≡◌, IfOk};
 ghost use Rattle.linda_client.specs.Packets.{sent_again};
@@ -16,11 +16,11 @@ use std::alloc::{AllocError, Global};
 impl Client {
     /// Sends again what no server has answered: the Out or the Accept that is pending, then the
     /// Asks of all open tickets, in the order in which they were sent; or the Leaves, by rising
-    /// server; or nothing, where the client has left. The client stays as it is.
+    /// server; or nothing, if the client has left. The client stays as it is.
     ///
     /// # Errors
     ///
-    /// `Memory` where memory runs out.
+    /// `Memory` if memory runs out.
     pub fn resend(&self, alloc: Global) -> Result<Reaction, ClientFault>
         ensures { Does self.now result self.now (react self.now Resend) }
     {
@@ -32,7 +32,7 @@ impl Client {
     ///
     /// # Errors
     ///
-    /// `NoServer` where there is no such server; else `Memory` where memory runs out.
+    /// `NoServer` if there is no such server; else `Memory` if memory runs out.
     pub fn reconnected(&self, alloc: Global, server: u32) -> Result<Reaction, ClientFault>
         ensures { Does self.now result self.now (react self.now (Reconnected server)) }
     {

@@ -22,17 +22,16 @@ use linda_wire::NUMBER_LIMIT;
 use std::alloc::Global;
 
 impl Client {
-    /// Waits for an event. Where a base of it is ready, the first in tree order is committed to at
+    /// Waits for an event. If a base of it is ready, the first in tree order is committed to at
     /// once, and nothing is sent. Else each input and each read takes a ticket and is asked of all
     /// servers, and the synchronization is pending until it commits to one base or is abandoned.
     ///
     /// # Errors
     ///
-    /// `Left` where the client has left; else `Busy` where an out, a synchronization or a leave is
-    /// pending; else
-    /// `TooDeep` where a leaf stands under more than 64 nodes; else `TooManyBases` where there are
-    /// more than 256 bases, or more than 64 of them are inputs or reads; else `Spent` where no base
-    /// is ready and a ticket would reach 2^63; else `Memory` where memory runs out. In each case
+    /// `Left` if the client has left; else `Busy` if an out, a synchronization or a leave is
+    /// pending; else `TooDeep` if a leaf is under more than 64 nodes; else `TooManyBases` if there
+    /// are more than 256 bases, or more than 64 of them are inputs or reads; else `Spent` if no
+    /// base is ready and a ticket would reach 2^63; else `Memory` if memory runs out. In each case
     /// the client is as before, and the event is dropped.
     pub fn sync(&mut self, alloc: Global, event: Event) -> Result<Reaction, ClientFault>
         ensures { Does self.old result self.new (react self.old (Sync (tree_of event))) }
@@ -43,7 +42,7 @@ impl Client {
         self.ask(alloc, event)
     }
 
-    // What the event commits to at once, where a base of it is ready.
+    // What the event commits to at once, if a base of it is ready.
     fn at_once(&self, alloc: Global, event: &Event) -> Result<Option<Reaction>, ClientFault>
         ensures { AtOnce self.now (tree_of event.now) result }
     {

@@ -11,13 +11,13 @@ use crate::reaction::Reaction;
 use std::alloc::Global;
 
 impl Client {
-    /// Tells the client the time. Its clock never falls: a time that is past changes nothing. If a
+    /// Gives the client the time. Its clock never falls: a time that is past changes nothing. If a
     /// synchronization is pending, and no Accept of it is unanswered, the first alarm in tree order
     /// that is ready commits.
     ///
     /// # Errors
     ///
-    /// `Memory` where memory runs out, and then the client is as before.
+    /// `Memory` if memory runs out, and then the client is as before.
     pub fn tick(&mut self, alloc: Global, now: u64) -> Result<Reaction, ClientFault>
         ensures { Does self.old result self.new (react self.old (Tick now)) }
     {

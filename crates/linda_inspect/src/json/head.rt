@@ -1,4 +1,4 @@
-//! What two files begin with, which bank stands, and how much it has, as JSON.
+//! JSON of the heads: how two files begin, which bank is in use, and how much it has.
 
 ghost use Rattle.std.specs.Prelude.{◌≡◌, ◌++◌, ◌&&◌, OnOk};
 ghost use Rattle.linda_inspect.specs.Json.{IsPushed};

@@ -1,4 +1,4 @@
-//! What a state keeps, as JSON.
+//! JSON of the lists: the tuples and clients that a state keeps.
 
 ghost use Rattle.std.specs.Prelude.{OnOk};
 ghost use Rattle.std.specs.FinMap.{entries};

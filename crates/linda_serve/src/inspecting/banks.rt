@@ -1,7 +1,7 @@
 //! The bytes of the two banks of a folder, of one moment, though a server may be at work on them.
 //!
-//! A file is read from the front to its end: a record is there before its gate opens, and stands
-//! after it. Where both files begin afterwards as they did, no bank was begun anew meanwhile.
+//! A file is read from the front to its end: a record is there before its gate opens, and comes
+//! after it. If both files begin afterwards as they did, no bank was begun anew meanwhile.
 
 ghost use Rattle.std.specs.Prelude.{◌≡◌, ◌↔◌, take, IsTrue};
 ghost use Rattle.linda_serve.specs.declared.inspecting.banks.TheConstants.{FRONT};
@@ -14,7 +14,7 @@ use std::fs;
 use std::fs::{File, Files};
 use std::io::{ErrorKind, Read};
 
-// How often they are read where a bank is begun anew meanwhile.
+// How often they are read if a bank is begun anew meanwhile.
 const READINGS: u32 = 100;
 
 // The bytes of a bank that say which one it is: its gate, four letters and the generation.
@@ -31,8 +31,8 @@ pub(super) struct Banks {
 ///
 /// # Errors
 ///
-/// `Disk` where the folder or a file cannot be read, a bank is no regular file, or both are one
-/// file; `InUse` where a bank was begun anew at each reading; `Memory`.
+/// `Disk` if the folder or a file cannot be read, a bank is no regular file, or both are one file;
+/// `InUse` if a bank was begun anew at each reading; `Memory`.
 pub(super) fn read_banks<F: Files<File = File>>(
     files: &F,
     alloc: Global,
@@ -68,7 +68,7 @@ fn check_both<F: Files<File = File>>(
     }
 }
 
-// The bytes of a file; none where it is missing.
+// The bytes of a file; none if it is missing.
 fn read_bank<F: Files<File = File>>(
     files: &F,
     alloc: Global,
@@ -107,7 +107,7 @@ fn begins_as(front: &[u8], bytes: &[u8]) -> bool
     front == &bytes[..bytes.len().min(FRONT)]
 }
 
-// The file, opened for reading; None where it is missing.
+// The file, opened for reading; None if it is missing.
 fn open_bank<F: Files<File = File>>(files: &F, path: &str) -> Result<Option<File>, ServingFault> {
     match File::open(files, path) {
         Ok(file) => Ok(Some(file)),

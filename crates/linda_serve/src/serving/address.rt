@@ -1,4 +1,4 @@
-//! Where a server listens, and what it prints of that.
+//! Address of a server, and the line that it prints once it listens.
 
 ghost use Rattle.std.specs.Prelude.{◌≡◌, IfOk};
 ghost use Rattle.std.specs.String.{string_bytes};
@@ -21,7 +21,7 @@ pub(super) fn ready_line(alloc: Global, port: u16) -> Result<String, AllocError>
     format!(in alloc; "ready {port}\n")
 }
 
-/// The line that is printed once a server listens on a unix socket alone.
+/// The line that is printed once a server listens only on a unix socket.
 pub(super) fn ready_line_at(alloc: Global, path: &str) -> Result<String, AllocError>
     ensures { IfOk result (λ line. string_bytes line ≡ ready_line_at path.now) }
 {

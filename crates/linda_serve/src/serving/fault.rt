@@ -1,4 +1,4 @@
-//! Why a server on a folder does not serve.
+//! Faults of a server on a folder.
 
 ghost use Rattle.std.specs.Prelude.{◌≡◌};
 ghost use Rattle.linda_serve.specs.Faults.{fault_of_disk, fault_of_open, fault_of_report};

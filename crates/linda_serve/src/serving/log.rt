@@ -1,11 +1,12 @@
 //! The log of a server: a line for what happens, `TIME EVENT key value key value ..`.
 
 use super::banks::Banks;
-use super::minutes::{Counted, connected};
+use super::minutes::Counted;
 use super::stamp::stamp_now;
 use linda_disk::FileTrouble;
 use linda_net::{Gauge, Notice, Refused, Tally, Watcher, Why};
 use linda_server::InUse;
+use linda_status::connected;
 use std::alloc::{AllocError, Global};
 use std::io::Write;
 use std::time::Clock;

@@ -1,6 +1,6 @@
-//! What a log counts from one minute to the next.
+//! Counts of a log, from one minute to the next.
 
-ghost use Rattle.std.specs.Prelude.{◌≡◌, ◌-◌};
+ghost use Rattle.std.specs.Prelude.{◌≡◌};
 ghost use Rattle.linda_serve.specs.Minutes.{counted, more_counted, none_counted};
 
 use linda_net::{Refused, Tally};
@@ -67,11 +67,4 @@ impl Counted {
         *self = now;
         more
     }
-}
-
-/// How many connections there are.
-pub(super) fn connected(tally: &Tally) -> u64
-    ensures { result ≡ tally.now.came - tally.now.over }
-{
-    tally.came.saturating_sub(tally.over)
 }

@@ -1,4 +1,4 @@
-//! When a line of the log was written.
+//! Stamps of time, which begin the lines of the log.
 
 use httpdate::HttpDate;
 use std::time::{Clock, SystemTime, UNIX_EPOCH};
@@ -6,7 +6,7 @@ use std::time::{Clock, SystemTime, UNIX_EPOCH};
 /// How long a time is, as in `2026-11-24T22:05:09Z`.
 pub const STAMP: usize = 20;
 
-/// The time now, in UTC. Nothing where the clock cannot be read.
+/// The time now, in UTC. Nothing if the clock cannot be read.
 pub(crate) fn stamp_now<C: Clock>(clock: &C) -> Option<[u8; STAMP]> {
     let now = SystemTime::now(clock).ok()?;
     let since = now.duration_since(UNIX_EPOCH).ok()?;

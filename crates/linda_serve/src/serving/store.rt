@@ -19,14 +19,13 @@ pub(crate) const LEFT: &str = "left.bank";
 /// The file of the right bank.
 pub(crate) const RIGHT: &str = "right.bank";
 
-/// Opens the store in a folder, which nobody else has open. Where both of its files are missing or
+/// Opens the store in a folder, which nobody else has open. If both of its files are missing or
 /// empty a new one is created. What it created is there after a power cut.
 ///
 /// # Errors
 ///
 /// `InUse`; `NoStore`, `Damaged`, `Disk` as the banks are, `Disk` also if one is no regular file or
-/// both are one file;
-/// `Memory`. Files that were missing may be there.
+/// both are one file; `Memory`. Files that were missing may be there.
 pub fn open_store<R: Files<File = File>>(
     rt: &R,
     alloc: Global,
@@ -108,7 +107,7 @@ impl BankFiles {
         Ok((server, found))
     }
 
-    /// Cuts off what is behind the bank on this side, which ends at this offset by a closed gate:
+    /// Cuts off what is after the bank on this side, which ends at this offset by a closed gate:
     /// what is left of records that were cut off, and of banks before.
     ///
     /// # Errors
@@ -136,7 +135,7 @@ fn found_in(used: &File, other: &File) -> Found {
     }
 }
 
-// Cuts a file behind the closed gate at this offset, and syncs it, if it is longer.
+// Cuts a file after the closed gate at this offset, and syncs it, if it is longer.
 fn cut_rest(file: &File, end: usize) -> Result<(), ServingFault> {
     let Some(len) = end.checked_add(GATE_BYTES) else {
         return Ok(());
@@ -229,7 +228,7 @@ fn as_disk(
     }
 }
 
-// Creates a store where both banks are empty, and opens it where one is not.
+// Creates a store if both banks are empty, and opens it if one is not.
 fn create_or_open(
     alloc: Global,
     left: FileDisk,
@@ -256,7 +255,7 @@ fn open(alloc: Global, left: FileDisk, right: FileDisk) -> Result<Durable<FileDi
     }
 }
 
-// The file of a bank, which is created where it is missing.
+// The file of a bank, which is created if it is missing.
 fn open_bank<R: Files<File = File>>(
     rt: &R,
     alloc: Global,

@@ -1,4 +1,4 @@
-//! Where a log goes that nobody waits for.
+//! Writer for a log that nobody waits for.
 
 use super::fault::ServingFault;
 use mio::unix::SourceFd;

@@ -1,4 +1,4 @@
-//! What a node answers: messages of clients, and the leaving of one.
+//! Handling of messages by the durable server, and of a client's leaving.
 
 ghost use Rattle.std.specs.Prelude.{◌≡◌, ◌∷◌, [], ◌≤◌, true, false, length};
 ghost use Rattle.std.specs.Prelude.{IfOk, OnOk, IsErrOf};

@@ -14,7 +14,7 @@ ghost use Rattle.linda_server.specs.Server.{failures_of, IsKeptFor, IsPutOn, Alw
 use super::Durable;
 use crate::commit::commit;
 use crate::fault::ServeFault;
-use crate::next::{noted, spared};
+use crate::next::{noted, spared, unless_spent};
 use crate::served::Served;
 use crate::serving::{Batch, count_of, serve};
 use linda_disk::Disk;
@@ -81,7 +81,7 @@ impl<D: Disk> Durable<D> {
         self.admit(size, count)?;
         self.begin();
         let next = mem::replace(&mut self.next, None);
-        self.next = spared(next, alloc, self.store.state(), batch);
+        self.next = unless_spent(spared(next, alloc, self.store.state(), batch));
         let Ok(served) = serve(&mut self.store, alloc, batch) else {
             return Err(ServeFault::Memory);
         };
@@ -194,7 +194,7 @@ impl<D: Disk> Durable<D> {
         match commit(&mut self.disks, alloc, &served.deeds) {
             Ok(()) => {
                 let next = mem::replace(&mut self.next, None);
-                self.next = noted(next, alloc, &served.deeds);
+                self.next = unless_spent(noted(next, alloc, &served.deeds));
                 self.down = false;
                 Ok(served)
             }

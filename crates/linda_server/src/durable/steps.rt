@@ -87,8 +87,9 @@ impl<D: Disk> Durable<D> {
         }
     }
 
-    /// Takes the next step of a snapshot: it writes about so many bytes at most, and ends synced.
-    /// With the last one the new bank is in use: its records are what was done since it was begun.
+    /// Takes the next step of a snapshot: it writes so many bytes at most, and one entry of the
+    /// snapshot more, and ends synced. With the last one the new bank is in use: its records are what
+    /// was done since it was begun.
     /// Nothing changes that a client sees.
     ///
     /// # Errors
@@ -100,8 +101,9 @@ impl<D: Disk> Durable<D> {
         ensures falls { Falls self.old result self.new }
         ensures never_full { IsErrOf result NodeFault.Full → ⊥ }
         // It is `Idle` exactly if none is begun. At `Going` the bank in use is as it was, and at
-        // `Done` the other disk holds it, of the next generation.
-        ensures came { IfOk result (CameTo self.old self.new) }
+        // `Done` the other disk holds it, of the next generation and within its limit. It writes so
+        // many bytes at most, and one entry of a snapshot.
+        ensures came { IfOk result (CameTo most self.old self.new) }
     {
         match self.advance(alloc, most) {
             Ok(progress) => Ok(progress),
@@ -121,8 +123,9 @@ impl<D: Disk> Durable<D> {
         ensures fails { Fails self.old result self.new }
         ensures never_full { IsErrOf result ServeFault.Full → ⊥ }
         // It is `Idle` exactly if none is begun. At `Going` the bank in use is as it was, and at
-        // `Done` the other disk holds it, of the next generation.
-        ensures came { IfOk result (CameTo self.old self.new) }
+        // `Done` the other disk holds it, of the next generation and within its limit. It writes so
+        // many bytes at most, and one entry of a snapshot.
+        ensures came { IfOk result (CameTo most self.old self.new) }
     {
         if self.down {
             return Err(ServeFault::Down);

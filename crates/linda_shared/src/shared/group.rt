@@ -1,10 +1,12 @@
 //! Sessions that one thread serves, which waits for none of them.
 
-ghost use Rattle.std.specs.Prelude.{◌≡◌, ◌+◌, IfOk};
+ghost use Rattle.std.specs.Prelude.{◌≡◌, map, All, IfOk};
 ghost use Rattle.linda_shared.specs.Greeting.{WasGreeted, IsSeatOf};
+ghost use Rattle.linda_shared.specs.Group.{told_in, AreTold, IsEffectOf};
 
 use super::Shared;
 use crate::group::Group;
+use crate::served::ServedGroup;
 use linda_disk::Disk;
 use linda_shared_accounts::{Account, SharedFault};
 use linda_shared_outbox::Sent;
@@ -50,23 +52,32 @@ impl<D: Disk, L: Ledger> Shared<D, L> {
 
     /// Serves the messages of a group, one after the other in one call of the server, and posts
     /// what is sent, once it is on the disks; it says before that the server is locked. Returns
-    /// whether the server is up. If answers of before wait to be heard nothing of the group is
-    /// served.
-    pub fn serve_group<R: Wait, P: Post>(&self, rt: &R, group: &mut Group<L>, posts: &mut P) -> bool
-        ensures each { group.new.asked + group.new.answered
-            ≡ group.old.asked + group.old.answered }
-        // So each message that was asked has its answer, also if the server is down.
-        ensures all { group.old.answered ≡ 0 → group.new.asked ≡ 0 }
+    /// each message with its answer, and whether the server is up.
+    pub fn serve_group<A: Drop, R: Wait, P: Post>(
+        &self,
+        rt: &R,
+        group: Group<A, L>,
+        posts: &mut P,
+    ) -> (ServedGroup<A, L>, bool)
+        // Each message that was asked has its answer, also if the server is down, in order, and
+        // that has its address;
+        ensures each { map (λ a. a.0) result.0.answers ≡ group.messages }
+        ensures addresses { map (λ a. a.1.address) result.0.answers ≡ group.addresses }
+        ensures room { result.0.room ≡ group.room }
+        // what is reported is what a server in some state says of these messages,
+        ensures told { AreTold D D.Disk group.messages (told_in result.0) }
+        // and so a deed is one that its own message asks for.
+        ensures own { All (λ a. IsEffectOf a.0 a.1.told) result.0.answers }
     {
         let mut guard = self.locked.lock(rt);
         let locked = &mut *guard;
         posts.begin();
-        group.serve(self.alloc, &mut locked.held);
+        let served = group.serve(self.alloc, &mut locked.held);
         locked.post_all(rt, self.alloc, posts);
         let is_down = locked.held.is_down();
         drop(guard);
         self.end_where(rt, is_down);
-        !is_down
+        (served, !is_down)
     }
 
     /// The client leaves: what it asked is given up, and its account is parked for its next

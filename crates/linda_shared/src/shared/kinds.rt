@@ -1,4 +1,4 @@
-//! How many tuples the server has of each tag and number of fields.
+//! Kinds of the server's tuples: how many there are of each tag and number of fields.
 
 use super::Shared;
 use linda_disk::Disk;

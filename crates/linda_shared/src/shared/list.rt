@@ -1,4 +1,4 @@
-//! The tuples and the clients of the server, for whoever asks how it does.
+//! The tuples and the clients of the server, for those who ask how it does.
 
 use super::Shared;
 use linda_disk::Disk;

@@ -1,4 +1,4 @@
-//! What waits and what is held for longest.
+//! Longest waits and holds of the server.
 
 use super::Shared;
 use linda_disk::Disk;

@@ -1,4 +1,4 @@
-//! Whether what sessions were told is what was stored.
+//! Comparison of what was reported to sessions with what was stored.
 
 ghost use Rattle.std.specs.Prelude.{◌≡◌, ◌↔◌, ℕ, true, false, All, OnOk, IfErr, IfSome, Some};
 ghost use Rattle.std.specs.FinMap as map;

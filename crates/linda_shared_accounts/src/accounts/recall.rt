@@ -1,4 +1,4 @@
-//! What the accounts forget of seats that are back, and what is kept for those that are out.
+//! Receipts that the accounts forget of seats that are back, and keep of those that are out.
 
 ghost use Rattle.std.specs.Prelude.{◌≡◌, ◌≢◌, ℕ, IfOk, OnOk};
 ghost use Rattle.std.specs.FinMap as map;

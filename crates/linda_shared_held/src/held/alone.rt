@@ -1,4 +1,4 @@
-//! Messages one by one, where they do not go in one step: what finds no room is refused, and so is
+//! Messages one by one, if they do not go in one step: what finds no room is refused, and so is
 //! what the count of deeds has no room for.
 
 ghost use Rattle.std.specs.Prelude.{◌≡◌, ◌∷◌, [], ℕ, length, vec_len, IfOk, OnOk, OnErr};

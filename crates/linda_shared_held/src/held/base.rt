@@ -1,4 +1,4 @@
-//! What is always so, and the base, which a snapshot moves.
+//! Base of the receipts, which a snapshot moves, and what is always so.
 
 ghost use Rattle.std.specs.Prelude.{◌≡◌, ◌≤◌, ◌<◌, ◌+◌, ◌||◌, ◌⊎◌, nat_le, [], false, true};
 ghost use Rattle.std.specs.Prelude.{vec_len, OnOk, OnErr};

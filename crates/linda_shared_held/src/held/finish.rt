@@ -1,4 +1,4 @@
-//! The end: all seats are back, and what they were told is what was stored.
+//! The end: all seats are back, and what was reported to them is what was stored.
 
 ghost use Rattle.std.specs.Prelude.{◌≡◌};
 ghost use Rattle.linda_shared_held.specs.Parked.{AreBack};

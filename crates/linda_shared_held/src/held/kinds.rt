@@ -1,4 +1,4 @@
-//! How many tuples the server has of each tag and number of fields.
+//! Kinds of the server's tuples: how many there are of each tag and number of fields.
 
 ghost use Rattle.std.specs.Prelude.{IfOk};
 ghost use Rattle.linda_shared_listing.specs.Kinds.{IsKindPage};

@@ -1,4 +1,4 @@
-//! What waits and what is held for longest.
+//! Longest waits and holds under the lock.
 
 ghost use Rattle.std.specs.Prelude.{IfOk};
 ghost use Rattle.linda_shared_listing.specs.Longest.{IsLongest};

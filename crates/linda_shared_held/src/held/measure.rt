@@ -1,4 +1,4 @@
-//! What the server comes to, in numbers.
+//! Measure of the server, in numbers.
 
 ghost use Rattle.std.specs.Prelude.{◌≡◌, length};
 ghost use Rattle.std.specs.FinMap as map;

@@ -1,10 +1,10 @@
-//! What is remembered of seats from one snapshot to the next, so that those that are back keep no
-//! more than they need.
+//! Memory of seats from one snapshot to the next, so that those that are back keep no more than
+//! they need.
 //!
 //! A seat that comes back for its client's next session keeps the receipts that are younger than
 //! the base, and its last one. What was kept for its client at the last snapshot says which are
 //! older. A snapshot moves the base, and then no receipt is younger: those that came back since the
-//! one before keep their last receipt alone.
+//! one before keep only their last receipt.
 
 ghost use Rattle.std.specs.Prelude.{◌≡◌};
 ghost use Rattle.linda_shared_accounts.specs.Accounts.{AreShortened};

@@ -56,7 +56,7 @@ impl<D: Disk, L: Ledger> Held<D, L> {
         ensures takes { TakesStep self.old.server result self.new.server }
         ensures never_full { IsErrOf result SharedFault.Full → ⊥ }
         // It is `Idle` exactly if none is begun, and at `Done` the new bank is in use.
-        ensures came { IfOk result (CameTo self.old.server self.new.server) }
+        ensures came { IfOk result (CameTo most self.old.server self.new.server) }
         // At `Done` the base is the state now, no place has a younger receipt, and the pace is that
         // of a new bank;
         ensures done { IfOk result (λ progress. progress ≡ Progress.Done
@@ -113,7 +113,7 @@ fn step<D: Disk>(
 ) -> Result<Progress, SharedFault>
     ensures takes { TakesStep server.old result server.new }
     ensures never_full { IsErrOf result SharedFault.Full → ⊥ }
-    ensures came { IfOk result (CameTo server.old server.new) }
+    ensures came { IfOk result (CameTo most server.old server.new) }
 {
     match server.step(alloc, most) {
         Ok(progress) => Ok(progress),

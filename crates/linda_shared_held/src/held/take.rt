@@ -1,4 +1,4 @@
-//! Messages of several clients: in one step where that may be, else one by one.
+//! Messages of several clients: in one step if that may be, else one by one.
 
 ghost use Rattle.std.specs.Prelude.{◌≡◌, true, false, ◌+◌, ◌≤◌, ◌<◌, ◌^◌, length, IfOk};
 ghost use Rattle.linda_store_step.specs.declared.size.TheConstants.{MAX_GROUP};

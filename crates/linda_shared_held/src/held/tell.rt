@@ -1,4 +1,4 @@
-//! Who is told what: each place what its message led to, with a part of the ledger.
+//! Reports to sessions: to each place what its message led to, with a part of the ledger.
 
 ghost use Rattle.std.specs.Prelude.{◌≡◌, ◌+◌, ◌≤◌, ◌<◌, ◌^◌, ◌++◌, length, map, reverse, replicate};
 ghost use Rattle.std.specs.Prelude.{vec_len, vec_capacity};

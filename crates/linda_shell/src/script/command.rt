@@ -18,7 +18,7 @@ pub(crate) enum Command {
     Abandon(u32),
     /// A client leaves: it gives up its number.
     Leave(u32),
-    /// Each client is told the time.
+    /// Each client is given the time.
     Tick(u64),
     /// A server writes a snapshot.
     Snapshot(u64),
@@ -33,12 +33,12 @@ pub(crate) enum Command {
     State(u64),
 }
 
-/// What a line asks for: nothing, where it is empty or begins with `#`; `None` inside where it is
-/// no command.
+/// What a line asks for: nothing, if it is empty or begins with `#`; `None` inside if it is no
+/// command.
 ///
 /// # Errors
 ///
-/// `AllocError` where memory runs out.
+/// `AllocError` if memory runs out.
 pub(crate) fn read_command(
     alloc: Global,
     line: &[u8],

@@ -1,4 +1,4 @@
-//! Why a script ended before its end.
+//! Faults that end a script before its end.
 
 use linda_shell_text::LineFault;
 use thiserror::Error;

@@ -1,4 +1,4 @@
-//! What a server keeps, as the lines that are printed.
+//! Lines that list what a server keeps.
 
 use linda_bag::Bag;
 use linda_book::{Book, KeptReply};
@@ -13,7 +13,7 @@ use std::alloc::{AllocError, Global};
 ///
 /// # Errors
 ///
-/// `AllocError` where memory runs out.
+/// `AllocError` if memory runs out.
 pub(crate) fn list_state<B: Bag>(
     alloc: Global,
     server: u32,

@@ -1,4 +1,4 @@
-//! What a script prints, and its trace where one is wanted.
+//! Output of a script, and its trace if one is wanted.
 
 use super::trace::Trace;
 use std::alloc::{AllocError, Global};
@@ -23,7 +23,7 @@ impl Output {
     ///
     /// # Errors
     ///
-    /// `AllocError` where memory runs out.
+    /// `AllocError` if memory runs out.
     pub(crate) fn traced(alloc: Global, servers: u32) -> Result<Output, AllocError> {
         Ok(Output {
             printed: String::new(alloc),
@@ -52,7 +52,7 @@ impl Output {
         }
     }
 
-    /// The trace, where one is wanted.
+    /// The trace, if one is wanted.
     pub(crate) fn trace(&mut self) -> Option<&mut Trace> {
         self.trace.as_mut()
     }
@@ -61,7 +61,7 @@ impl Output {
     ///
     /// # Errors
     ///
-    /// `AllocError` where memory runs out.
+    /// `AllocError` if memory runs out.
     pub(crate) fn begin(&mut self, number: u64, line: &[u8]) -> Result<(), AllocError> {
         match &mut self.trace {
             Some(trace) => trace.begin(number, line),
@@ -73,7 +73,7 @@ impl Output {
     ///
     /// # Errors
     ///
-    /// `AllocError` where memory runs out.
+    /// `AllocError` if memory runs out.
     pub(crate) fn print(&mut self, lines: &str) -> Result<(), AllocError> {
         self.printed.push_str(lines)?;
         match &mut self.trace {

@@ -1,4 +1,4 @@
-//! A script from a reader, what it prints to a writer, and its trace to another one where that is
+//! A script from a reader, what it prints to a writer, and its trace to another one if that is
 //! wanted.
 
 ghost use Rattle.std.specs.Prelude.{◌≤◌};
@@ -21,10 +21,9 @@ const BUFFER: usize = 4096;
 /// # Errors
 ///
 /// `Line` with the number of the first line that was not done, from 1: what was printed so far is
-/// written. `Read` and
-/// `Turns` where the script fails, or has not ended after 4,294,967,295 reads: all lines that were
-/// whole are done.
-/// `Write` where the output fails. `Memory` where it runs out before the first line.
+/// written. `Read` and `Turns` if the script fails, or has not ended after 4,294,967,295 reads: all
+/// lines that were whole are done. `Write` if the output fails. `Memory` if it runs out before the
+/// first line.
 pub fn run_script<R: Read, W: Write>(
     alloc: Global,
     reader: &mut R,
@@ -46,8 +45,8 @@ pub fn run_script<R: Read, W: Write>(
 ///
 /// # Errors
 ///
-/// As `run_script`; `Write` also where the trace cannot be written. What happened up to the fault
-/// is written as far as it can be.
+/// As `run_script`; `Write` also if the trace cannot be written. What happened up to the fault is
+/// written as far as it can be.
 pub fn trace_script<R: Read, W: Write, T: Write>(
     alloc: Global,
     reader: &mut R,
@@ -163,7 +162,7 @@ impl Lines {
     }
 }
 
-// The line without the carriage return at its end, where there is one.
+// The line without the carriage return at its end, if there is one.
 fn without_return(line: &[u8]) -> &[u8] {
     match line {
         [front @ .., b'\r'] => front,

@@ -37,7 +37,7 @@ impl Trace {
     ///
     /// # Errors
     ///
-    /// `AllocError` where memory runs out.
+    /// `AllocError` if memory runs out.
     pub(crate) fn new(alloc: Global, servers: u32) -> Result<Trace, AllocError> {
         let mut lines = String::new(alloc);
         writeln!(lines, "trace 1 servers {servers}")?;
@@ -69,7 +69,7 @@ impl Trace {
     ///
     /// # Errors
     ///
-    /// `AllocError` where memory runs out, here and below.
+    /// `AllocError` if memory runs out, here and below.
     pub(crate) fn begin(&mut self, number: u64, line: &[u8]) -> Result<(), AllocError> {
         match std::str::from_utf8(line.trim_ascii()) {
             Ok(command) => writeln!(self.lines, "line {number} {command}"),

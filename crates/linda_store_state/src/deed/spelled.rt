@@ -135,7 +135,7 @@ fn skip_other(form: Form, kind: u8, body: &[u8]) -> Result<&[u8], ReadFault>
     Ok(rest)
 }
 
-// What stands after a kind byte that not every form has: a Leave, where the form has them.
+// What is after a kind byte that not every form has: a Leave, if the form has them.
 fn other_from(form: Form, kind: u8, body: &[u8]) -> Result<(Deed, &[u8]), ReadFault>
     ensures { GivesAlways (λ x. (x.0, x.1.now)) result
         (choice_at (format.leave_kinds form) no_kind (kind ∷ body.now)) }
@@ -161,8 +161,8 @@ fn leave_from(body: &[u8]) -> Result<(Deed, &[u8]), ReadFault>
     Ok((Deed::Leave { client, n }, rest))
 }
 
-// Appends a kind byte, the client, the number and the id of a tuple; where memory runs out, a part
-// of them may stand after the old bytes.
+// Appends a kind byte, the client, the number and the id of a tuple; if memory runs out, a part of
+// them may be after the old bytes.
 fn push_reference(
     out: &mut Vec<u8>,
     kind: u8,
@@ -190,8 +190,8 @@ fn push_head(out: &mut Vec<u8>, kind: u8, client: u32, n: u64) -> Result<(), All
 }
 
 impl Deed {
-    /// Whether the deed has a spelling in the form: the tuple that it puts has one, where it puts
-    /// one, and a Leave has one where the form has them. Takes no memory.
+    /// Whether the deed has a spelling in the form: the tuple that it puts has one, if it puts one,
+    /// and a Leave has one if the form has them. Takes no memory.
     pub fn fits(&self, form: Form) -> bool
         ensures exact { IsTrue result ↔ format.SuitsForm form self.now }
         // The numbers of a deed in memory have their widths.

@@ -1,4 +1,4 @@
-//! What a server does for a request for a tuple.
+//! Requests for a tuple, as a server answers them.
 
 ghost use Rattle.std.specs.Prelude.{◌≡◌, if◌then◌else◌, ℕ, nat_le, false, None, Option, List, IfOk};
 ghost use Rattle.std.specs.Prelude.{OnOk};
@@ -126,7 +126,7 @@ impl Soft {
         if remove {
             starts.least_match(alloc, bag, template, &self.holds, next)
         } else {
-            bag.least_match(template, &BTreeSet::new(alloc))
+            starts.read_match(alloc, bag, template, &BTreeSet::new(alloc), next)
         }
     }
 }

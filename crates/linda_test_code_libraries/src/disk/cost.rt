@@ -1,4 +1,4 @@
-//! What a call of a disk in memory costs.
+//! Cost of a call of a disk in memory.
 
 use linda_disk::{Disk, DiskFault, MemDisk};
 use std::alloc::Global;

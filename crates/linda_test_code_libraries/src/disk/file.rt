@@ -175,7 +175,7 @@ fn has_what_was_written(
     Ok(())
 }
 
-/// From place 2 on these bytes stand.
+/// From place 2 on there are these bytes.
 fn has_in_the_middle(rt: &impl Abort, disk: &mut FileDisk, bytes: [u8; 3]) {
     let mut middle = [0; 3];
     is_done(rt, read_within(disk, 2, &mut middle));

@@ -82,7 +82,7 @@ const TORN: [Torn; 5] = [
 ];
 
 /// How many tuples there are after a stop inside this device call of a group of 130 puts: the write
-/// of three records behind a closed gate, a sync, the write that opens the gate, a sync. Nothing is
+/// of three records after a closed gate, a sync, the write that opens the gate, a sync. Nothing is
 /// there before the third call; then all is, if the crash leaves an open gate.
 fn want(at: u64, torn: Torn) -> usize {
     if at < 2 {
@@ -149,7 +149,7 @@ fn served(
 
 #[test]
 fn a_group_needs_room_for_all_its_records(rt: HostRuntime) -> Result<(), AllocError> {
-    // Three records of 130 puts, and the gate behind them, end at 65 + 15 + 3,510 + 1 bytes.
+    // Three records of 130 puts, and the gate after them, end at 65 + 15 + 3,510 + 1 bytes.
     assert_eq!(rt; served(rt.alloc(), 3_591, 130)?, (Ok(()), 131));
     assert_eq!(rt; served(rt.alloc(), 3_590, 130)?, (Err(ServeFault::Full), 1));
     assert_eq!(rt; served(rt.alloc(), 3_590, 129)?, (Ok(()), 130));

@@ -2,7 +2,7 @@
 //! call or after it.
 //!
 //! The tests are made to be run with each allocation refused, one after another, and pass whichever
-//! it is. Where the allocation is one of the script's own, the step is done again.
+//! it is. If the allocation is one of the script's own, the step is done again.
 
 use super::script::{Do, Stand, Told, empty_stand, right_bytes, step};
 use super::words::{EMPTY, WITH_ONE};
@@ -11,7 +11,7 @@ use linda_server::OpenFault;
 use std::alloc::{AllocError, Global};
 use std::process::Abort;
 
-/// Does the step, and once more where memory ran out for the script.
+/// Does the step, and once more if memory ran out for the script.
 fn surely(alloc: Global, stand: &mut Stand, what: Do) -> Result<Told, AllocError> {
     match step(alloc, stand, what) {
         Ok(told) => Ok(told),
@@ -19,8 +19,8 @@ fn surely(alloc: Global, stand: &mut Stand, what: Do) -> Result<Told, AllocError
     }
 }
 
-/// Makes the server; where there is no memory for that, what is opened on the disks is new, or
-/// nothing is.
+/// Makes the server; if there is no memory for that, what is opened on the disks is new, or nothing
+/// is.
 fn made(rt: &impl Abort, alloc: Global, stand: &mut Stand) -> Result<bool, AllocError> {
     let told = surely(alloc, stand, Do::Create(200))?;
     if told == EMPTY {
@@ -35,7 +35,7 @@ fn made(rt: &impl Abort, alloc: Global, stand: &mut Stand) -> Result<bool, Alloc
     Ok(false)
 }
 
-/// Opens the server; where there is no memory for that, once more.
+/// Opens the server; if there is no memory for that, once more.
 fn opened(rt: &impl Abort, alloc: Global, stand: &mut Stand) -> Result<Told, AllocError> {
     let told = surely(alloc, stand, Do::Open(200))?;
     if told != Told::Refused(OpenFault::Memory) {
@@ -84,8 +84,8 @@ fn expect(
     Ok(())
 }
 
-/// Does a step. Where there is no memory for it, the server is down, and opened again it keeps what
-/// it kept before, or what it keeps after the step; done again, the step gives what it does else.
+/// Does a step. If there is no memory for it, the server is down, and opened again it keeps what it
+/// kept before, or what it keeps after the step; done again, the step gives what it does else.
 fn borne(
     rt: &impl Abort,
     alloc: Global,
@@ -138,8 +138,8 @@ const SNAPSHOT_ROWS: &[Row] = &[
 ];
 
 /// What the right disk holds after that snapshot: an open gate, the letters, generation 2, the
-/// length of what stands behind it; the next id, and under id 1 the tuple; client 7, its number and
-/// its reply; and a closed gate.
+/// length of what is after it; the next id, and under id 1 the tuple; client 7, its number and its
+/// reply; and a closed gate.
 const SNAPSHOT_BANK: [u8; 77] = [
     1, b'L', b'N', b'D', b'2', 0, 0, 0, 0, 0, 0, 0, 2, 0, 0, 0, 0x3b, // the heading
     0, 0, 0, 0, 0, 0, 0, 2, 0, 0, 0, 1, 0, 0, 0, 0, 0, 0, 0, 1, // the next id, one tuple, its id

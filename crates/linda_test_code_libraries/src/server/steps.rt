@@ -301,3 +301,69 @@ fn a_snapshot_in_steps_is_given_up_for_a_whole_one(rt: HostRuntime) -> Result<()
     assert_eq!(rt; told(&server, true), want(true, true, 0));
     Ok(())
 }
+
+/// A server of this limit with ten tuples, each put by a client of its own. A put has 32 bytes among
+/// records, and 43 in a snapshot: 22 for its tuple and 21 for its client. So the bank in use has
+/// 34 + 10 * 32 = 354 bytes with the gate at its end, and the next one begins with
+/// 34 + 10 * 43 = 464.
+fn with_ten(alloc: Global, limit: usize) -> Result<Durable<MemDisk>, AllocError> {
+    let made = Durable::create(alloc, MemDisk::new(alloc), MemDisk::new(alloc), limit);
+    let Ok(mut server) = made else {
+        return Err(AllocError);
+    };
+    for client in 1..=10 {
+        serve(alloc, &mut server, client, &put(alloc, 1, 7)?)?;
+    }
+    Ok(server)
+}
+
+/// A snapshot in steps, if two puts come meanwhile: whether it was begun, whether it is after each
+/// of them, and whether its bank is in use in the end.
+fn beside_two_puts(alloc: Global, server: &mut Durable<MemDisk>) -> Result<[bool; 4], AllocError> {
+    let begun = server.begin_steps(alloc).is_ok();
+    serve(alloc, server, 11, &put(alloc, 1, 7)?)?;
+    let one = server.is_stepping();
+    serve(alloc, server, 12, &put(alloc, 1, 7)?)?;
+    let two = server.is_stepping();
+    let mut is_done = false;
+    for _ in 0..40 {
+        is_done = is_done || matches!(server.step(alloc, 40), Ok(Progress::Done));
+    }
+    Ok([begun, one, two, is_done])
+}
+
+/// What comes of it under a limit, how many records and bytes the server counts in the bank in use
+/// then, and how many records and tuples that has if it is opened anew.
+fn under_limit(alloc: Global, limit: usize) -> Result<([bool; 4], [usize; 4]), AllocError> {
+    let mut server = with_ten(alloc, limit)?;
+    let went = beside_two_puts(alloc, &mut server)?;
+    let (records, used) = (server.records(), server.used());
+    let (left, right) = server.into_disks();
+    match Durable::open(alloc, left, right, limit) {
+        Err(_) => Err(AllocError),
+        Ok(server) => Ok((
+            went,
+            [records, used, server.records(), server.state().bag.len()],
+        )),
+    }
+}
+
+/// The next bank is given up by the put with which it would pass its limit, and the bank in use has
+/// everything; within its limit it has the records of both puts, and no other.
+#[test]
+fn the_next_bank_keeps_within_its_limit(rt: HostRuntime) -> Result<(), AllocError> {
+    let alloc = rt.alloc();
+    let kept = [12, 417, 12, 12];
+    let rows = [
+        (463, [false, false, false, false], kept),
+        (464, [true, false, false, false], kept),
+        (495, [true, false, false, false], kept),
+        (496, [true, true, false, false], kept),
+        (527, [true, true, false, false], kept),
+        (528, [true, true, true, true], [2, 527, 2, 12]),
+    ];
+    for (limit, went, has) in rows {
+        assert_eq!(rt; under_limit(alloc, limit)?, (went, has), "{limit}");
+    }
+    Ok(())
+}

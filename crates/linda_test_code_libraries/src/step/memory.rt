@@ -2,8 +2,8 @@
 //! that runs out of memory. That call changes nothing of the state; from then on the store holds
 //! nothing, lets nobody wait, and answers nothing.
 //!
-//! The tests are made to be run with each allocation refused, one after another; where the
-//! allocation is one of the test's own, the test fails and says that memory ran out.
+//! The tests are made to be run with each allocation refused, one after another; if the allocation
+//! is one of the test's own, the test fails and says that memory ran out.
 
 use crate::messages::{ask, number_in, put};
 use linda_bag::{Bag, IndexBag, ListBag};

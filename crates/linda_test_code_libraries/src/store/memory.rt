@@ -1,4 +1,4 @@
-//! A stream that spells nothing is reported where memory is short for what it holds.
+//! A stream that spells nothing is reported if memory is short for what it holds.
 
 use linda_store::{End, Volatile, converse};
 use std::io;
@@ -30,8 +30,8 @@ const BAD_FIELD: [u8; 19] = [0, 0, 0, 0xf, 2, 0, 0, 0, 0, 0, 0, 0, 1, 2, 0, 1, 0
 
 // The first allocation holds the stream's bytes, the second the text of the tag and the third the
 // row of fields, neither of which is needed to report the fault; the others hold the reply. So the
-// test passes too where the second allocation is refused, or the third (`tools/refused-growth` runs
-// it so).
+// test passes too if the second allocation is refused, or the third (`tools/refused-growth` runs it
+// so).
 #[test]
 fn a_bad_frame_is_told_where_there_is_no_memory_for_its_text(rt: HostRuntime) {
     let mut node = Volatile::new(rt.alloc());

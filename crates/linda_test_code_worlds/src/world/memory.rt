@@ -1,6 +1,6 @@
 //! A run in which an allocation may be refused: with ample memory it goes to its end, and else what
 //! the world shows is as before, and it does nothing more, but for a server on disks that may be
-//! opened again. It is made to be run with each allocation refused, one after another; where the
+//! opened again. It is made to be run with each allocation refused, one after another; if the
 //! allocation is one of the test's own, the test fails and says that memory ran out.
 
 use super::made::{in_memory, on_disks};
@@ -69,7 +69,7 @@ fn shows<N: Node>(rt: &impl Abort, world: &World<N>, want: (usize, usize, usize)
     assert_eq!(rt; counts(world), want);
 }
 
-/// Does a step, and tells the fault, if there is one.
+/// Does a step, and reports the fault, if there is one.
 fn fault_of<N: Node>(
     alloc: Global,
     world: &mut World<N>,

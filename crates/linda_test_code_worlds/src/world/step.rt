@@ -1,4 +1,4 @@
-//! What may happen in a world, in few words.
+//! Steps of a world, in few words.
 
 use linda_disk::Torn;
 use linda_event::Event;
@@ -8,8 +8,7 @@ use std::alloc::Global;
 use std::test::Fail;
 
 /// What happens: clients, servers and packets by their numbers. Each tuple is `("a", 3)`, and each
-/// template
-/// `("a", ?i)`.
+/// template `("a", ?i)`.
 #[derive(Clone, Copy)]
 pub(super) enum Do {
     Out(u32),

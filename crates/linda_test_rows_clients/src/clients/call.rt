@@ -39,7 +39,7 @@ fn reconnected_of(server: &str) -> Result<Call, WordsFault> {
     Ok(Call::Reconnected(read_small_number(server)?))
 }
 
-// The reply that stands after the number of the server that it comes from.
+// The reply that is after the number of the server that it comes from.
 fn receive_of(alloc: Global, words: &str) -> Result<Call, WordsFault> {
     let (server, words) = read_numbered(words)?;
     Ok(Call::Receive(server, read_reply(alloc, words)?))

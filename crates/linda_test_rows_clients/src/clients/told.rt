@@ -1,4 +1,4 @@
-//! What comes of a client's call, in words.
+//! Lines of what comes of a client's call.
 
 use crate::words::done;
 use linda_client::{ClientFault, Outcome, Reaction};

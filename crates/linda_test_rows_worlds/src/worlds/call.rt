@@ -1,4 +1,4 @@
-//! What a line asks of a world.
+//! Calls that a line makes of a world.
 
 use super::event::event_of;
 use linda_test_script::{WordsFault, read_small_number, split_word};

@@ -1,4 +1,4 @@
-//! What happens in a world, as lines say it.
+//! Events of a world, as lines say them.
 
 use super::call::Seat;
 use super::stops::stop_of;
@@ -28,7 +28,7 @@ fn close(words: &str) -> Result<WorldEvent, WordsFault> {
     Ok(WorldEvent::Close { server, client })
 }
 
-// What the client does whose number stands first.
+// What the client does whose number is first.
 fn client_event(alloc: Global, words: &str) -> Result<WorldEvent, WordsFault> {
     let (client, words) = read_numbered(words)?;
     match words {

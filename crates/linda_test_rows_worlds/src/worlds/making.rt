@@ -1,4 +1,4 @@
-//! How a row makes its worlds.
+//! Worlds of a row, as they are made.
 
 ghost use Rattle.std.specs.Prelude.{◌≡◌, ◌≤◌, All, IfOk, IfSome, length, map};
 ghost use Rattle.linda_client.specs.declared.limits.TheConstants.{MAX_SERVERS};
@@ -12,7 +12,7 @@ use linda_test_script::{WordsFault, read_number, read_size, split_word};
 use linda_world::{World, WorldFault};
 use std::alloc::{AllocError, Global};
 
-/// The most bytes that a bank of a server may have where its disks have room.
+/// The most bytes that a bank of a server may have if its disks have room.
 const LIMIT: usize = 1_048_576;
 
 /// The disks of a first server.

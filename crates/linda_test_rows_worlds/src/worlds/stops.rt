@@ -87,7 +87,7 @@ fn torn_of(way: &str) -> Result<Torn, WordsFault> {
     }
 }
 
-// The numbers of packets, or so many times one; none where there are no words.
+// The numbers of packets, or so many times one; none if there are no words.
 fn packets_of(alloc: Global, words: &str) -> Result<Vec<usize>, WordsFault> {
     if let Some((count, packet)) = words.split_once(" of ") {
         return repeated(alloc, read_size(packet)?, read_size(count)?);

@@ -1,4 +1,4 @@
-//! What comes of an event, and what a world shows, in words.
+//! Words for what comes of an event, and for what a world shows.
 
 use linda_client::{Got, Outcome};
 use linda_store::{Deed, Node};

@@ -5,18 +5,18 @@ use std::io;
 use std::io::{ErrorKind, Input};
 use std::process::ExitCode;
 
-/// The exit status where a row did not come as it says.
+/// The exit status if a row did not come as it says.
 const OTHERWISE: u8 = 1;
 
-/// The exit status where standard input or output fails, or memory runs out.
+/// The exit status if standard input or output fails, or memory runs out.
 const REFUSED: u8 = 3;
 
-/// Plays the rows on standard input, and writes what came on standard output: the same text, where
-/// each row came as it says. On standard error stand how many rows there are, and those that did
-/// not, each with its first line that came otherwise.
+/// Plays the rows on standard input, and writes what came on standard output: the same text, if
+/// each row came as it says. On standard error are how many rows there are, and those that did not,
+/// each with its first line that came otherwise.
 ///
-/// The exit status is 0 where what came is the text that was read; 1 where it is not; 3, with one
-/// line on standard error, where standard input or output fails or memory runs out.
+/// The exit status is 0 if what came is the text that was read; 1 if it is not; 3, with one line on
+/// standard error, if standard input or output fails or memory runs out.
 pub fn run_rows<R: Input + Print + Eprint + AllocGlobal, P: Player>(
     rt: &R,
     player: &mut P,

@@ -1,4 +1,4 @@
-//! What is reported of words, one after another; those of which the same is reported are one run.
+//! Runs of words of which the same is reported, one after another.
 
 use std::alloc::{AllocError, Global};
 

@@ -7,11 +7,11 @@ use std::alloc::{AllocError, Global};
 
 /// A player whose rows may sweep: their lines that begin with `| ` are kept, and `sweep 0-3 by
 /// kept, lost` plays all of them for each word of the first list and each of the second, from the
-/// beginning, with these words in the places of
-/// `$1` and `$2`. `A-B` means all numbers from A to B, and without ` by ` there is one list.
+/// beginning, with these words in the places of `$1` and `$2`. `A-B` means all numbers from A to B,
+/// and without ` by ` there is one list.
 ///
 /// For each word of the first list a line says which outcome each of the second had, by numbers;
-/// words one after another of which the same is said share a line, `0 to 3`. After that stands what
+/// words one after another of which the same is said share a line, `0 to 3`. After that is what
 /// came of each outcome, line by line.
 #[derive(Drop)]
 pub struct Sweeps<P: Drop> {
@@ -121,7 +121,7 @@ fn listed(alloc: Global, list: &str) -> Result<Vec<String>, AllocError> {
     Ok(words)
 }
 
-// The first number and the last one, where the word is a range of numbers.
+// The first number and the last one, if the word is a range of numbers.
 fn range_of(word: &str) -> Option<(u64, u64)> {
     let (first, last) = word.split_once('-')?;
     match (first.parse::<u64>(), last.parse::<u64>()) {
@@ -144,7 +144,7 @@ fn filled(alloc: Global, line: &str, mark: &str, word: &str) -> Result<String, A
     Ok(text)
 }
 
-// The number of the outcome, from 1, which is a new one where there is no such outcome.
+// The number of the outcome, from 1, which is a new one if there is no such outcome.
 fn number_of(outcomes: &mut Vec<String>, outcome: String) -> Result<usize, AllocError> {
     for (at, known) in outcomes.iter().enumerate() {
         if known.as_str() == outcome.as_str() {

@@ -1,5 +1,6 @@
 use Rattle.std.proofs.Common.{refl}
 use Rattle.clap.specs.Words.{found_of}
+use Rattle.linda_args.specs.Options.{options_of}
 use Rattle.linda_args.proofs.TaskLaws.{call_asked, inspect_asked, never_other, serve_asked}
 use Rattle.linda_args.proofs.command.other_of.Goals as goal
 
@@ -17,7 +18,7 @@ returns-in-Some-subcommand_matches-clause-exact c = λ words task asks rows no_p
 
 pub returns-in-Some-subcommand_matches-clause-found : goal.returns-in-Some-subcommand_matches-clause-found
 returns-in-Some-subcommand_matches-clause-found c = λ words free rows.
-    serve_asked c.args.matches.now words c.serve_of.result free rows (c.in-Some-subcommand_matches.ensures.found.0 refl) c.serve_of.ensures
+    serve_asked c.args.matches.now (options_of (found_of c.in-Some-subcommand_matches.below.now)) words c.serve_of.result free rows (c.in-Some-subcommand_matches.ensures.found.0 refl) c.serve_of.ensures
 
 pub returns-in-Some-subcommand_matches-2-clause-exact : goal.returns-in-Some-subcommand_matches-2-clause-exact
 returns-in-Some-subcommand_matches-2-clause-exact c = λ words task asks rows no_pipe no_run.
@@ -25,7 +26,8 @@ returns-in-Some-subcommand_matches-2-clause-exact c = λ words task asks rows no
 
 pub returns-in-Some-subcommand_matches-2-clause-found : goal.returns-in-Some-subcommand_matches-2-clause-found
 returns-in-Some-subcommand_matches-2-clause-found c = λ words free rows.
-    inspect_asked c.args.matches.now words c.inspect_of.result free rows (c.in-Some-subcommand_matches-2.ensures.found.0 refl) c.inspect_of.ensures
+    inspect_asked c.args.matches.now (found_of c.in-Some-subcommand_matches-2.below.now) words c.inspect_of.result free rows (c.in-Some-subcommand_matches-2.ensures.found.0 refl)
+    c.in-Some-subcommand_matches-2.ensures.rows c.inspect_of.ensures
 
 pub returns-in-None-subcommand_matches-2-clause-exact : goal.returns-in-None-subcommand_matches-2-clause-exact
 returns-in-None-subcommand_matches-2-clause-exact c = λ words task asks rows no_pipe no_run.

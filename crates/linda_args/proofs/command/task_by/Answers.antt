@@ -40,6 +40,6 @@ returns-then-is_unkept-clause-taken c = λ task asks.
     cc
     in
     let asked : AsksExactlyFor words c.in-Some.task = subst (λ o. IfSome o (AsksExactlyFor words)) same asks in
-    let kept = c.is_unkept.ensures words asked in
+    let kept = c.is_unkept.ensures.asked words asked in
     let unkept = c.if-is_unkept.true in
     search rules

@@ -7,13 +7,13 @@ use Rattle.linda_server.proofs.ServedLaws.{one_more}
 use Rattle.linda_server.proofs.next.spare_each.Goals as goal
 
 pub loop-message-init : goal.loop-message-init
-loop-message-init c = record { follows = λ front f. f; safe = none_spared c.args.successor.now c.args.state.now.bag; generation = refl }
+loop-message-init c = record { follows = λ front f. f; safe = none_spared c.args.successor.now c.args.state.now.bag; same = (refl, refl) }
 
 pub returns-in_err-spare-clause-follows : goal.returns-in_err-spare-clause-follows
 returns-in_err-spare-clause-follows c front f = c.spare.ensures.follows front (c.loop-message.invariant.follows front f)
 
-pub returns-in_err-spare-clause-generation : goal.returns-in_err-spare-clause-generation
-returns-in_err-spare-clause-generation c = c.spare.ensures.generation ∙ c.loop-message.invariant.generation
+pub returns-in_err-spare-clause-same : goal.returns-in_err-spare-clause-same
+returns-in_err-spare-clause-same c = (c.spare.ensures.same.0 ∙ c.loop-message.invariant.same.0, c.spare.ensures.same.1 ∙ c.loop-message.invariant.same.1)
 
 pub loop-message-preserved : goal.loop-message-preserved
 loop-message-preserved c =
@@ -25,7 +25,7 @@ loop-message-preserved c =
       follows = λ front f. c.in_ok-spare.ensures.follows front (c.loop-message.invariant.follows front f);
       safe = subst (AreSpared c.spare.new.successor now) (sym (ap (λ k. take k ms) (one_more i) ∙ next))
           (more_spared c.spare.new.successor now (take i ms) c.message-item.result.0 c.message-item.result.1 (c.in_ok-spare.ensures.others (take i ms) c.loop-message.invariant.safe) c.in_ok-spare.ensures.safe);
-      generation = c.in_ok-spare.ensures.generation ∙ c.loop-message.invariant.generation;
+      same = (c.in_ok-spare.ensures.same.0 ∙ c.loop-message.invariant.same.0, c.in_ok-spare.ensures.same.1 ∙ c.loop-message.invariant.same.1);
     }
 
 pub returns-clause-follows : goal.returns-clause-follows
@@ -37,5 +37,5 @@ returns-clause-safe c =
     let past : length ms ≤ c.loop-message.message-index = search rules in
     subst (AreSpared c.loop-message.successor c.args.state.now.bag) (take_all c.loop-message.message-index ms past) c.loop-message.invariant.safe
 
-pub returns-clause-generation : goal.returns-clause-generation
-returns-clause-generation c = c.loop-message.invariant.generation
+pub returns-clause-same : goal.returns-clause-same
+returns-clause-same c = c.loop-message.invariant.same

@@ -8,5 +8,5 @@ abbrev pub invariant-loop-message : goal.invariant-loop-message
 invariant-loop-message l = record {
   follows : (front : List ℕ) → Follows l.fn.successor front l.state → Follows l.successor front l.state;
   safe : AreSpared l.successor l.state.bag (take l.message-index l.messages);
-  generation : l.successor.generation ≡ l.fn.successor.generation;
+  same : (l.successor.generation ≡ l.fn.successor.generation) × (l.successor.limit ≡ l.fn.successor.limit);
 }

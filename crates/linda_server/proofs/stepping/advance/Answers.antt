@@ -1,8 +1,10 @@
 -- The next part is written, and with the last one the bank is taken into use.
-use Rattle.std.proofs.Common.{◌<◌, ◌+◌, ◌++◌, ◌∙◌, length, ap, sym, subst, arith}
+use Rattle.std.proofs.Common.{◌<◌, ◌≤◌, ◌+◌, ◌++◌, ◌∙◌, length, length-append, ap, sym, subst, arith}
+use Rattle.linda_snap.specs.declared.entry.TheConstants.{MAX_KEPT_BYTES}
 use Rattle.linda_snap.specs.Successor.{Follows, Completes, IsNext, bytes_in}
 use Rattle.linda_server.proofs.PairLaws.{still}
-use Rattle.linda_server.proofs.SteppingLaws.{parts_of, begun_of, low_of, within_of, generation_of}
+use Rattle.linda_server.specs.Switch.{IsTakenOver}
+use Rattle.linda_server.proofs.SteppingLaws.{parts_of, begun_of, low_of, within_of, generation_of, fits_of, counts_of}
 use Rattle.linda_server.proofs.stepping.advance.Goals as goal
 
 pub returns-in-Err-clause-any_moment : goal.returns-in-Err-clause-any_moment
@@ -35,8 +37,8 @@ returns-in-Ok-More-clause-begun g c begun =
     let bytes = c.deref.ensures.value in
     begun_of _ c.write_on.new.disks c.args.state.now (p.front ++ c.deref.result.now)
     (subst (λ b. Follows c.next.new.self (p.front ++ b) c.args.state.now) (sym bytes) (subst (λ part. IsNext part c.next.new.self p.front c.args.state.now) c.in-Ok-More.field-0-is (c.in-Ok-More.ensures.next p.front p.follows)))
-    (omega (arith, p.low, c.in-Ok.ensures.place)) (c.in-Ok.ensures.filled p.front p.filled)
-    (c.next.ensures.generation ∙ p.generation ∙ ap (λ n. n + 1) (sym c.in-Ok.ensures.generation))
+    (omega (arith, p.place, c.in-Ok.ensures.place, length-append p.front c.deref.result.now)) (c.in-Ok.ensures.filled p.front p.filled)
+    (c.next.ensures.generation ∙ p.generation ∙ ap (λ n. n + 1) (sym c.in-Ok.ensures.generation)) (c.next.ensures.same.0 ∙ p.limit ∙ sym c.in-Ok.ensures.limit)
 
 pub end-requires-clause-behind : goal.end-requires-clause-behind
 end-requires-clause-behind g c = low_of c.args.next c.args.disks.now c.args.state.now c.requires.begun
@@ -46,6 +48,20 @@ end-requires-clause-within g c = within_of c.args.next c.args.disks.now c.args.s
 
 pub end-requires-clause-generation : goal.end-requires-clause-generation
 end-requires-clause-generation g c = c.next.ensures.generation ∙ generation_of c.args.next c.args.disks.now c.args.state.now c.requires.begun
+
+pub end-requires-clause-fits : goal.end-requires-clause-fits
+end-requires-clause-fits g c =
+    let st = c.args.state.now in
+    fits_of c.args.next c.next.new.self c.deref-in-Ok-Last.result.now c.args.disks.now st c.next.ensures.same.0
+    (λ front f. subst (λ b. Completes c.next.new.self front b st) (sym c.deref-in-Ok-Last.ensures.value) (subst (λ part. IsNext part c.next.new.self front st) c.in-Ok-Last.field-0-is (c.in-Ok-Last.ensures.next front f)))
+    c.requires.begun
+
+pub end-requires-clause-counted : goal.end-requires-clause-counted
+end-requires-clause-counted g c =
+    let st = c.args.state.now in
+    counts_of c.args.next c.next.new.self c.deref-in-Ok-Last.result.now c.args.disks.now st
+    (λ front f. subst (λ b. Completes c.next.new.self front b st) (sym c.deref-in-Ok-Last.ensures.value) (subst (λ part. IsNext part c.next.new.self front st) c.in-Ok-Last.field-0-is (c.in-Ok-Last.ensures.next front f)))
+    c.requires.begun
 
 pub returns-in-Err-end-clause-any_moment : goal.returns-in-Err-end-clause-any_moment
 returns-in-Err-end-clause-any_moment g c are up begun =
@@ -69,3 +85,17 @@ pub returns-in-Ok-More-clause-further : goal.returns-in-Ok-More-clause-further
 returns-in-Ok-More-clause-further g c =
     let some = subst (λ part. 0 < length (bytes_in part)) c.in-Ok-More.field-0-is c.in-Ok-More.ensures.some in
     omega (arith, c.in-Ok.ensures.place, ap length c.deref.ensures.value, some)
+
+pub returns-in-Ok-More-clause-few : goal.returns-in-Ok-More-clause-few
+returns-in-Ok-More-clause-few g c =
+    let most = subst (λ part. length (bytes_in part) ≤ c.args.most + MAX_KEPT_BYTES) c.in-Ok-More.field-0-is c.in-Ok-More.ensures.most in
+    omega (arith, c.in-Ok.ensures.place, ap length c.deref.ensures.value, most)
+
+pub returns-clause-last : goal.returns-clause-last
+returns-clause-last g c =
+    let most = subst (λ part. length (bytes_in part) ≤ c.args.most + MAX_KEPT_BYTES) c.in-Ok-Last.field-0-is c.in-Ok-Last.ensures.most in
+    omega (arith, c.in-Ok-end.ensures.place, ap length c.deref-in-Ok-Last.ensures.value, most)
+
+pub returns-clause-switched : goal.returns-clause-switched
+returns-clause-switched g c =
+    subst (λ n. IsTakenOver n c.args.disks.now c.end.new.disks) c.next.ensures.same.1 c.in-Ok-end.ensures.switched

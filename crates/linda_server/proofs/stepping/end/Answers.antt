@@ -1,11 +1,13 @@
 -- The next bank is taken into use, or is not.
-use Rattle.std.proofs.Common.{not, sym, subst}
+use Rattle.std.proofs.Common.{◌+◌, ◌≤◌, not, length, refl, sym, subst, arith}
 use Rattle.linda_disk.specs.Run.{LeavesOnly}
 use Rattle.linda_snap.specs.Stands.{Stands, IsUp, StandsBeside}
 use Rattle.linda_server.specs.Disks.{sides, IsKept}
 use Rattle.linda_server.specs.Next.{IsFilledOn}
 use Rattle.linda_server.specs.Pairs.{PairsSince}
-use Rattle.linda_server.specs.Server.{both_of}
+use Rattle.linda_server.specs.Server.{both_of, limit_in_use}
+use Rattle.linda_server.specs.Switch.{IsTakenOver}
+use Rattle.linda_server.specs.declared.disks.Disks.TheVariants.{InUse}
 use Rattle.linda_server.proofs.SwitchLaws.{changed, taken, kept_taken}
 use Rattle.linda_server.proofs.SteppingLaws.{resumed}
 use Rattle.linda_server.proofs.stepping.end.Goals as goal
@@ -59,3 +61,10 @@ returns-in-Ok-clause-kept g c st front filled whole kept =
     (c.in-Ok.ensures.done front st used (subst (g.D.Disk.honest) (sym same) other) (subst (λ d. IsUp pair.bank.form pair.bank.generation pair.bank.end (view pair.bank.disk) (view d) st) (sym same) was_up)
     (resumed front c.args.at f pair.other same c.resume.ensures.1 was other) whole))
     kept)
+
+pub returns-in-Ok-clause-switched : goal.returns-in-Ok-clause-switched
+returns-in-Ok-clause-switched g c =
+    let at = c.resume.ensures.1 in
+    let fits = subst (λ d. c.args.at + length c.args.bytes.now ≤ limit_in_use d) (sym c.in-InUse.ensures.value) c.requires.fits in
+    subst (λ d. IsTakenOver c.args.successor.now.records d (InUse record { bank = c.in-Ok.bank; other = c.in-Ok.other; is_right = not c.in-InUse.pair.is_right })) c.in-InUse.ensures.value
+    (refl, c.in-Ok.ensures.new.0, c.in-Ok.ensures.new.1, c.in-Ok.ensures.records (omega (arith, at, c.requires.counted)), omega (arith, c.in-Ok.ensures.place, at, fits, c.in-Ok.ensures.new.2), c.in-Ok.ensures.same.0)

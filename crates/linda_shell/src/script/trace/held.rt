@@ -1,4 +1,4 @@
-//! What a server holds, as it was written.
+//! Tuples that a server holds, as the trace wrote them.
 
 use linda_hold::{Holds, Request};
 use std::alloc::{AllocError, Global};
@@ -23,7 +23,7 @@ impl Held {
     ///
     /// # Errors
     ///
-    /// `AllocError` where memory runs out.
+    /// `AllocError` if memory runs out.
     pub(super) fn change(
         &mut self,
         alloc: Global,

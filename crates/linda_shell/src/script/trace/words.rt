@@ -12,7 +12,7 @@ use std::alloc::{AllocError, Global};
 ///
 /// # Errors
 ///
-/// `AllocError` where memory runs out.
+/// `AllocError` if memory runs out.
 pub(super) fn write_deed(alloc: Global, deed: &Deed) -> Result<String, AllocError>
     ensures { IfOk result (λ s. string_bytes s ≡ deed_words deed.now) }
 {

@@ -1,5 +1,6 @@
 -- The new bank is taken into use, or is not.
-use Rattle.std.proofs.Common.{◌+◌, ◌∙◌, sym, subst}
+use Rattle.std.proofs.Common.{◌+◌, ◌∙◌, sym, subst, arith}
+use Rattle.std.proofs.Math.Nat.{min-eq_left}
 use Rattle.linda_store_state.specs.DeedFormat.{written}
 use Rattle.linda_disk.specs.Run.{LeavesOnly}
 use Rattle.linda_journal.specs.Bank.{IsSettled}
@@ -56,3 +57,11 @@ returns-in-Ok-clause-stored g c front st filled whole honest =
     let settled = subst (λ n. IsSettled written n body whole.records bank.end (g.D.Disk.view bank.disk)) (sym c.in-Ok.ensures.new.1) (c.in-Ok.ensures.done front body whole.records was (filled was) last) in
     subst (λ f. IsStored f bank.generation bank.end (g.D.Disk.view bank.disk) st) (sym c.in-Ok.ensures.new.0)
     record { opening = whole.begun; ranges = whole.ranges; fits = whole.fits; records = whole.records; settled = settled; done = whole.done }
+
+pub returns-in-Ok-clause-within : goal.returns-in-Ok-clause-within
+returns-in-Ok-clause-within g c front st place whole = omega (arith, c.in-Ok.ensures.place, place, whole.within)
+
+pub returns-in-Ok-clause-records : goal.returns-in-Ok-clause-records
+returns-in-Ok-clause-records g c few =
+    let count = c.records.ensures in
+    c.in-Ok.ensures.records ∙ min-eq_left (omega (arith, c.in-Ok.ensures.place, count, few)) ∙ count

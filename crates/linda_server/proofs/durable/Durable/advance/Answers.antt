@@ -1,11 +1,13 @@
 -- The next bank goes on, for the state that stands, or is taken into use.
-use Rattle.std.proofs.Common.{◌≡◌, ◌<◌, false, refl, sym, subst, ◌∙◌, true≢false}
-use Rattle.std.specs.Prelude.{IfSome}
+use Rattle.std.proofs.Common.{◌≡◌, ◌<◌, ◌≤◌, ◌+◌, false, refl, sym, subst, ◌∙◌, true≢false}
+use Rattle.std.specs.Prelude.{IfSome, IfNone}
+use Rattle.linda_snap.specs.declared.entry.TheConstants.{MAX_KEPT_BYTES}
 use Rattle.linda_store_state.specs.State.{IsState}
 use Rattle.linda_server.specs.Pairs.{PairsNow}
 use Rattle.linda_server.specs.Calls.{StandsFor, IsWithOrWithout}
 use Rattle.linda_server.specs.Next.{IsBegunOn, IsNextFor}
-use Rattle.linda_server.specs.Server.{both_of, IsBankStill}
+use Rattle.linda_server.specs.Server.{both_of, end_in_use, IsBankStill}
+use Rattle.linda_server.specs.Switch.{IsTakenOver}
 use Rattle.linda_server.proofs.CallLaws.{now_since, stands_so, still_so}
 use Rattle.linda_server.proofs.SwitchLaws.{with_none}
 use Rattle.linda_server.proofs.SteppingLaws.{steps_since, steps_kept, steps_begun}
@@ -147,6 +149,16 @@ returns-in-Ok-Some-clause-came g c = (
     were = sym c.in-Some.ensures.value;
     are = refl;
     more = subst (λ o. IfSome o (λ n. c.in-Some.next.at < n.at)) c.in-Ok-Some.field-0-is c.in-Ok-Some.ensures.further;
+    few = subst (λ o. IfSome o (λ n. n.at ≤ c.in-Some.next.at + (c.args.most + MAX_KEPT_BYTES))) c.in-Ok-Some.field-0-is c.in-Ok-Some.ensures.few;
   },
   subst (λ o. IfSome o (λ n. IsBankStill c.args.self.now.disks c.advance.new.disks)) c.in-Ok-Some.field-0-is c.in-Ok-Some.ensures.still,
 )
+
+pub returns-in-Ok-None-clause-came : goal.returns-in-Ok-None-clause-came
+returns-in-Ok-None-clause-came g c = record {
+  was = c.in-Some.next;
+  were = sym c.in-Some.ensures.value;
+  none = c.in-Some.ensures.after;
+  taken = subst (λ o. IfNone o (IsTakenOver c.in-Some.next.successor.records c.args.self.now.disks c.advance.new.disks)) c.in-Ok-None.field-0-is c.in-Ok-None.ensures.switched;
+  few = subst (λ o. IfNone o (end_in_use c.advance.new.disks < c.in-Some.next.at + (c.args.most + MAX_KEPT_BYTES))) c.in-Ok-None.field-0-is c.in-Ok-None.ensures.last;
+}

@@ -17,7 +17,7 @@ use Rattle.linda_server.proofs.ServedLaws.{served_happens}
 use Rattle.linda_server.proofs.CallLaws.{leads_to, few, some_bytes, room_of, suit_of, too_much, not_too_much, still_before, served_since, stands_so, none_remains, all_remains_up, at_fault, each_share, told_so, room_less}
 use Rattle.linda_store_state.specs.State.{State}
 use Rattle.linda_server.specs.Next.{IsNextFor, IsSafeIn}
-use Rattle.linda_server.proofs.NextLaws.{next_up, served_safe}
+use Rattle.linda_server.proofs.NextLaws.{next_up, served_safe, if_kept}
 use Rattle.linda_server.specs.declared.fault.ServeFault.{ServeFault}
 use Rattle.linda_server.specs.declared.fault.ServeFault.TheVariants.{Memory}
 use Rattle.linda_server.specs.Lives.{GoesOn}
@@ -36,10 +36,10 @@ settle-requires-clause-begun g c =
     let s = c.args.self.now in
     let now = c.state.result.now in
     let disks = c.begin.new.self.disks in
-    let next = c.spared.result in
+    let next = c.unless_spent.result in
     let same : now ≡ s.store.state = c.state.ensures.state ∙ ap (λ (st : Store). st.state) c.begin.ensures.same.0 in
     subst (λ st. ∥ IsNextFor next disks st ∥₁) (same ∙ sym c.begin.ensures.before)
-    (next_up c.replace-next.result next disks now now c.spared.ensures.follows
+    (next_up c.replace-next.result next disks now now (if_kept _ c.spared.result next c.unless_spent.ensures c.spared.ensures.follows)
     (subst (λ o. ∥ IsNextFor o disks now ∥₁) (sym c.replace-next.ensures.value) (subst (λ st. ∥ IsNextFor c.begin.new.self.next disks st ∥₁) (sym same) c.begin.ensures.begun)))
 
 pub settle-requires-clause-safe : goal.settle-requires-clause-safe
@@ -50,8 +50,8 @@ settle-requires-clause-safe g c id taken =
     let same : now ≡ s.store.state = c.state.ensures.state ∙ ap (λ (st : Store). st.state) c.begin.ensures.same.0 in
     let old = c.begin.new.self.store in
     let after = c.serve.new.store in
-    subst (λ (st : State). IsSafeIn c.spared.result st.bag id) (same ∙ sym c.begin.ensures.before)
-    (served_safe c.spared.result now.bag old.state old.soft ms c.in-Ok.served after.state after.soft c.in-Ok.ensures.ok c.spared.ensures.safe id taken)
+    subst (λ (st : State). IsSafeIn c.unless_spent.result st.bag id) (same ∙ sym c.begin.ensures.before)
+    (served_safe c.unless_spent.result now.bag old.state old.soft ms c.in-Ok.served after.state after.soft c.in-Ok.ensures.ok (if_kept _ c.spared.result c.unless_spent.result c.unless_spent.ensures c.spared.ensures.safe) id taken)
 
 pub settle-requires-clause-few : goal.settle-requires-clause-few
 settle-requires-clause-few g c =

@@ -6,7 +6,7 @@ use Rattle.linda_server.specs.Calls.{LeadTo, IsEither, IsWithOrWithout}
 use Rattle.linda_server.proofs.CallLaws.{put_either, kept_after, now_since, with_or_without}
 use Rattle.linda_store_state.specs.Deed.{is_taken}
 use Rattle.linda_server.specs.Next.{IsNextFor, IsSafeIn}
-use Rattle.linda_server.proofs.NextLaws.{next_up, next_beside}
+use Rattle.linda_server.proofs.NextLaws.{next_up, next_beside, if_kept}
 use Rattle.linda_server.proofs.durable.Durable.settle.Goals as goal
 
 pub invariant_of-self-clause-kept : goal.invariant_of-self-clause-kept
@@ -18,10 +18,11 @@ pub invariant_of-self-clause-begun : goal.invariant_of-self-clause-begun
 invariant_of-self-clause-begun g c _ =
     let s = c.args.self.now in
     let was = c.replace-next.ensures.value in
-    next_up c.replace-next.result c.noted.result c.commit.new.disks s.before.value s.store.state
-    (c.noted.ensures s.before.value s.store.state c.requires.ranges (subst (λ l. LeadTo s.before.value l s.store.state) (sym c.deref-in-Ok.ensures.value) c.requires.leads)
-    (λ id taken. subst (λ o. IsSafeIn o s.before.value.bag id) (sym was) (c.requires.safe id (subst (λ l. is_taken id l ≡ true) c.deref-in-Ok.ensures.value taken))))
-    (next_beside c.replace-next.result s.disks c.commit.new.disks s.before.value c.in-Ok.ensures.beside (subst (λ o. ∥ IsNextFor o s.disks s.before.value ∥₁) (sym was) c.requires.begun))
+    next_up c.replace-next.result c.unless_spent.result c.commit.new.disks s.before.value s.store.state
+    (if_kept _ c.noted.result c.unless_spent.result c.unless_spent.ensures
+    (c.noted.ensures.follows s.before.value s.store.state c.requires.ranges (subst (λ l. LeadTo s.before.value l s.store.state) (sym c.deref-in-Ok.ensures.value) c.requires.leads)
+    (λ id taken. subst (λ o. IsSafeIn o s.before.value.bag id) (sym was) (c.requires.safe id (subst (λ l. is_taken id l ≡ true) c.deref-in-Ok.ensures.value taken)))))
+    (next_beside c.replace-next.result s.disks c.commit.new.disks s.before.value c.in-Ok.ensures.beside c.commit.ensures.limit (subst (λ o. ∥ IsNextFor o s.disks s.before.value ∥₁) (sym was) c.requires.begun))
 
 pub invariant_of-self-in-Err-clause-fallen : goal.invariant_of-self-in-Err-clause-fallen
 invariant_of-self-in-Err-clause-fallen g c _ are =

@@ -1,26 +1,55 @@
--- The answers come the other way round than the messages went, and each message is still with its client's.
-use Rattle.std.proofs.Common.{rules, ◌≡◌, ◌≤◌, ◌∙◌, sym, [], vec_len, vec_capacity}
-use Rattle.std.proofs.lemmas.List.{nil_from_length}
-use Rattle.linda_store_step.specs.declared.size.TheConstants.{MAX_GROUP}
-use Rattle.linda_shared.proofs.GroupLaws.{served}
+-- The answers come the other way round than the messages went, and the messages are turned around too.
+use Rattle.std.proofs.Common.{rules, ◌≡◌, ◌+◌, ℕ, arith, List, [], ◌++◌, length, map, reverse, refl, sym, ap, subst, ◌∙◌, vec_len}
+use Rattle.std.proofs.lemmas.List.{reverse-reverse}
+use Rattle.linda_wire.specs.declared.message.Message.{Message}
+use Rattle.linda_shared_accounts.specs.declared.effect.Effect.{Effect}
+use Rattle.linda_shared_accounts.specs.declared.receipt.Receipt.{Receipt}
+use Rattle.linda_shared.specs.Group.{Group, AreTold}
+use Rattle.linda_shared.proofs.GroupLaws.{served_each, served_read}
+use Rattle.linda_shared.proofs.DueLaws.{told_of_group, own_of}
 use Rattle.linda_shared.proofs.group.Group.serve.Goals as goal
 
-pub invariant_of-self : goal.invariant_of-self
-invariant_of-self g c =
+pub returns-clause-each : goal.returns-clause-each
+returns-clause-each g c =
     let own = c.self.inside in
-    let no_answer : vec_len own.answered ≡ 0 = search rules in
-    let none : own.answered.items ≡ [] = nil_from_length own.answered.items (sym own.answered.ok.0 ∙ no_answer) in
-    let left = c.handle_all.new.asked in
-    let all : left.items ≡ [] = nil_from_length left.items (sym left.ok.0 ∙ c.handle_all.ensures.asked.0) in
-    let few : vec_len c.reverse.new.self ≤ MAX_GROUP = search rules in
-    let room : MAX_GROUP ≤ vec_capacity c.reverse.new.self = search rules in
-    let rest : MAX_GROUP ≤ vec_capacity left = search rules in
-    let spare : MAX_GROUP ≤ vec_capacity c.handle_all.new.answered = search rules in (
-      served (λ s. s.client) (λ m. m.0) (λ a. a.address) (λ a. a.address) own.messages.items c.reverse.new.self.items own.asked.items
-          left.items own.answered.items c.handle_all.new.answered.items c.self.invariant.0 none all c.reverse.ensures.items
-          c.handle_all.ensures.addresses,
-      few,
-      room,
-      rest,
-      spare,
-    )
+    let new = c.handle_all.new.answered in
+    let none : vec_len own.answered ≡ 0 = own.answered.ok.0 ∙ ap length c.self.invariant.1 in
+    let more : vec_len new ≡ vec_len own.answered + vec_len own.asked = c.handle_all.ensures.answered.0 in
+    let each : vec_len own.asked ≡ vec_len own.messages = c.self.invariant.0 in
+    let all : vec_len new ≡ vec_len own.messages = omega (arith, none, more, each) in
+    let same : length new.items ≡ length own.messages.items = sym new.ok.0 ∙ (all ∙ own.messages.ok.0) in
+    served_each own.messages.items c.reverse.new.self.items new.items c.reverse.ensures.items same ∙ ap (λ v. v.messages) c.self.view_is
+
+pub returns-clause-addresses : goal.returns-clause-addresses
+returns-clause-addresses g c =
+    let own = c.self.inside in
+    let new = c.handle_all.new.answered in
+    let none : vec_len own.answered ≡ 0 = own.answered.ok.0 ∙ ap length c.self.invariant.1 in
+    let more : vec_len new ≡ vec_len own.answered + vec_len own.asked = c.handle_all.ensures.answered.0 in
+    let each : vec_len own.asked ≡ vec_len own.messages = c.self.invariant.0 in
+    let all : vec_len new ≡ vec_len own.messages = omega (arith, none, more, each) in
+    let same : length new.items ≡ length own.messages.items = sym new.ok.0 ∙ (all ∙ own.messages.ok.0) in
+    let asked = map (λ a. a.address) own.asked.items in
+    let back = c.handle_all.ensures.addresses ∙ ap (λ l. map (λ a. a.address) l ++ reverse asked) c.self.invariant.1 in
+    served_read (λ a. a.address) own.messages.items c.reverse.new.self.items new.items c.reverse.ensures.items same
+    ∙ (ap reverse back ∙ (reverse-reverse asked ∙ ap (λ v. v.addresses) c.self.view_is))
+
+pub returns-clause-told : goal.returns-clause-told
+returns-clause-told g c =
+    let own = c.self.inside in
+    let new = c.handle_all.new.answered in
+    let none : vec_len own.answered ≡ 0 = own.answered.ok.0 ∙ ap length c.self.invariant.1 in
+    let more : vec_len new ≡ vec_len own.answered + vec_len own.asked = c.handle_all.ensures.answered.0 in
+    let each : vec_len own.asked ≡ vec_len own.messages = c.self.invariant.0 in
+    let all : vec_len new ≡ vec_len own.messages = omega (arith, none, more, each) in
+    let same : length new.items ≡ length own.messages.items = sym new.ok.0 ∙ (all ∙ own.messages.ok.0) in
+    let read = served_read (λ a. a.told) own.messages.items c.reverse.new.self.items new.items c.reverse.ensures.items same in
+    let ms = c.deref.ensures.value in
+    subst (λ (t : List (Effect Receipt)). AreTold g.row.D.Denot g.D.Disk c.args.self.messages t) (sym read)
+    (subst (λ (l : List (ℕ × Message)). AreTold g.row.D.Denot g.D.Disk l (reverse (map (λ a. a.told) new.items))) (ms ∙ ap (λ v. v.messages) c.self.view_is)
+    (told_of_group _ (vec_len own.asked) (map (λ a. a.told) own.answered.items) (map (λ a. a.told) new.items) _ _ _ _ _ _ _ c.handle_all.result
+    (each ∙ (own.messages.ok.0 ∙ ap length (sym ms))) (ap (map (λ a. a.told)) c.self.invariant.1) c.handle_all.ensures.done
+    c.handle_all.ensures.failed))
+
+pub returns-clause-own : goal.returns-clause-own
+returns-clause-own g c = own_of (λ a. a.told) _ c.args.self.messages (returns-clause-each g c) (returns-clause-told g c)

@@ -1,4 +1,4 @@
-use Rattle.std.proofs.Common.{None, ◌++◌, refl, ap, ◌∙◌}
+use Rattle.std.proofs.Common.{None, ◌++◌, refl, ap, ◌∙◌, length, length-append, arith}
 use Rattle.linda_codec.specs.Formats.{short_number}
 use Rattle.linda_snap.proofs.ClientsLaws.{counted}
 use Rattle.linda_snap.proofs.clients.Clients.begin.Goals as goal
@@ -11,3 +11,7 @@ returns-clause-owes c begun bytes has same is =
     ∙ ap (λ l. l ++ c.to_be_bytes.result) c.new-bytes.ensures.items
     ∙ c.to_be_bytes.ensures
     ∙ ap short_number.spell is))
+
+pub push_next-requires : goal.push_next-requires
+push_next-requires c =
+    omega (arith, ap length c.in_ok-extend_from_slice.ensures.items, length-append c.new-bytes.result.items c.to_be_bytes.result, ap length c.new-bytes.ensures.items, ap length c.to_be_bytes.ensures)

@@ -12,4 +12,5 @@ loop-preserved c =
           one_client begun c.args.self.now bytes c.loop.out.items c.push_kept.new.out.items c.loop.last (Some c.in-Some.client) e
           (c.loop.invariant.0 begun bytes owes) c.in-Some.ensures.found refl c.in_ok-push_kept.ensures.ok c.in_ok-push_kept.ensures.fits,
       omega (arith, c.loop.invariant.1, ap length c.in_ok-push_kept.ensures.ok, length-append c.loop.out.items ((kept written).spell e)),
+      omega (arith, c.in_ok-push_kept.ensures.short, c.if-len-most.false),
     )

@@ -18,3 +18,6 @@ pub returns-clause-some : goal.returns-clause-some
 returns-clause-some c =
     let e : ℕ × Entry = (c.in-Some.client, (c.in-Some.entry.0, c.in-Some.entry.1.now)) in
     omega (arith, c.in_ok-push_next.ensures.grows, ap length c.in_ok-push_kept.ensures.ok, length-append c.new-more.result.items ((kept written).spell e))
+
+pub push_next-requires : goal.push_next-requires
+push_next-requires c = omega (arith, c.in_ok-push_kept.ensures.short, ap length c.new-more.ensures.items)

@@ -14,6 +14,7 @@ loop-init g c =
           (subst (λ b. Owes begun c.args.self.now b c.args.state.now.bag) (sym (ap (λ l. bytes ++ l) c.new-more.ensures.items ∙ append-nil bytes)) owes)
           c.in-Some.ensures c.in_ok-push_placed.ensures.ok c.in_ok-push_placed.ensures.fits (omega arith),
       omega (arith, ap length c.in_ok-push_placed.ensures.ok, length-append c.new-more.result.items ((placed written).spell e)),
+      omega (arith, c.in_ok-push_placed.ensures.short, ap length c.new-more.ensures.items),
     )
 
 pub loop-preserved : goal.loop-preserved
@@ -23,4 +24,5 @@ loop-preserved g c =
           step_more begun c.args.self.now bytes c.loop.more.items c.push_placed-in-loop.new.out.items c.args.state.now.bag c.loop.from _ e
           (c.loop.invariant.0 begun bytes owes) c.in-Some-owed_from.ensures c.in_ok-push_placed-2.ensures.ok c.in_ok-push_placed-2.ensures.fits (omega arith),
       omega (arith, ap length c.in_ok-push_placed-2.ensures.ok, length-append c.loop.more.items ((placed written).spell e)),
+      omega (arith, c.in_ok-push_placed-2.ensures.short, c.if-len-most.false),
     )

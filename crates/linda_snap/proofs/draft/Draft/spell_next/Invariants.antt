@@ -1,5 +1,6 @@
-use Rattle.std.proofs.Common.{ℕ, List, ◌++◌, ◌<◌, length}
+use Rattle.std.proofs.Common.{ℕ, List, ◌++◌, ◌+◌, ◌<◌, ◌≤◌, length}
 use Rattle.linda_store_state.specs.State.{State}
+use Rattle.linda_snap.specs.declared.entry.TheConstants.{MAX_KEPT_BYTES}
 use Rattle.linda_snap.specs.Draft.{Owes}
 use Rattle.linda_snap.proofs.DraftLaws.{moved}
 use Rattle.linda_snap.proofs.draft.Draft.spell_next.Given as goal
@@ -10,3 +11,4 @@ invariant-loop g l =
     ((begun : State) (bytes : List ℕ) → Owes begun l.self bytes l.state.bag
     → Owes begun (moved l.from l.self) (bytes ++ l.more.items) l.state.bag)
     × (0 < length l.more.items)
+    × (length l.more.items ≤ l.most + MAX_KEPT_BYTES)

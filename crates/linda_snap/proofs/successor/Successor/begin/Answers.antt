@@ -13,4 +13,4 @@ returns-in-Ok-spell_start-clause-follows g c =
     c.in-Ok-spell_start.ensures ∙ ap (λ l. heading n l ++ c.deref.result.now) (c.len-len.ensures ∙ c.in-Ok.ensures.len) ∙ ap (λ b. heading n (length (spell_state written st)) ++ b) c.deref.ensures.value
     in
     begins record { generation = n; limit = c.args.limit; len = c.len-len.result; draft = Some c.in-Ok.draft; clients = None; since = c.new.result; records = 0 } c.in-Ok.draft c.in-Ok.first.items c.in-Ok-spell_start.bytes.items st c.requires.ranges refl
-    c.in-Ok.ensures.begun c.in-Ok.ensures.next (omega (arith, c.in-Ok.ensures.room, c.requires.short)) c.requires.low (omega (arith, c.ranges.generation.fits)) c.new.ensures.0 c.new.ensures.1 front
+    c.in-Ok.ensures.begun c.in-Ok.ensures.next (omega (arith, c.in-Ok.ensures.room, c.requires.short)) c.requires.low (omega (arith, c.ranges.generation.fits)) (c.len-len.ensures ∙ c.in-Ok.ensures.len) c.in-Ok.ensures.room refl c.new.ensures.0 c.new.ensures.1 front

@@ -17,11 +17,11 @@ returns-then-remove-clause-least g c =
 pub returns-else-remove-clause-least : goal.returns-else-remove-clause-least
 returns-else-remove-clause-least g c =
     subst
-    (λ remove. IsLeast (g.B.Bag.contents c.args.bag.now) c.args.template.now (passed_over remove c.args.self.now.holds) c.least_match-else-remove.result)
+    (λ remove. IsLeast (g.B.Bag.contents c.args.bag.now) c.args.template.now (passed_over remove c.args.self.now.holds) c.read_match.result)
     (sym c.if-remove.false)
     (least_found (g.B.Bag.contents c.args.bag.now) c.args.template.now (contains nat_cmp c.new.result) (passed_over false c.args.self.now.holds)
     (λ k. ap (λ keys. contains nat_cmp (record { keys = keys }) k) c.new.ensures.empty)
-    c.least_match-else-remove.result c.least_match-else-remove.ensures.found c.least_match-else-remove.ensures.least c.least_match-else-remove.ensures.none)
+    c.read_match.result c.read_match.ensures.found c.read_match.ensures.least c.read_match.ensures.none)
 
 -- What is held is what the holds have.
 pub least_match-requires : goal.least_match-requires
@@ -31,3 +31,9 @@ least_match-requires g c =
 pub returns-then-remove-clause-right : goal.returns-then-remove-clause-right
 returns-then-remove-clause-right g c =
     subst (λ s. AreRight (g.B.Bag.contents c.args.bag.now) (is_held s.holds) c.args.next c.least_match.new.self) c.self.view_is c.least_match.ensures.right
+
+pub read_match-requires : goal.read_match-requires
+read_match-requires g c = c.requires.1
+
+pub returns-else-remove-clause-right : goal.returns-else-remove-clause-right
+returns-else-remove-clause-right g c = c.read_match.ensures.right (is_held c.args.self.now.holds) c.requires

@@ -17,4 +17,4 @@ invariant_of-self-clause-kept c _ =
 pub invariant_of-self-clause-begun : goal.invariant_of-self-clause-begun
 invariant_of-self-clause-begun c _ =
     let s = c.args.self.now in
-    ∥∥₁_map (s.begun c.requires) (λ b. next_as history s.next s.disks c.fuse.new.self s.store.state (λ d e same h. h) (λ front at d e same filled. subst (λ x. IsFilled front at (view_of x)) (sym same) filled) c.fuse.ensures.same b)
+    ∥∥₁_map (s.begun c.requires) (λ b. next_as history s.next s.disks c.fuse.new.self s.store.state (λ d e same h. h) (λ front at d e same filled. subst (λ x. IsFilled front at (view_of x)) (sym same) filled) c.fuse.ensures.same c.fuse.ensures.limit b)

@@ -1,0 +1,141 @@
+//! The least free match among ids that an index has.
+
+ghost use Rattle.std.specs.Prelude.{◌≡◌, ◌≤◌, ◌<◌, ◌↔◌, ℕ, None, true, IsTrue, IfSome, IfNone};
+ghost use Rattle.std.specs.Option.{option_copied};
+ghost use Rattle.std.specs.Ordering.{nat_cmp};
+ghost use Rattle.std.specs.BTreeSet.{contains};
+ghost use Rattle.std.specs.FinMap as map;
+ghost use Rattle.linda_bag.specs.FreeMatch.{Bagged, IsFreeMatch};
+ghost use Rattle.linda_bag.specs.Ids.{has_any};
+
+use crate::bag::{Bag, Found};
+use crate::free_match::is_free_match;
+use crate::id_set::IdSet;
+use crate::ids::Ids;
+use crate::tuples::Tuples;
+use linda_tuple::{Template, Tuple};
+use std::collections::BTreeSet;
+
+/// Where tuples are found by their ids.
+pub(crate) trait Stored {
+    // the tuples by their ids
+    ghost rows: { Self → Bagged };
+
+    /// The tuple under the id, if there is one.
+    fn tuple_at(&self, id: u64) -> Option<&Tuple>
+        ensures { option_copied result ≡ map.get (rows self.now) id };
+}
+
+impl Stored for Tuples {
+    ghost rows = { λ t. t };
+
+    fn tuple_at(&self, id: u64) -> Option<&Tuple> {
+        self.get(id)
+    }
+}
+
+/// The tuples of a bag.
+#[derive(Drop)]
+pub(crate) struct InBag<'a, B> {
+    pub(crate) bag: &'a B,
+}
+
+impl<'a, B: Bag> Stored for InBag<'a, B> {
+    ghost rows = { λ s. B.contents s.bag.now };
+
+    fn tuple_at(&self, id: u64) -> Option<&Tuple> {
+        self.bag.get(id)
+    }
+}
+
+/// The least of these ids, from `from` on, whose tuple the template matches and which is not passed
+/// over; and how many tuples were looked at in vain.
+pub(crate) fn least_among<S: Stored, P: IdSet>(
+    tuples: &S,
+    template: &Template,
+    passed: &P,
+    ids: Option<&Ids>,
+    from: u64,
+) -> Found
+    ensures found { IfSome result.id
+        (IsFreeMatch (S.rows tuples.now) template.now (P.has passed.now)) }
+    ensures above { IfSome result.id (λ id. from ≤ id) }
+    ensures least { IfSome result.id (λ id. (k : ℕ) → from ≤ k → k < id
+        → has_any (option_copied ids.entry) k ≡ true
+        → IsFreeMatch (S.rows tuples.now) template.now (P.has passed.now) k → ⊥) }
+    ensures none { IfNone result.id ((k : ℕ) → from ≤ k
+        → has_any (option_copied ids.entry) k ≡ true
+        → IsFreeMatch (S.rows tuples.now) template.now (P.has passed.now) k → ⊥) }
+{
+    match ids {
+        None => nothing_found(),
+        Some(Ids::Nothing) => nothing_found(),
+        Some(Ids::One(only)) => {
+            if *only < from {
+                return nothing_found();
+            }
+            if is_free(tuples, template, passed, *only) {
+                return Found {
+                    id: Some(*only),
+                    passed: 0,
+                };
+            }
+            nothing_found()
+        }
+        Some(Ids::Many(ids)) => least_free(tuples, template, passed, ids, from),
+    }
+}
+
+// No tuple was looked at.
+fn nothing_found() -> Found
+    ensures { result.id ≡ None }
+{
+    Found {
+        id: None,
+        passed: 0,
+    }
+}
+
+// The least of the ids from `from` on whose tuple may answer the template.
+fn least_free<S: Stored, P: IdSet>(
+    tuples: &S,
+    template: &Template,
+    passed: &P,
+    ids: &BTreeSet<u64>,
+    from: u64,
+) -> Found
+    ensures found { IfSome result.id
+        (IsFreeMatch (S.rows tuples.now) template.now (P.has passed.now)) }
+    ensures above { IfSome result.id (λ id. from ≤ id) }
+    ensures least { IfSome result.id
+        (λ id. (k : ℕ) → from ≤ k → k < id → contains nat_cmp ids.now k ≡ true
+        → IsFreeMatch (S.rows tuples.now) template.now (P.has passed.now) k → ⊥) }
+    ensures none { IfNone result.id ((k : ℕ) → from ≤ k → contains nat_cmp ids.now k ≡ true
+        → IsFreeMatch (S.rows tuples.now) template.now (P.has passed.now) k → ⊥) }
+{
+    let mut looks: usize = 0;
+    for id in ids.range(from..) {
+        if is_free(tuples, template, passed, *id) {
+            return Found {
+                id: Some(*id),
+                passed: looks,
+            };
+        }
+        looks = looks.saturating_add(1);
+    }
+    Found {
+        id: None,
+        passed: looks,
+    }
+}
+
+// Whether there is a tuple under the id that may answer the template.
+fn is_free<S: Stored, P: IdSet>(tuples: &S, template: &Template, passed: &P, id: u64) -> bool
+    ensures { IsTrue result
+        ↔ IsFreeMatch (S.rows tuples.now) template.now (P.has passed.now) id }
+{
+    match tuples.tuple_at(id) {
+        Some(tuple) => is_free_match(template, passed, id, tuple),
+        None => false,
+    }
+}

@@ -1,0 +1,328 @@
+//! One connection of a loop: its socket, its session, and the account of its client.
+
+ghost use Rattle.std.specs.Prelude.{◌≡◌, true, None, IfSome};
+
+use linda_disk::Disk;
+use linda_net_http::Stream;
+use linda_net_marks::Marks;
+use linda_net_relays::{Look, Span, weight_after};
+use linda_net_session::{End, Phase, Room, Route, Session, Way};
+use linda_shared::{Account, Shared};
+use linda_wire::{Message, Refusal, Reply};
+use std::alloc::Global;
+use std::io::ErrorKind;
+use std::sync::Wait;
+use std::sync::ledger::Ledger;
+
+/// For how many seconds a connection that is over may take nothing of what is written to it.
+const MOST_REFUSAL: u32 = 5;
+
+/// How often a connection is read at most before others are looked at.
+const MOST_READS: u32 = 16;
+
+/// What a connection has next.
+pub(crate) enum Next {
+    /// A message, and where it goes.
+    Message(Message, Route),
+    /// A message that cannot go yet: it is given again.
+    Kept,
+    /// Nothing for now.
+    None,
+    /// It was read often enough: others are looked at first.
+    Later,
+}
+
+/// One connection.
+#[derive(Drop)]
+pub(crate) struct Connection<L: Ledger> {
+    stream: Stream,
+    session: Session,
+    /// Once its client was greeted.
+    pub(crate) account: Option<Account<L>>,
+    /// Its client leaves: that is among the calls.
+    pub(crate) is_leaving: bool,
+    /// It is in the list of those that may have something, and of those that are written to.
+    pub(crate) is_ready: bool,
+    pub(crate) is_touched: bool,
+    // The socket may have more to read.
+    may_read: bool,
+    // The peer sends no more: what is there is read to its end.
+    is_shut: bool,
+    // How many bytes were read since this was asked last, and how many a reply has by estimate.
+    read: u64,
+    weight: u64,
+    // Since when its client holds a tuple and says nothing.
+    silence: Span,
+    // Since when it is over and takes nothing of what is to be written.
+    refusal: Span,
+}
+
+impl<L: Ledger> Connection<L> {
+    /// A connection that sent nothing yet, or that was not looked at.
+    pub(crate) fn new(alloc: Global, stream: Stream) -> Connection<L> {
+        Connection {
+            stream,
+            session: Session::new(alloc),
+            account: None,
+            is_leaving: false,
+            is_ready: false,
+            is_touched: false,
+            may_read: true,
+            is_shut: false,
+            read: 0,
+            weight: 0,
+            silence: Span::new(),
+            refusal: Span::new(),
+        }
+    }
+
+    /// The socket.
+    pub(crate) fn stream(&mut self) -> &mut Stream {
+        &mut self.stream
+    }
+
+    /// The socket may have more to read; or no more than what is there, and then its end.
+    pub(crate) fn wake(&mut self, is_shut: bool) {
+        self.may_read = true;
+        self.is_shut = self.is_shut || is_shut;
+    }
+
+    /// Whether something of it is on its way. Until it came back the connection stays where it is.
+    pub(crate) fn is_waiting(&self) -> bool {
+        self.session.is_waiting()
+    }
+
+    /// Whether its client holds a tuple.
+    pub(crate) fn holds_any<D: Disk, R: Wait>(&self, rt: &R, shared: &Shared<D, L>) -> bool {
+        match &self.account {
+            Some(account) => shared.holds_of(rt, account.client()) > 0,
+            None => false,
+        }
+    }
+
+    /// Whether something is still to be written.
+    pub(crate) fn has_unsent(&self) -> bool {
+        self.session.has_unsent()
+    }
+
+    /// Whether there may be something to take from it now. Of a frame whose end is still to come
+    /// there is nothing.
+    pub(crate) fn has_more(&self) -> bool {
+        self.session.has_more() || self.may_read && self.session.wants_read()
+    }
+
+    // Whether nothing more is read from it.
+    fn is_ending(&self) -> bool {
+        !matches!(self.session.end_of(), End::Never)
+    }
+
+    /// Its client is seen to hold a tuple, or none. Returns whether it is late: it holds one, and
+    /// for so many seconds it said nothing, and nothing of it was on its way.
+    pub(crate) fn is_late(&mut self, look: Look, seconds: u32, holds_any: bool) -> bool {
+        if !holds_any || self.is_waiting() {
+            self.silence.end();
+            return false;
+        }
+        !self.is_ending() && !self.has_more() && self.silence.grow(look, seconds)
+    }
+
+    /// What is to be written is given up if its peer sends no more, or nothing more is taken from
+    /// it, and it took nothing for some seconds. Returns whether that is so.
+    pub(crate) fn gives_up(&mut self, look: Look) -> bool {
+        let is_over = self.is_ending() || self.is_shut;
+        if !is_over || !self.has_unsent() {
+            self.refusal.end();
+            return false;
+        }
+        if !self.refusal.grow(look, MOST_REFUSAL) {
+            return false;
+        }
+        self.fail();
+        true
+    }
+
+    /// How many bytes were read since this was asked last.
+    pub(crate) fn take_read(&mut self) -> u64 {
+        std::mem::replace(&mut self.read, 0)
+    }
+
+    /// How many bytes its next message is answered with, by estimate.
+    pub(crate) fn weight(&self) -> u64 {
+        self.weight
+    }
+
+    /// Its next message, if there is room for it. It is read if less than one is there.
+    pub(crate) fn next(&mut self, buffer: &mut [u8], room: Room) -> Next {
+        for _ in 0..MOST_READS {
+            if let Some((message, route)) = self.session.next(room) {
+                self.silence.end();
+                return Next::Message(message, route);
+            }
+            if self.session.has_more() {
+                self.silence.end();
+                return Next::Kept;
+            }
+            if !self.may_read || !self.session.wants_read() {
+                return Next::None;
+            }
+            self.read(buffer);
+        }
+        Next::Later
+    }
+
+    // Reads what is there. A short read leaves nothing to read, unless the peer is known to send no
+    // more: then its end is still to be read, of which no second event comes.
+    fn read(&mut self, buffer: &mut [u8]) {
+        match self.stream.read(buffer) {
+            Ok(0) => {
+                self.may_read = false;
+                self.session.at_end();
+            }
+            Ok(len) => {
+                self.may_read = self.is_shut || len == buffer.len();
+                self.read = self.read.saturating_add(len as u64);
+                let _ = self.session.received(&buffer[..len]);
+            }
+            Err(error) => match error.kind() {
+                ErrorKind::WouldBlock => self.may_read = false,
+                ErrorKind::Interrupted => {}
+                _ => self.fail(),
+            },
+        }
+    }
+
+    /// Its client is welcome, and has this account.
+    pub(crate) fn welcome(&mut self, marks: &Marks, account: Account<L>, last: u64) {
+        self.account = Some(account);
+        self.count(marks, &Reply::Welcome { last });
+        let before = self.session.unsent().len();
+        if let Phase::Greeting = self.session.phase() {
+            self.session.welcome(last);
+        }
+        let _ = self.weigh(before);
+    }
+
+    /// Its client is refused. It may greet again.
+    pub(crate) fn refuse(&mut self, marks: &Marks, code: u8, detail: u64) {
+        self.count(marks, &Reply::Refused { code, detail });
+        let before = self.session.unsent().len();
+        if let Phase::Greeting = self.session.phase() {
+            self.session.refuse(code, detail);
+        }
+        let _ = self.weigh(before);
+    }
+
+    /// Its client could not be greeted: it ends with this word, if there is one.
+    pub(crate) fn drop_greeting(&mut self, word: Option<Refusal>) {
+        if let Phase::Greeting = self.session.phase() {
+            self.session.drop_greeting(word);
+        }
+    }
+
+    /// Its second Hello was answered, which is counted.
+    pub(crate) fn tell_busy(&mut self, marks: &Marks) {
+        let reply = Refusal::Busy.reply();
+        self.count(marks, &reply);
+    }
+
+    /// A message that went this way came back.
+    pub(crate) fn answered(&mut self, way: Way) {
+        self.session.answered(way);
+    }
+
+    /// It is sent this, after all that came before, which is counted. Returns how many bytes that
+    /// has.
+    pub(crate) fn tell(&mut self, marks: &Marks, reply: &Reply) -> u64 {
+        self.count(marks, reply);
+        let before = self.session.unsent().len();
+        self.session.tell(reply);
+        self.weigh(before)
+    }
+
+    // A reply is counted if its client is still sent something.
+    fn count(&self, marks: &Marks, reply: &Reply) {
+        if !self.session.end_of().is_closed() {
+            marks.sends(reply);
+        }
+    }
+
+    // How many bytes are to be written beside so many. The next reply is expected by that.
+    fn weigh(&mut self, before: usize) -> u64 {
+        let bytes = self.session.unsent().len().saturating_sub(before) as u64;
+        if bytes > 0 {
+            self.weight = weight_after(self.weight, bytes);
+        }
+        bytes
+    }
+
+    /// Nothing more is taken from it. It ends once what is on its way came back, with this word, if
+    /// there is one.
+    pub(crate) fn end_with(&mut self, word: Option<Refusal>) {
+        self.session.end(word);
+    }
+
+    /// It can be neither read nor written.
+    pub(crate) fn fail(&mut self) {
+        self.session.fail();
+    }
+
+    /// Writes what it can take.
+    pub(crate) fn flush(&mut self, marks: &Marks) {
+        if !self.is_waiting() {
+            if let End::Ending(Some(word)) = self.session.end_of() {
+                marks.sends(&word.reply());
+            }
+        }
+        self.session.finish();
+        for _ in 0..self.session.unsent().len() {
+            if !self.has_unsent() || !self.write() {
+                break;
+            }
+        }
+        self.session.shrink();
+    }
+
+    // Writes some of what is to be written. Whether more can be written now.
+    fn write(&mut self) -> bool {
+        match self.stream.write(self.session.unsent()) {
+            Ok(0) => self.fail(),
+            Ok(len) => {
+                self.refusal.end();
+                self.session.sent(len);
+                return true;
+            }
+            Err(error) => match error.kind() {
+                ErrorKind::WouldBlock => {}
+                ErrorKind::Interrupted => return true,
+                _ => self.fail(),
+            },
+        }
+        false
+    }
+
+    /// Whether it is over: nothing of it is on its way, and nothing more is to be written.
+    pub(crate) fn is_over(&self) -> bool
+        ensures { result ≡ true → self.now.account ≡ None }
+    {
+        self.account.is_none() && self.session.is_over()
+    }
+
+    /// The client that leaves now, if it does: nothing more comes of it, all is answered, and that
+    /// is not among the calls yet.
+    pub(crate) fn leaves(&self) -> Option<u32>
+        ensures { IfSome result (λ client. IfSome self.now.account (λ a. a.client ≡ client)) }
+    {
+        if self.is_leaving || !self.session.has_left() {
+            return None;
+        }
+        match &self.account {
+            Some(account) => Some(account.client()),
+            None => None,
+        }
+    }
+
+    /// Its socket is shut.
+    pub(crate) fn shut(&self) {
+        self.stream.shut();
+    }
+}

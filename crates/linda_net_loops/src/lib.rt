@@ -1,0 +1,20 @@
+//! Loops, which serve the connections of listeners without a thread for each: each waits until some
+//! of its connections are ready, takes what they sent to the server as one group, and writes what
+//! that led to.
+//!
+//! - `Loops` are all of them, and run in threads of their own.
+//! - A `Loop` has some of the connections (`Sessions`), and what of theirs goes to the server next
+//!   (`Batch`).
+//! - A `Connection` is a socket with its `Session`, read and written without waiting for it.
+#![tactic(auto)]
+
+mod batch;
+mod connection;
+mod place;
+mod posting;
+mod running;
+mod sessions;
+mod turns;
+
+pub use place::account_has_parts_for_all;
+pub use running::Loops;

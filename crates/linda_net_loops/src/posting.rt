@@ -1,0 +1,43 @@
+//! Posting of replies: who takes what is sent to clients while a loop has the server.
+
+use crate::sessions::Sessions;
+use linda_net_relays::Relays;
+use linda_shared::{Post, Sent};
+use std::sync::Wait;
+use std::sync::ledger::Ledger;
+use std::time::{Clock, Instant};
+
+/// A loop that serves a group. What is for its own clients is written to their connections, after
+/// what other loops handed to it before; all else is handed to the loop that serves the client.
+/// That is done under the server's lock, so what is sent to a client stays in order.
+#[derive(Drop)]
+pub(crate) struct Posting<'s, 'r, L: Ledger, C: Clock> {
+    pub(crate) clock: &'r C,
+    pub(crate) sessions: &'s mut Sessions<L>,
+    pub(crate) relays: &'r Relays,
+    // What other loops handed to this one before is taken.
+    pub(crate) has_taken: bool,
+    // Something was handed to another loop.
+    pub(crate) has_handed: bool,
+    // When the server was locked for the group.
+    pub(crate) begin: Option<Instant>,
+}
+
+impl<L: Ledger, C: Clock> Post for Posting<'_, '_, L, C> {
+    fn begin(&mut self) {
+        self.begin = Instant::now(self.clock).ok();
+    }
+
+    fn post<R: Wait>(&mut self, rt: &R, sent: Sent) {
+        if !self.sessions.has(sent.client()) {
+            self.relays.post(rt, sent);
+            self.has_handed = true;
+            return;
+        }
+        if !self.has_taken {
+            self.has_taken = true;
+            self.sessions.take_sent(rt, self.relays);
+        }
+        self.sessions.tell(&self.relays.marks, sent);
+    }
+}

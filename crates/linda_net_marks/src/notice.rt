@@ -1,0 +1,45 @@
+//! Notices of what happens while connections are served.
+
+ghost use Rattle.std.specs.Prelude.{◌≡◌, ◌/◌, ◌-◌, ◌^◌, min};
+ghost use Rattle.std.specs.Duration.{as_nanos};
+
+use crate::refusals::Why;
+use std::time::Duration;
+
+/// What happened.
+#[derive(Clone, Copy, Debug, PartialEq, Eq)]
+pub enum Notice {
+    /// A minute went by.
+    Minute,
+    /// A snapshot was taken, in so many milliseconds.
+    Snapshot(u64),
+    /// A snapshot was refused after so many milliseconds, since the new bank would be full.
+    NoSnapshot(u64),
+    /// Puts or takes are refused since the bank is full: reported once, and again only after a
+    /// minute without.
+    Full,
+    /// A connection was closed since no thread could be had: reported as `Full` is.
+    Closed,
+    /// A connection could not be had: reported as `Full` is.
+    Missed,
+    /// Clients are refused for this reason: reported as `Full` is.
+    Turned(Why),
+    /// No thread could be had for whoever watches: nothing more is reported.
+    Unwatched,
+    /// No thread could be had for snapshots: none is taken.
+    NoThread,
+    /// The system has no thread or no room for who answers what is asked: nothing is answered.
+    NoStatus,
+    /// The server went down.
+    Down,
+}
+
+/// How many whole milliseconds a time has, as far as that can be counted.
+pub fn millis_of(passed: Duration) -> u64
+    ensures { result ≡ min (as_nanos passed / 1_000_000) (2 ^ 64 - 1) }
+{
+    match u64::try_from(passed.as_millis()) {
+        Ok(millis) => millis,
+        Err(_) => u64::MAX,
+    }
+}

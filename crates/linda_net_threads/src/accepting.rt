@@ -1,0 +1,102 @@
+//! Connections that come, each with two threads of its own.
+
+use crate::connection::{Connection, write_news};
+use crate::reader::read_messages;
+use linda_disk::Disk;
+use linda_net_marks::{Marks, REST, one_less};
+use linda_shared::Shared;
+use std::alloc::Global;
+use std::net::{TcpListener, TcpStream};
+use std::sync::Wait;
+use std::sync::ledger::Ledger;
+use std::thread;
+use std::thread::{Scope, Threads};
+use std::time::{Clock, Duration};
+
+/// Serves the connections that come to their ends, so many if a number is given, while the server
+/// is up.
+pub fn accept_all<D: Disk + Send, L: Ledger + Send + Sync, R: Threads + Wait + Clock + Sync>(
+    rt: &R,
+    alloc: Global,
+    listener: &TcpListener,
+    shared: &Shared<D, L>,
+    marks: &Marks,
+    sessions: Option<u32>,
+) {
+    thread::scope(thread::scope_env(), rt, |scope| {
+        begin_all(scope, rt, alloc, listener, shared, marks, sessions);
+    });
+}
+
+// Begins to serve each connection that comes, so many if a number is given, while the server is up.
+fn begin_all<'s, E, D: Disk + Send, L: Ledger + Send + Sync, R: Threads + Wait + Clock + Sync>(
+    scope: &'s Scope<'s, E>,
+    rt: &'s R,
+    alloc: Global,
+    listener: &TcpListener,
+    shared: &'s Shared<D, L>,
+    marks: &'s Marks,
+    sessions: Option<u32>,
+) {
+    let mut left = sessions;
+    if left == Some(0) {
+        return;
+    }
+    for stream in listener.incoming() {
+        if shared.is_down(rt) {
+            return;
+        }
+        match stream {
+            Ok(stream) => {
+                begin(scope, rt, alloc, shared, marks, stream);
+                left = one_less(left);
+            }
+            Err(_) => {
+                marks.misses();
+                thread::sleep(rt, Duration::from_millis(REST));
+            }
+        }
+        if left == Some(0) {
+            return;
+        }
+    }
+}
+
+// Begins to serve a connection. If no thread can be had it is closed.
+fn begin<'s, E, D: Disk + Send, L: Ledger + Send + Sync, R: Threads + Wait + Clock + Sync>(
+    scope: &'s Scope<'s, E>,
+    rt: &'s R,
+    alloc: Global,
+    shared: &'s Shared<D, L>,
+    marks: &'s Marks,
+    stream: TcpStream,
+) {
+    marks.comes();
+    let begun = scope.spawn(move || converse(rt, alloc, shared, marks, stream));
+    if begun.is_err() {
+        marks.closes();
+        marks.ends();
+    }
+}
+
+// Serves one connection to its end.
+fn converse<D: Disk + Send, L: Ledger + Send + Sync, R: Threads + Wait + Clock + Sync>(
+    rt: &R,
+    alloc: Global,
+    shared: &Shared<D, L>,
+    marks: &Marks,
+    stream: TcpStream,
+) {
+    let _ = stream.set_nodelay(true);
+    let connection = Connection::new(alloc, stream);
+    let lent = &connection;
+    thread::scope(thread::scope_env(), rt, |scope| {
+        let news = move || write_news(rt, alloc, shared, marks, lent);
+        if scope.spawn(news).is_ok() {
+            read_messages(rt, alloc, shared, marks, lent);
+        } else {
+            marks.closes();
+        }
+    });
+    marks.ends();
+}

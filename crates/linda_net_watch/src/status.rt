@@ -1,0 +1,58 @@
+//! Status of a server over HTTP, beside the connections that it serves.
+//!
+//! - A `Teller` has the pages, which it spells from the server and what happened at it.
+//! - A `Station` is the `HttpServer` of linda_net_http that answers by them.
+
+mod station;
+
+use linda_disk::Disk;
+pub use linda_net_http::{Asked, Listener, Told};
+use linda_net_marks::Tally;
+use linda_shared::Shared;
+pub use station::Station;
+use std::alloc::AllocError;
+use std::sync::Wait;
+use std::sync::ledger::Ledger;
+use std::time::Clock;
+
+/// Who has the pages that are asked for.
+pub trait Teller {
+    /// Writes the page that is asked for behind what is there, and returns of which kind it is; or
+    /// why there is none.
+    ///
+    /// # Errors
+    ///
+    /// Memory ran out: some of the page may be there.
+    fn spell<D: Disk, L: Ledger, R: Wait + Clock>(
+        &self,
+        rt: &R,
+        shared: &Shared<D, L>,
+        tally: &Tally,
+        asked: Asked<'_>,
+        page: &mut String,
+    ) -> Result<Told, AllocError>;
+}
+
+/// Where it is asked how the server does, and who has the pages.
+#[derive(Drop)]
+pub struct Status<A: Teller> {
+    pub listener: Listener,
+    pub teller: A,
+}
+
+/// A teller that nobody asks.
+#[derive(Drop)]
+pub struct Unasked;
+
+impl Teller for Unasked {
+    fn spell<D: Disk, L: Ledger, R: Wait + Clock>(
+        &self,
+        _rt: &R,
+        _shared: &Shared<D, L>,
+        _tally: &Tally,
+        _asked: Asked<'_>,
+        _page: &mut String,
+    ) -> Result<Told, AllocError> {
+        Ok(Told::Nothing)
+    }
+}

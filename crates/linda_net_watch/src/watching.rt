@@ -1,0 +1,172 @@
+//! Notices about a server while its connections are served, and the thread that gives them.
+
+ghost use Rattle.std.specs.Prelude.{◌≡◌, ◌↔◌, ◌≤◌, IsTrue};
+ghost use Rattle.linda_net_watch.specs.Troubles.{notice_of_snapshot};
+
+use crate::looking::look;
+use crate::seconds::Seconds;
+use crate::seen::Seen;
+use crate::snapshots::snapshot;
+use linda_disk::Disk;
+use linda_net_marks::{Marks, Notice, Tally, millis_of};
+use linda_shared::{Gauge, Shared, SharedFault};
+use std::sync::ledger::Ledger;
+use std::sync::{Mutex, Wait};
+use std::thread;
+use std::time::{Clock, Instant};
+
+/// How long a minute is, in milliseconds.
+const MINUTE: u64 = 60_000;
+
+/// How many troubles there are that are reported when they begin.
+const TROUBLES: u32 = 8;
+
+/// Who is told what happens while connections are served.
+pub trait Watcher {
+    /// This happened; so much the server and its connections come to then.
+    fn tell<C: Clock>(&mut self, clock: &C, notice: Notice, gauge: &Gauge, tally: &Tally);
+
+    /// Whether what the server writes is kept, as far as whoever is told knows: asked once a
+    /// minute. If it is not the server goes down.
+    fn is_kept<C: Clock>(&mut self, _clock: &C) -> bool {
+        true
+    }
+}
+
+/// A watcher that nobody listens to.
+#[derive(Drop)]
+pub struct Silent;
+
+impl Watcher for Silent {
+    fn tell<C: Clock>(&mut self, _clock: &C, _notice: Notice, _gauge: &Gauge, _tally: &Tally) {}
+}
+
+/// Looks ten times a second until it is over, and then once more, reports what happened, and says
+/// to the server which second it is. Only this thread waits if who is told does not go on.
+pub fn watch<D: Disk, L: Ledger, R: Wait + Clock, T: Watcher>(
+    rt: &R,
+    shared: &Shared<D, L>,
+    is_over: &Mutex<bool>,
+    marks: &Marks,
+    watcher: &Mutex<T>,
+    seconds: Seconds,
+) {
+    let mut seconds = seconds;
+    let mut seen = Seen::new();
+    let mut begin = Instant::now(rt).ok();
+    for _ in rt.forever() {
+        let over = *is_over.lock(rt);
+        seconds.pass(rt, shared);
+        if let Some(notice) = marks.take_snapshot(rt) {
+            tell(rt, shared, marks, watcher, notice);
+        }
+        let tally = marks.tally();
+        tell_troubles(rt, shared, marks, watcher, &mut seen, &tally);
+        if over {
+            return;
+        }
+        if is_minute(millis_since(rt, begin)) {
+            tell(rt, shared, marks, watcher, Notice::Minute);
+            seen.end_minute(&tally);
+            begin = Instant::now(rt).ok();
+            end_if_not_kept(rt, shared, watcher);
+        }
+        thread::sleep(rt, look());
+    }
+}
+
+/// Takes a snapshot, and notes what came of it, unless the server is down or it is over. Returns
+/// how many milliseconds it took.
+pub(crate) fn take_snapshot<D: Disk, L: Ledger, R: Wait + Clock>(
+    rt: &R,
+    shared: &Shared<D, L>,
+    marks: &Marks,
+    is_over: &Mutex<bool>,
+) -> u64 {
+    let begin = Instant::now(rt).ok();
+    let taken = snapshot(rt, shared, is_over);
+    let millis = millis_since(rt, begin);
+    if let Some(taken) = taken {
+        if let Some(notice) = notice_of(&taken, millis) {
+            marks.keep_snapshot(rt, notice);
+        }
+    }
+    millis
+}
+
+// What is told of a snapshot that took so many milliseconds.
+fn notice_of(taken: &Result<(), SharedFault>, millis: u64) -> Option<Notice>
+    ensures { result ≡ notice_of_snapshot taken.now millis }
+{
+    match taken {
+        Ok(()) => Some(Notice::Snapshot(millis)),
+        Err(SharedFault::Full) => Some(Notice::NoSnapshot(millis)),
+        Err(SharedFault::Down) => None,
+        Err(SharedFault::SeatMissing) => None,
+        Err(SharedFault::Receipt { .. }) => None,
+        Err(SharedFault::Stuck(_)) => None,
+        Err(SharedFault::NoThread) => None,
+        Err(SharedFault::Memory) => None,
+    }
+}
+
+// Reports each trouble that began.
+fn tell_troubles<D: Disk, L: Ledger, R: Wait + Clock, T: Watcher>(
+    rt: &R,
+    shared: &Shared<D, L>,
+    marks: &Marks,
+    watcher: &Mutex<T>,
+    seen: &mut Seen,
+    tally: &Tally,
+) {
+    let is_down = shared.is_down(rt);
+    for _ in 0..TROUBLES {
+        let Some(notice) = seen.next(tally, is_down) else {
+            return;
+        };
+        tell(rt, shared, marks, watcher, notice);
+    }
+}
+
+/// Reports a notice, with what the server and its connections come to.
+pub fn tell<D: Disk, L: Ledger, R: Wait + Clock, T: Watcher>(
+    rt: &R,
+    shared: &Shared<D, L>,
+    marks: &Marks,
+    watcher: &Mutex<T>,
+    notice: Notice,
+) {
+    let gauge = shared.gauge(rt);
+    let tally = marks.tally();
+    watcher.lock(rt).tell(rt, notice, &gauge, &tally);
+}
+
+// The server goes down if what it writes is not kept.
+fn end_if_not_kept<D: Disk, L: Ledger, R: Wait + Clock, T: Watcher>(
+    rt: &R,
+    shared: &Shared<D, L>,
+    watcher: &Mutex<T>,
+) {
+    let is_kept = watcher.lock(rt).is_kept(rt);
+    if !is_kept {
+        shared.give_up(rt);
+    }
+}
+
+// How many milliseconds have gone by since then; 0 where the clock cannot be read.
+fn millis_since<R: Clock>(rt: &R, begin: Option<Instant>) -> u64 {
+    let Some(begin) = begin else {
+        return 0;
+    };
+    match begin.elapsed(rt) {
+        Ok(passed) => millis_of(passed),
+        Err(_) => 0,
+    }
+}
+
+// Whether a minute is over after so many milliseconds.
+fn is_minute(millis: u64) -> bool
+    ensures { IsTrue result ↔ (60_000 ≤ millis) }
+{
+    millis >= MINUTE
+}

@@ -1,0 +1,7 @@
+use Rattle.std.proofs.Common.{◌≡◌, ◌++◌, take}
+use Rattle.std.specs.List.{flat_map}
+use Rattle.linda_status.specs.Listed.{json_later_client}
+use Rattle.linda_status.proofs.listed.push_later_clients.Given as goal
+
+abbrev pub invariant-loop-row : goal.invariant-loop-row
+invariant-loop-row l = l.out.items ≡ l.initial.out.items ++ flat_map json_later_client (take l.row-index l.rows)

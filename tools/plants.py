@@ -1,0 +1,313 @@
+"""Bugs of the kind that people make, each with what has to see it: `tools/check --plants` plants them in copies of the tree.
+
+It is no tool by itself. A plant is changed text of files, or calls of the system that are preloaded into the program. Plants of changed sources that have
+the same `build` are built together, unproved, since each is seen by another check, or in other words. `part` is the part of tools/check that has to
+fail, `command` what of it sees this plant, and `says` what it prints then. Plants of time and of processor time may be missed on a busy machine: there
+a busy loop gets few processors, and ten thousand tries take seconds.
+"""
+
+from __future__ import annotations
+
+import hashlib
+import os
+import re
+import shlex
+import shutil
+import subprocess
+import tempfile
+import time
+from concurrent.futures import ThreadPoolExecutor
+from pathlib import Path
+from typing import NamedTuple
+
+TOP = Path(__file__).resolve().parent.parent
+NET, SERVE = "crates/linda_net", "crates/linda_serve/src/serving"
+PYTHON, NODE, C = "clients/python", "clients/node", "clients/c"
+SOCKETS, COUNTS, RATIOS, SIMULATE = "tools/sockets", "tools/counts", "tools/ratios", "tools/simulate 150"
+ALL = "for key in 0..self.connections.capacity() {\n            if let Some(connection) = self.connections.get_mut(key) {\n                "
+SOME = ALL.replace("capacity()", "len()")
+
+
+class Plant(NamedTuple):
+    """`edits`: a file, its text, which is there once, and what it becomes; or the calls of the system that are preloaded, in C."""
+
+    name: str
+    part: str
+    command: str
+    says: str
+    edits: tuple[tuple[str, str, str], ...] | str
+    build: str = ""
+
+
+def edit(name: str, part: str, command: str, says: str, *edits: str, build: str = "") -> Plant:
+    """A plant in files: of each its name, old text and new text."""
+    return Plant(name, part, command, says, tuple(zip(edits[::3], edits[1::3], edits[2::3])), build)
+
+
+# What preloaded calls are made of.
+HEAD = """#define _GNU_SOURCE
+#include <dlfcn.h>
+#include <netinet/in.h>
+#include <netinet/tcp.h>
+#include <string.h>
+#include <sys/socket.h>
+#include <sys/types.h>
+#include <time.h>
+#include <unistd.h>
+#define NEXT(name) ((typeof(&name))dlsym(RTLD_NEXT, #name))
+"""
+WRITE = "ssize_t pwrite64(int file, const void *data, size_t size, off_t at) { %s return NEXT(pwrite64)(file, data, size, at); }"
+# Each name of a call that the program may use.
+TWICE = {"pwrite64": "pwrite", "ftruncate64": "ftruncate", "open64": "open"}
+
+PLANTS = [
+    # ---- the disk
+    Plant("a sync that failed is tried again, and believed", "simulate", SIMULATE, "seed",
+          "int fdatasync(int file) { return NEXT(fdatasync)(file) == 0 ? 0 : NEXT(fdatasync)(file); }"),
+    Plant("a bank is opened and told without its sync", "simulate", SIMULATE, "seed",
+          "static char written[4096];\n"
+          + WRITE % "if (file < 4096) written[file] = 1;"
+          + "\nint close(int file) { if (file >= 0 && file < 4096) written[file] = 0; return NEXT(close)(file); }"
+          "\nint fdatasync(int file) { return file < 4096 && !written[file] ? 0 : NEXT(fdatasync)(file); }"),
+    Plant("what is after 65,536 bytes of a write lies one byte early", "sockets", f"{SOCKETS} large_records_over_a_kill", "FAILED",
+          WRITE % "if (size > 65536) { NEXT(pwrite64)(file, data, 65536, at); return 65536 + NEXT(pwrite64)(file, (const char *)data + 65536,"
+          " size - 65536, at + 65535); }"),
+    Plant("the last byte of a write of more than 200,000 bytes is lost", "sockets", f"{SOCKETS} large_records_over_a_kill", "FAILED",
+          WRITE % "if (size > 200000) return NEXT(pwrite64)(file, data, size - 1, at) + 1;"),
+    Plant("a file is not cut", "counts", f"{COUNTS} lengths_after_a_cut_snapshot", "after a kill in a snapshot",
+          "int ftruncate64(int file, off_t size) { (void)file, (void)size; return 0; }"),
+    edit("the room of a snapshot that was cut off is not given back", "counts", f"{COUNTS} lengths_after_a_cut_snapshot", "after a kill in a snapshot",
+         f"{SERVE}/start.rt", "    let mut server = server;\n    give_back(&mut server)?;\n    Ok(Begun {\n        server,\n        course: Course {\n            base,\n"
+         "            put_off: Some", "    Ok(Begun {\n        server,\n        course: Course {\n            base,\n            put_off: Some", build="one"),
+    edit("a copy is not made anew", "sockets", f"{SOCKETS} a_copy_while_banks_change", "FAILED", "examples/backup.sh", '[ "$(heads "$1")" != "$before" ]', "false"),
+    # ---- what is left open, busy or in memory
+    Plant("a connection over a unix socket leaves a descriptor", "counts", f"{COUNTS} files_of_a_server", "over a unix socket",
+          "int accept4(int file, struct sockaddr *place, socklen_t *size, int flags) {\n    int new = NEXT(accept4)(file, place, size, flags), kind = 0;\n"
+          "    socklen_t room = sizeof kind;\n    if (new >= 0 && getsockopt(new, SOL_SOCKET, SO_DOMAIN, &kind, &room) == 0 && kind == AF_UNIX) dup(new);\n"
+          "    return new;\n}"),
+    edit("the thread of --status waits for no time", "counts", f"{COUNTS} processor_at_rest", r"an idle server with --status \(loops\) took",
+         "crates/linda_net_http/src/server.rt", "        } else {\n            QUIET\n        };", "        } else {\n            0\n        };", build="one"),
+    edit("a busy loop while no file is left", "counts", f"{COUNTS} processor_at_rest", r"a server at its limit of files \(loops\) took",
+         f"{NET}_marks/src/coming.rt", "REST: u64 = 10;", "REST: u64 = 0;", build="one"),
+    edit("a call waits busily", "counts", f"{COUNTS} processor_at_rest", "a call that waits took",
+         "crates/linda_net_proxy/src/inbox.rt", "Duration::from_millis(1),", "Duration::from_millis(0),", build="one"),
+    edit("an idle connection keeps the room of its largest reply", "counts", f"{COUNTS} memory_of_idle_connections", "idle connections, each sent 131 KB",
+         "crates/linda_net_session/src/outgoing.rt", "if left == 0 && self.out", "if self.gone > 0 && self.out", build="one"),
+    edit("the bank that was read stays in memory", "counts", f"{COUNTS} memory_after_a_start", "after a start over",
+         "crates/linda_disk/src/known.rt", "        self.front.truncate(most);\n        self.front.shrink_to_fit();\n", "        let _ = most;\n", build="one"),
+    edit("receipts are never forgotten", "counts", f"{COUNTS} memory_over_many_puts", "each taken, leave",
+         f"{NET}_watch/src/looking.rt", "        shared.forget(rt);\n", "", build="one"),
+    # ---- the two loops
+    edit("the other loop is not woken at a leave", "sockets", f"{SOCKETS} loops_wake_each_other", "has not sent what is due",
+         f"{NET}_loops/src/turns.rt", "shared.depart(rt, account, &mut posting);\n    ring(rt, &posting);\n", "shared.depart(rt, account, &mut posting);\n",
+         build="one"),
+    edit("leases are kept of as many keys as there are connections", "sockets", f"{SOCKETS} leases", "FAILED",
+         f"{NET}_loops/src/sessions.rt", f"{ALL}let holds_any", f"{SOME}let holds_any", build="one"),
+    edit("a server that is down ends as many keys as there are connections", "sockets", f"{SOCKETS} connections_of_a_failed_device", "FAILED",
+         f"{NET}_loops/src/sessions.rt", f"{ALL}connection.end_with", f"{SOME}connection.end_with", build="one"),
+    # ---- numbers
+    edit("greetings and malformed change places in the status", "status", "tools/status numbers_that_follow", "FAILED",
+         "crates/linda_status/src/figure.rt", "Greetings => tally.turned.greetings", "Greetings => tally.turned.malformed",
+         "crates/linda_status/src/figure.rt", "Malformed => tally.turned.malformed", "Malformed => tally.turned.greetings", build="one"),
+    edit("full and toomany change places in the status", "status", "tools/status refusals_that_differ", "FAILED",
+         "crates/linda_status/src/figure.rt", "Full => tally.refused", "Full => tally.turned.clients",
+         "crates/linda_status/src/figure.rt", "TooMany => tally.turned.clients", "TooMany => tally.refused", build="one"),
+    edit("deeds and records change places in the status", "status", "tools/status numbers_that_follow", "FAILED",
+         "crates/linda_status/src/figure.rt", "Deeds => gauge.deeds", "Deeds => gauge.records as u64",
+         "crates/linda_status/src/figure.rt", "Records => gauge.records as u64", "Records => gauge.deeds", build="two"),
+    # ---- when, and how long
+    edit("a call gives a server up at once that is away", "sockets", f"{SOCKETS} waits_over_three_seconds", "FAILED",
+         "crates/linda_net_proxy/src/link.rt", "                thread::sleep(rt, Duration::from_millis(1));\n                true", "                true", build="one"),
+    Plant("replies wait for the acknowledgement of those before them", "ratios", f"{RATIOS} looks_at_once", "FAILED",
+          "int setsockopt(int file, int level, int name, const void *value, socklen_t size) {\n"
+          "    return level == IPPROTO_TCP && name == TCP_NODELAY ? 0 : NEXT(setsockopt)(file, level, name, value, size);\n}"),
+    Plant("each sync takes 2 ms of processor more", "ratios", f"{RATIOS} puts_in_memory", "FAILED",
+          "int fdatasync(int file) {\n    struct timespec began, now;\n    clock_gettime(CLOCK_MONOTONIC, &began);\n    do clock_gettime(CLOCK_MONOTONIC, &now);\n"
+          "    while ((now.tv_sec - began.tv_sec) * 1000000000L + now.tv_nsec - began.tv_nsec < 2000000);\n    return NEXT(fdatasync)(file);\n}"),
+    Plant("each sync waits for 20 ms before", "ratios", f"{RATIOS} puts_against_syncs", "FAILED",
+          "int fdatasync(int file) { usleep(20000); return NEXT(fdatasync)(file); }"),
+    edit("no snapshot is in steps", "ratios", f"{RATIOS} replies_during_a_snapshot", "FAILED", f"{NET}_watch/src/snapshots.rt", ".used < STEP {", ".used > 0 {", build="two"),
+    edit("alarms of a call come up to 50 ms late", "ratios", f"{RATIOS} alarms_of_a_call", "FAILED",
+         "crates/linda_net_proxy/src/inbox.rt", "Duration::from_millis(1),", "Duration::from_millis(50),", build="two"),
+    edit("each put is spelled a hundred times", "instructions", "bench/instructions", "instructions a put",
+         "crates/linda_net_session/src/outgoing.rt", "        encode_reply(&mut self.out, reply)\n",
+         "        for _ in 0..100 {\n            let mut spare = Vec::new(self.alloc);\n            let _ = encode_reply(&mut spare, reply);\n        }\n"
+         "        encode_reply(&mut self.out, reply)\n", build="two"),
+    edit("the first snapshot after one that was cut off is not put off", "sockets", f"{SOCKETS} a_snapshot_is_put_off", "a snapshot was taken",
+         f"{SERVE}/start.rt", "put_off: Some(room_of(torso))", "put_off: Some(room_of(torso)).filter(|_| false)", build="two"),
+    # ---- what a command does before it begins, and what is said of it
+    edit("a call without a standard output puts its tuple", "sockets", f"{SOCKETS} calls_without_streams", "FAILED",
+         "crates/linda/src/main.rt", "        Task::Call { .. } => true,\n", "        Task::Call { .. } => false,\n", build="two"),
+    edit("a link to nothing is a bank that is missing", "sockets", f"{SOCKETS} banks_that_are_no_files", "FAILED: .*link to nothing", "crates/linda_serve/src/bank_file.rt",
+         "        Ok(_) => Err(ServingFault::Disk),\n        Err(error) if error.kind() == ErrorKind::NotFound => Ok(()),",
+         "        Ok(_) => Ok(()),\n        Err(error) if error.kind() == ErrorKind::NotFound => Ok(()),", build="two"),
+    edit("the usage of serve has only a port", "sockets", f"{SOCKETS} refused_words", "FAILED", "crates/linda_args/src/command.rt",
+         "linda serve [OPTIONS] --socket <PATH> --dir <D>", "linda serve [OPTIONS] --port <P> --dir <D>", build="two"),
+    edit("the charts of the status page go by answers", "status", "tools/status what_the_page_shows", "FAILED", "crates/linda_status/src/page.rt",
+         "span(Math.round(time / 1000))", "span(past.length)", build="two"),
+    # ---- the libraries
+    edit("a hold is not asked for again after its server was away", "python", f"{PYTHON}/test_linda_space.py", "FAIL: test_each_call_that_waits",
+         f"{PYTHON}/linda_space/machine.py", "        self.sent += packets\n", "        self.sent += [] if isinstance(self.task, Syncing) and self.task.is_hold else packets\n"),
+    edit("what an interrupted take took goes to the next take", "python", f"{PYTHON}/test_linda_space.py Waits.test_ctrl_c_while_a_tuple_is_taken", "AssertionError",
+         f"{PYTHON}/linda_space/machine.py", "if base.leaf.fits(had.tuple or ()):", "if had.tuple and had.tuple[0] == base.leaf.template[0]:"),
+    edit("a call of Python takes 5 ms more", "ratios", f"{RATIOS} calls_of_python", "FAILED",
+         f"{PYTHON}/linda_space/space.py", "        self._be_mine()\n        return self._drive(self._course(begin, timeout, is_again, offer, is_over))",
+         "        self._be_mine()\n        time.sleep(0.005)\n        return self._drive(self._course(begin, timeout, is_again, offer, is_over))"),
+    edit("Python waits for acknowledgements", "ratios", f"{RATIOS} calls_of_python", "FAILED",
+         f"{PYTHON}/linda_space/links.py", "        stream.setsockopt(socket.IPPROTO_TCP, socket.TCP_NODELAY, 1)\n", ""),
+    edit("Python greets a server that was away after 5 s", "ratios", f"{RATIOS} python_goes_on", "FAILED",
+         f"{PYTHON}/linda_space/space.py", "link.pause = min(2 * link.pause, LONGEST_PAUSE)", "link.pause = 5.0"),
+    edit("Python keeps all outcomes", "counts", f"{COUNTS} memory_of_python", "FAILED",
+         f"{PYTHON}/linda_space/machine.py", "        outcome = self.outcome(sync, base, kind, got, value)\n",
+         "        outcome = self.outcome(sync, base, kind, got, value)\n        self.__dict__.setdefault('kept', []).append(outcome)\n"),
+    edit("Node.js does not ask for a hold again after its server was away", "node", f"{NODE}/test_linda_space.mjs", "✖ each call that waits",
+         f"{NODE}/lib/machine.mjs", "this.unanswered().filter(([other]) => other === server)", "this.unanswered().filter(([other]) => other === server && !this.task?.isHold)"),
+    edit("a call of Node.js takes 5 ms more", "ratios, node", f"{RATIOS} calls_of_node", "FAILED",
+         f"{NODE}/lib/space.mjs", "    async #call(begin, limits, ways = {}) {\n",
+         "    async #call(begin, limits, ways = {}) {\n        await new Promise((done) => { setTimeout(done, 5); });\n"),
+    edit("Node.js waits for acknowledgements", "ratios, node", f"{RATIOS} calls_of_node", "FAILED",
+         f"{NODE}/lib/links.mjs", "host: '127.0.0.1', noDelay: true }", "host: '127.0.0.1', noDelay: false }"),
+    edit("Node.js greets a server that was away after 5 s", "ratios, node", f"{RATIOS} node_goes_on", "FAILED",
+         f"{NODE}/lib/space.mjs", "link.pause = Math.min(2 * link.pause, LONGEST_PAUSE);", "link.pause = 5_000;"),
+    edit("Node.js listens to a signal for ever", "counts, node", f"{COUNTS} memory_of_node", "FAILED",
+         f"{NODE}/lib/space.mjs", "                signal?.removeEventListener('abort', abort);\n", ""),
+    edit("a code of the header is another", "c frames", f"{C}/test_frames 1", "error", f"{C}/linda.h", "LINDA_CODE_NO_HELLO = 12", "LINDA_CODE_NO_HELLO = 13"),
+    edit("texts are compared up to their first zero", "c frames", f"{C}/test_frames 1", "texts with zeros", f"{C}/linda.h",
+         "memcmp(value->text, pattern->text, value->size) == 0", "strncmp((const char *)value->text, (const char *)pattern->text, value->size) == 0"),
+    # ---- pages and packages
+    # (the parts of the old texts are apart here, so that each is in this file once)
+    edit("a plant of a file that moved", "links", "tools/links", "has its old text 0 times", "tools/plants.py", '"crates/linda_disk/' 'src/known.rt"', '"crates/linda_disk/src/once.rt"'),
+    edit("a mutant of a text that changed", "links", "tools/links", "audit/linda/.*has its old text 0 times", "crates/linda/src/main.rt",
+         "Err(fault) => end(rt, fault, fault.status()),", "Err(fault) => end(rt, fault, { fault.status() }),"),
+    edit("a snapshot after 2,048 records", "said", "tools/said", "2,048", "docs/OPERATING.md", "by itself: after 1,024 records, or 32 MiB", "by itself: after 2,048 records, or 64 MiB"),
+    edit("an option that is not there in a synopsis", "said", "tools/said", "--loops", "docs/COMMANDS.md", "[--log] [--lease S] [--threads]", "[--log] [--loops N] [--lease S] [--threads]"),
+    edit("a status is another", "said", "tools/said", "damaged left O` has status 4", "docs/COMMANDS.md", "| 3 | `store: damaged left O`", "| 4 | `store: damaged left O`"),
+    edit("a line is another", "said", "tools/said", "store: locked", "docs/COMMANDS.md", "| 3 | `store: in use` |", "| 3 | `store: locked` |"),
+    edit("a default is another", "said", "tools/said", "660", "docs/COMMANDS.md", "its mode is 600, or MODE", "its mode is 660, or MODE"),
+    edit("a lease is a second longer at most", "said", "tools/said", "after S to S", "docs/COMMANDS.md", "S + 3 seconds, and what", "S + 1 seconds, and what"),
+    edit("a code of the page is another", "said", "tools/said", "Malformed", "docs/FORMATS.md", "| 9 | Malformed |", "| 8 | Malformed |"),
+    edit("a unit starts the program with an option that is not there", "release", "tools/release --check", "has no --loops", "packaging/linda.service", "serve --dir", "serve --loops 2 --dir"),
+    edit("a unit does not restart", "said", "tools/said", "on-abnormal, and", "packaging/linda.service", "Restart=on-abnormal", "Restart=no"),
+    edit("no completion for fish in the package", "release", "tools/release --check", "a release has not package .*linda.fish", "tools/release",
+         '        Entry(f"{share}/fish/vendor_completions.d/linda.fish", text("linda.fish")),\n', ""),
+    edit("the program of the package may not be run", "release", "tools/release --check", "usr/bin/linda ends with", "tools/release",
+         'Entry("usr/bin/linda", program.read_bytes(), True)', 'Entry("usr/bin/linda", program.read_bytes(), False)'),
+    edit("the package makes no user", "release", "tools/release --check", "and it makes nobody", "tools/release", """SYSUSERS = 'u linda - "CML-Linda" /var/lib/linda\\n'""", "SYSUSERS = '# none\\n'"),
+]
+
+
+def misplaced() -> list[str]:
+    """The plants whose command is not here, or of which an old text is not in its file exactly once, as the plants before it of the same build left it."""
+    wrong, texts = [], {}
+    for plant in PLANTS:
+        command = plant.command.split()[0]
+        if not (TOP / command).is_file() and not (TOP / f"{command}.c").is_file():
+            wrong.append(f"tools/plants.py: {plant.name}: there is no {command}")
+        if not plant.build:
+            texts = {it: text for it, text in texts.items() if it[0]}
+        for name, old, new in () if isinstance(plant.edits, str) else plant.edits:
+            at = plant.build, name
+            if at not in texts:
+                texts[at] = (TOP / name).read_text() if (TOP / name).is_file() else ""
+            if (count := texts[at].count(old)) != 1:
+                wrong.append(f"tools/plants.py: {plant.name}: {name} has its old text {count} times: {old.strip().splitlines()[0]}")
+            texts[at] = texts[at].replace(old, new)
+    return wrong
+
+
+def said(*words: object, cwd: Path = TOP) -> str:
+    return subprocess.run([str(it) for it in words], cwd=cwd, check=True, capture_output=True, text=True).stdout
+
+
+def copy_of_tree(place: Path, program: Path) -> Path:
+    """A copy of the tree as it is now, without what is built in it, and with this program in the place of the proved one."""
+    said("git", "clone", "--quiet", "--shared", "--no-checkout", TOP, place)
+    for name in said("git", "ls-files", "-z", "--cached", "--others", "--exclude-standard").split("\0"):
+        if name and (TOP / name).is_file():
+            (place / name).parent.mkdir(parents=True, exist_ok=True)
+            shutil.copy2(TOP / name, place / name)
+    for name in ("linda/out/linda", "linda_gate/out/linda_gate"):
+        source = program if name == "linda/out/linda" else TOP / "crates" / name
+        if source.is_file():
+            (place / "crates" / name).parent.mkdir(parents=True, exist_ok=True)
+            shutil.copy(source, place / "crates" / name)
+    return place
+
+
+def change(place: Path, plant: Plant) -> None:
+    if isinstance(plant.edits, str):
+        preload(place, plant.edits)
+        return
+    for name, old, new in plant.edits:
+        text = (place / name).read_text()
+        if text.count(old) != 1:
+            raise ValueError(f"{plant.name}: {name} has {text.count(old)} times {old!r}")
+        (place / name).write_text(text.replace(old, new))
+
+
+def preload(place: Path, calls: str) -> None:
+    """The program is begun with these calls before those of the system."""
+    program, source, library = place / "crates/linda/out/linda", place / "plant.c", place / "plant.so"
+    for long, short in TWICE.items():
+        if f" {long}(" in calls:
+            calls += f'\n__typeof__({long}) {short} __attribute__((alias("{long}")));'
+    source.write_text(f"{HEAD}#include <fcntl.h>\n{calls}\n")
+    said("cc", "-shared", "-fPIC", "-O1", "-o", library, source, "-ldl")
+    program.rename(program.with_name("linda.real"))
+    program.write_text(f'#!/bin/sh\nLD_PRELOAD="{library}${{LD_PRELOAD:+:$LD_PRELOAD}}" exec "{program}.real" "$@"\n')
+    program.chmod(0o755)
+
+
+def built(name: str, plants: list[Plant], program: Path, folder: Path) -> Path:
+    """The program with all plants of this build; it is kept below `out` for the next run over the same sources."""
+    place = copy_of_tree(folder / f"build-{name}", program)
+    for plant in plants:
+        change(place, plant)
+    sources = [it for ending in ("rt", "antt") for it in sorted((place / "crates").rglob(f"*.{ending}"))]
+    sum_of_all = hashlib.sha256(b"".join(it.read_bytes() for it in sources)).hexdigest()[:16]
+    kept = TOP / f"crates/linda/out/plants/{name}-{sum_of_all}"
+    if not kept.is_file():
+        said(place / "tools/quick", kept)
+    shutil.rmtree(place)
+    return kept
+
+
+def seen(plant: Plant, program: Path, folder: Path) -> tuple[bool, str]:
+    """Whether the part sees it, and what it printed of it."""
+    place = copy_of_tree(folder / re.sub(r"\W+", "-", plant.name), program)
+    if not plant.build:
+        change(place, plant)
+    around = {**os.environ, "LINDA": str(place / "crates/linda/out/linda"), "PYTHONDONTWRITEBYTECODE": "1"}
+    words = shlex.split(plant.command)
+    try:
+        run = subprocess.run([place / words[0], *words[1:]], cwd=place, env=around, stdin=subprocess.DEVNULL, stdout=subprocess.PIPE,
+                             stderr=subprocess.STDOUT, text=True, errors="replace", timeout=900)
+    except subprocess.TimeoutExpired:
+        return False, "not at its end after 900 s"
+    finally:
+        shutil.rmtree(place, ignore_errors=True)
+    lines = run.stdout.splitlines()
+    found = [line for line in lines if re.search(plant.says, line)]
+    return run.returncode != 0 and bool(found), f"status {run.returncode}: {(found or lines or [''])[-1][:300]}"
+
+
+def play(program: Path, parts: list[str], is_long: bool, jobs: int) -> int:
+    """Plants each of these parts, or of all; without `is_long` only those for which no program is built. How many were not seen."""
+    chosen = [it for it in PLANTS if (is_long or not it.build) and (not parts or it.part in parts)]
+    missed = 0
+    with tempfile.TemporaryDirectory(prefix="plants-") as name, ThreadPoolExecutor(jobs) as lanes:
+        folder = Path(name)
+        names = dict.fromkeys(it.build for it in chosen if it.build)
+        programs = {it: lanes.submit(built, it, [one for one in PLANTS if one.build == it], program, folder) for it in names}
+
+        def one(plant: Plant) -> str:
+            began = time.monotonic()
+            is_seen, words = seen(plant, programs[plant.build].result() if plant.build else program, folder)
+            return f"{plant.part}: {'seen' if is_seen else 'NOT SEEN'} in {time.monotonic() - began:.0f} s: {plant.name}: {words}"
+
+        # (those of programs that are still to be built come last)
+        for line in lanes.map(one, sorted(chosen, key=lambda it: bool(it.build))):
+            missed += "NOT SEEN" in line
+            print(line, flush=True)
+    print(f"{len(chosen) - missed} plants seen, {missed} not")
+    return missed
