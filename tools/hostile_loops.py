@@ -4,7 +4,8 @@
     tools/hostile_loops.py [--program FILE] [--port FIRST] [NAME..]      plays these checks alone; --program takes another program than ./linda
 
 Each check is a function of a `Play`. It returns a line of figures, and raises a `Difference` if an aim is missed. An aim is a ratio of two figures of the same
-run, or a time that the pages promise: so it is the same on a slow machine.
+run, or a time that the pages promise: so it is the same on a slow machine. One that took too long is `Late` and is measured again, four times in all: it fails
+if each of them is late.
 """
 
 from __future__ import annotations
@@ -29,14 +30,18 @@ from served import PIECE, PROGRAM, Peer, frames
 MIB = 1 << 20
 # The longest tuple: 32 texts of 4,095 bytes.
 WIDE = ("y" * 4_095,) * 32
-# How many seconds a load goes on.
-SECONDS = 3.0
+# How many seconds a load goes on, and how often a wait above its bound is measured.
+SECONDS, TRIES = 3.0, 4
 # Stores are in memory, if the system has such a folder: then no figure is one of its disk.
 SHARED = "/dev/shm" if os.access("/dev/shm", os.W_OK) else None
 
 
 class Difference(Exception):
     """What is not as it must be."""
+
+
+class Late(Difference):
+    """A wait above its bound. The machine may have stalled, so it is measured again."""
 
 
 class Play:
@@ -209,9 +214,9 @@ def readers(play: Play, count: int) -> str:
         waited = [wait / 1e3 * rate / MIB for wait in times]
         said = (f"{count} that read {len(WIDE) * 4_095:,} bytes each: {came / 1e9 / SECONDS:.2f} GB a second; quiet alone {shown(alone)} ms, beside {shown(times)};"
                 f" meanwhile others got {shown(waited)} MiB")
-        # (two turns of some 1 MiB in the middle; the rest depends on whatever else the machine does)
-        if waited[0] > 5 or waited[1] > 40:
-            raise Difference(said)
+        # (two turns of some 1 MiB. What one in a hundred waits is printed and has no bound: it depends on what else the machine does)
+        if waited[0] > 5:
+            raise Late(said)
         return said
 
 
@@ -262,9 +267,11 @@ def putters_of_large_tuples(play: Play) -> str:
             thread.join()
         # (a put, an Offer and a Taken have its bytes)
         rate = sum(pairs) / (SECONDS + 0.5) * 3 * 131_040 / MIB
-        said = f"two that put and take large tuples: {sum(pairs)} pairs; quiet alone {shown(alone)} ms, beside {shown(times)}"
-        if times[1] / 1e3 * rate > 12:
-            raise Difference(said)
+        waited = times[0] / 1e3 * rate
+        said = (f"two that put and take large tuples: {sum(pairs)} pairs; quiet alone {shown(alone)} ms, beside {shown(times)};"
+                f" meanwhile others got {waited:.2f} MiB")
+        if waited > 5:
+            raise Late(said)
         return said
 
 
@@ -285,7 +292,7 @@ def long_looks(play: Play, count: int) -> str:
             took.append((time.perf_counter() - began) * 1e3)
         walk, look = max(took[:3]), min(took[40:])
         if look > walk / 5:
-            raise Difference(f"asks among {count:,} tuples take {walk:.2f} ms at first, and {look:.2f} after 40 such")
+            raise Late(f"asks among {count:,} tuples take {walk:.2f} ms at first, and {look:.2f} after 40 such")
         one = stack.enter_context(beside("quiet", server.port))
         time.sleep(1)
         alone = one.times()
@@ -311,7 +318,7 @@ def long_looks(play: Play, count: int) -> str:
         said = f"asks among {count:,} tuples, {walk:.2f} ms at first and {look:.2f} later, 59 at once: quiet alone {shown(alone)} ms, beside {shown(times)}"
         # (a turn ends after 5 ms and one look, and a request waits for two)
         if times[0] > 8 * look + 10:
-            raise Difference(said)
+            raise Late(said)
         return said
 
 
@@ -343,7 +350,7 @@ def leases_of_a_stopped_server(play: Play) -> str:
                 raise Difference("something came")
             found.append(time.monotonic() - began)
             if not 1 <= found[-1] <= stopped + 4:
-                raise Difference(f"ended {found[-1]:.2f} s after its offer, {stopped:.2f} of which the server was stopped, under a lease of one second")
+                raise (Difference if found[-1] < 1 else Late)(f"ended {found[-1]:.2f} s after its offer, {stopped:.2f} of which the server was stopped, under a lease of one second")
         # One that renews each 0.45 s is never ended.
         peer = server.peer(99)
         peer.ask(frames.out(1, "job", 99))
@@ -360,7 +367,7 @@ def leases_of_a_stopped_server(play: Play) -> str:
                 stops = time.monotonic() + 1.3
             time.sleep(0.45)
             if select.select([peer.stream], [], [], 0)[0]:
-                raise Difference("a client that said something each 0.45 s was ended")
+                raise Late("a client that said something each 0.45 s was ended")
     return f"ended after {min(found):.2f} to {max(found):.2f} s under a lease of one, the server stopped for 1.0 to 1.9 of them"
 
 
@@ -397,7 +404,7 @@ def ends_of_those_who_never_read(play: Play) -> str:
                 if not free and select.select([putter.stream], [], [], 0)[0] and putter.receive()[0] == "Offer":
                     free = time.monotonic() - began
                 if time.monotonic() - began > 15:
-                    raise Difference(f"{way}: 15 s later {server.files() - files} more files are open; what was held is {'free' if free else 'not free'}")
+                    raise Late(f"{way}: 15 s later {server.files() - files} more files are open; what was held is {'free' if free else 'not free'}")
                 time.sleep(0.05)
             said.append(f"{way} {free:.1f} and {time.monotonic() - began:.1f} s")
             stream.close()
@@ -424,7 +431,7 @@ def a_server_that_is_down(play: Play) -> str:
             try:
                 status = server.process.wait(timeout=4)
             except subprocess.TimeoutExpired:
-                raise Difference("a server that is down is there 4 s later") from None
+                raise Late("a server that is down is there 4 s later") from None
             took = time.monotonic() - began
             idle.close()
             peer.close()
@@ -453,7 +460,7 @@ def a_log_that_nobody_reads(play: Play) -> str:
                 assert process.stdout
                 began = time.monotonic()
                 if not select.select([process.stdout], [], [], 4)[0]:
-                    raise Difference("no line `ready` in 4 s")
+                    raise Late("no line `ready` in 4 s")
                 port = int(process.stdout.readline().split()[1])
                 ready = time.monotonic() - began
                 peer = Peer(port)
@@ -464,7 +471,7 @@ def a_log_that_nobody_reads(play: Play) -> str:
                 try:
                     status = process.wait(timeout=4)
                 except subprocess.TimeoutExpired:
-                    raise Difference("it did not end in 4 s") from None
+                    raise Late("it did not end in 4 s") from None
                 return f"ready after {ready:.2f} s, ended after {time.monotonic() - began:.2f} s with status {status}"
             finally:
                 process.kill()
@@ -520,7 +527,7 @@ def a_crowd_at_once(play: Play) -> str:
             stream.close()
         said = f"of {count} that came at once {late + len(left)} waited for a second or more"
         if late + len(left) > count // 10:
-            raise Difference(said)
+            raise Late(said)
         return said
 
 
@@ -559,7 +566,7 @@ def a_status_without_files(play: Play) -> str:
                 try:
                     answer = asker.recv(PIECE)
                 except TimeoutError:
-                    raise Difference(f"no answer in 3 s, {server.files()} files open") from None
+                    raise Late(f"no answer in 3 s, {server.files()} files open") from None
                 if not answer.startswith(b"HTTP/1.1 200"):
                     raise Difference(f"the answer is {answer[:40]!r}")
         for peer in peers:
@@ -592,11 +599,16 @@ def main() -> None:
     given = parser.parse_args()
     play, missed = Play(given.program, given.port), 0
     for name in given.names or CHECKS:
-        try:
-            print(f"{name}: {every[name](play)}", flush=True)
-        except (Difference, OSError) as fault:
-            missed += 1
-            print(f"{name}: MISSED: {fault}", flush=True)
+        for left in reversed(range(TRIES)):
+            try:
+                print(f"{name}: {every[name](play)}", flush=True)
+                break
+            except (Difference, OSError) as fault:
+                again = isinstance(fault, Late) and left > 0
+                print(f"{name}: {'late, measured again' if again else 'MISSED'}: {fault}", flush=True)
+                if not again:
+                    missed += 1
+                    break
     sys.exit(1 if missed else 0)
 
 
