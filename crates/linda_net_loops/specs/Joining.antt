@@ -1,22 +1,29 @@
 -- Messages of a connection that join the groups of their loop, and their answers.
-use Rattle.std.specs.Prelude.{◌≡◌, ◌⊎◌, ℕ, ◌∷◌, [], ◌++◌, Option, Some, None}
+use Rattle.std.specs.Prelude.{◌≡◌, ◌⊎◌, ℕ, nat_lt, Bool, ◌&&◌, if◌then◌else◌, ◌∷◌, [], ◌++◌}
+use Rattle.std.specs.Prelude.{length, Option, Some, None}
 use Rattle.linda_wire.specs.declared.message.Message.{Message}
 use Rattle.linda_net_session.specs.declared.phase.Way.TheVariants as ways
 use Rattle.linda_net_session.specs.declared.route.Route.{Route}
 use Rattle.linda_net_session.specs.declared.route.Route.TheVariants as routes
+use Rattle.linda_net_session.specs.Session.{Session}
+use Rattle.linda_net_session.specs.Between.{TakesOne}
 use Rattle.linda_shared_accounts.specs.Account.{Account}
+use Rattle.linda_shared_accounts.specs.declared.limits.TheConstants.{MOST_ASKED}
 use Rattle.linda_shared.specs.Group.{Group, group_of}
 
--- The message is after the others, as one of the account's client, and its answer comes back with
--- the key.
-abbrev pub HasJoined : Account → ℕ → Message → Group ℕ → Group ℕ → Type 0
-HasJoined a key m old new =
-    new ≡ group_of old.room (old.messages ++ (a.client, m) ∷ []) (old.addresses ++ key ∷ [])
+-- Whether a message of the account may join: fewer of it are on their way than may be, and the
+-- group has room.
+abbrev pub may_join : Account → Group ℕ → Bool
+may_join a group = nat_lt a.asked MOST_ASKED && nat_lt (length group.messages) group.room
 
--- It joined, or the group is as it was. Without an account nothing joins.
-abbrev pub MayJoin : Option Account → ℕ → Message → Group ℕ → Group ℕ → Type 0
-MayJoin (Some a) key m old new = HasJoined a key m old new ⊎ (new ≡ old)
-MayJoin None key m old new = new ≡ old
+-- The group once a message was given to it: if it may join it is after the others, as one of the
+-- account's client, and its answer comes back with the key. Without an account nothing joins.
+abbrev pub joined : Option Account → ℕ → Message → Group ℕ → Group ℕ
+joined (Some a) key m group =
+    if may_join a group
+    then group_of group.room (group.messages ++ (a.client, m) ∷ []) (group.addresses ++ key ∷ [])
+    else group
+joined None key m group = group
 
 -- The groups of a loop: messages of which no deed comes, and all others.
 pub record Groups : Type 0 where
@@ -26,12 +33,20 @@ pub record Groups : Type 0 where
 abbrev pub groups_of : Group ℕ → Group ℕ → Groups
 groups_of asking doing = record { asking = asking; doing = doing }
 
--- The message may have joined the group of its way, and no other.
-abbrev pub MayJoinByWay : Route → Option Account → ℕ → Message → Groups → Groups → Type 0
-MayJoinByWay routes.Greet a key m old new = new ≡ old
-MayJoinByWay routes.Busy a key m old new = new ≡ old
-MayJoinByWay (routes.Goes ways.Asks) a key m old new =
-    MayJoin a key m old.asking new.asking × (new.doing ≡ old.doing)
-MayJoinByWay (routes.Goes ways.Deeds) a key m old new =
-    MayJoin a key m old.doing new.doing × (new.asking ≡ old.asking)
-MayJoinByWay routes.Keep a key m old new = new ≡ old
+-- The groups once a message was given to them: it joins that of its way, and no other.
+abbrev pub joined_by_way : Route → Option Account → ℕ → Message → Groups → Groups
+joined_by_way routes.Greet a key m groups = groups
+joined_by_way routes.Busy a key m groups = groups
+joined_by_way (routes.Goes ways.Asks) a key m groups =
+    groups_of (joined a key m groups.asking) groups.doing
+joined_by_way (routes.Goes ways.Deeds) a key m groups =
+    groups_of groups.asking (joined a key m groups.doing)
+joined_by_way routes.Keep a key m groups = groups
+
+-- A message that the session took was given to the groups, with the way that the session says; or
+-- it took none, and they are as they were.
+abbrev pub TakesFrom : Option Account → ℕ → Session → Session → Groups → Groups → Type 0
+TakesFrom a key old new groups after =
+    ((m : Message) × ((route : Route) × (TakesOne old m route new
+    × (after ≡ joined_by_way route a key m groups))))
+    ⊎ ((new.taken ≡ old.taken) × (after ≡ groups))

@@ -1,6 +1,10 @@
 //! One connection of a loop: its socket, its session, and the account of its client.
 
-ghost use Rattle.std.specs.Prelude.{◌≡◌, true, None, IfSome};
+ghost use Rattle.std.specs.Prelude.{◌≡◌, true, Some, None, IfSome};
+ghost use Rattle.linda_net_session.specs.Session.{begun, broken, ended, heard, in_phase};
+ghost use Rattle.linda_net_session.specs.Turns.{Tells};
+ghost use Rattle.linda_net_session.specs.Between.{TakesNothing, Sends, Flushes};
+ghost use Rattle.linda_net_loops.specs.Connected.{Gives, IfGreeting};
 
 use linda_disk::Disk;
 use linda_net_http::Stream;
@@ -59,7 +63,9 @@ pub(crate) struct Connection<L: Ledger> {
 
 impl<L: Ledger> Connection<L> {
     /// A connection that sent nothing yet, or that was not looked at.
-    pub(crate) fn new(alloc: Global, stream: Stream) -> Connection<L> {
+    pub(crate) fn new(alloc: Global, stream: Stream) -> Connection<L>
+        ensures { (result.session ≡ begun) × (result.account ≡ None) }
+    {
         Connection {
             stream,
             session: Session::new(alloc),
@@ -152,7 +158,11 @@ impl<L: Ledger> Connection<L> {
     }
 
     /// Its next message, if there is room for it. It is read if less than one is there.
-    pub(crate) fn next(&mut self, buffer: &mut [u8], room: Room) -> Next {
+    pub(crate) fn next(&mut self, buffer: &mut [u8], room: Room) -> Next
+        // It is what the session took, and where that says that it goes.
+        ensures gives { Gives self.old.session result self.new.session }
+        ensures account { self.new.account ≡ self.old.account }
+    {
         for _ in 0..MOST_READS {
             if let Some((message, route)) = self.session.next(room) {
                 self.silence.end();
@@ -172,7 +182,10 @@ impl<L: Ledger> Connection<L> {
 
     // Reads what is there. A short read leaves nothing to read, unless the peer is known to send no
     // more: then its end is still to be read, of which no second event comes.
-    fn read(&mut self, buffer: &mut [u8]) {
+    fn read(&mut self, buffer: &mut [u8])
+        ensures nothing { TakesNothing self.old.session self.new.session }
+        ensures account { self.new.account ≡ self.old.account }
+    {
         match self.stream.read(buffer) {
             Ok(0) => {
                 self.may_read = false;
@@ -192,7 +205,12 @@ impl<L: Ledger> Connection<L> {
     }
 
     /// Its client is welcome, and has this account.
-    pub(crate) fn welcome(&mut self, marks: &Marks, account: Account<L>, last: u64) {
+    pub(crate) fn welcome(&mut self, marks: &Marks, account: Account<L>, last: u64)
+        ensures account { self.new.account ≡ Some account }
+        ensures told { IfGreeting self.old.session.phase self.old.session self.new.session
+            (Tells (Reply.Welcome last) (in_phase (Phase.Open 0 0) self.old.session)
+            self.new.session) }
+    {
         self.account = Some(account);
         self.count(marks, &Reply::Welcome { last });
         let before = self.session.unsent().len();
@@ -203,7 +221,12 @@ impl<L: Ledger> Connection<L> {
     }
 
     /// Its client is refused. It may greet again.
-    pub(crate) fn refuse(&mut self, marks: &Marks, code: u8, detail: u64) {
+    pub(crate) fn refuse(&mut self, marks: &Marks, code: u8, detail: u64)
+        ensures account { self.new.account ≡ self.old.account }
+        ensures told { IfGreeting self.old.session.phase self.old.session self.new.session
+            (Tells (Reply.Refused code detail) (in_phase Phase.Fresh self.old.session)
+            self.new.session) }
+    {
         self.count(marks, &Reply::Refused { code, detail });
         let before = self.session.unsent().len();
         if let Phase::Greeting = self.session.phase() {
@@ -213,26 +236,38 @@ impl<L: Ledger> Connection<L> {
     }
 
     /// Its client could not be greeted: it ends with this word, if there is one.
-    pub(crate) fn drop_greeting(&mut self, word: Option<Refusal>) {
+    pub(crate) fn drop_greeting(&mut self, word: Option<Refusal>)
+        ensures account { self.new.account ≡ self.old.account }
+        ensures ends { IfGreeting self.old.session.phase self.old.session self.new.session
+            (self.new.session ≡ ended word (in_phase Phase.Fresh self.old.session)) }
+    {
         if let Phase::Greeting = self.session.phase() {
             self.session.drop_greeting(word);
         }
     }
 
     /// Its second Hello was answered, which is counted.
-    pub(crate) fn tell_busy(&mut self, marks: &Marks) {
+    pub(crate) fn tell_busy(&mut self, marks: &Marks)
+        ensures { self.new.session ≡ self.old.session }
+    {
         let reply = Refusal::Busy.reply();
         self.count(marks, &reply);
     }
 
     /// A message that went this way came back.
-    pub(crate) fn answered(&mut self, way: Way) {
+    pub(crate) fn answered(&mut self, way: Way)
+        ensures account { self.new.account ≡ self.old.account }
+        ensures heard { self.new.session ≡ heard way self.old.session }
+    {
         self.session.answered(way);
     }
 
     /// It is sent this, after all that came before, which is counted. Returns how many bytes that
     /// has.
-    pub(crate) fn tell(&mut self, marks: &Marks, reply: &Reply) -> u64 {
+    pub(crate) fn tell(&mut self, marks: &Marks, reply: &Reply) -> u64
+        ensures account { self.new.account ≡ self.old.account }
+        ensures told { Tells reply.now self.old.session self.new.session }
+    {
         self.count(marks, reply);
         let before = self.session.unsent().len();
         self.session.tell(reply);
@@ -247,7 +282,10 @@ impl<L: Ledger> Connection<L> {
     }
 
     // How many bytes are to be written beside so many. The next reply is expected by that.
-    fn weigh(&mut self, before: usize) -> u64 {
+    fn weigh(&mut self, before: usize) -> u64
+        ensures account { self.new.account ≡ self.old.account }
+        ensures same { self.new.session ≡ self.old.session }
+    {
         let bytes = self.session.unsent().len().saturating_sub(before) as u64;
         if bytes > 0 {
             self.weight = weight_after(self.weight, bytes);
@@ -257,17 +295,26 @@ impl<L: Ledger> Connection<L> {
 
     /// Nothing more is taken from it. It ends once what is on its way came back, with this word, if
     /// there is one.
-    pub(crate) fn end_with(&mut self, word: Option<Refusal>) {
+    pub(crate) fn end_with(&mut self, word: Option<Refusal>)
+        ensures account { self.new.account ≡ self.old.account }
+        ensures ends { self.new.session ≡ ended word self.old.session }
+    {
         self.session.end(word);
     }
 
     /// It can be neither read nor written.
-    pub(crate) fn fail(&mut self) {
+    pub(crate) fn fail(&mut self)
+        ensures account { self.new.account ≡ self.old.account }
+        ensures broken { self.new.session ≡ broken self.old.session }
+    {
         self.session.fail();
     }
 
     /// Writes what it can take.
-    pub(crate) fn flush(&mut self, marks: &Marks) {
+    pub(crate) fn flush(&mut self, marks: &Marks)
+        // What goes out is what waited, in order.
+        ensures { Flushes self.old.session self.new.session }
+    {
         if !self.is_waiting() {
             if let End::Ending(Some(word)) = self.session.end_of() {
                 marks.sends(&word.reply());
@@ -283,7 +330,9 @@ impl<L: Ledger> Connection<L> {
     }
 
     // Writes some of what is to be written. Whether more can be written now.
-    fn write(&mut self) -> bool {
+    fn write(&mut self) -> bool
+        ensures { Sends self.old.session self.new.session }
+    {
         match self.stream.write(self.session.unsent()) {
             Ok(0) => self.fail(),
             Ok(len) => {

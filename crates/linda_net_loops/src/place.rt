@@ -3,10 +3,10 @@
 ghost use Rattle.std.specs.Prelude.{◌≡◌};
 ghost use Rattle.linda_shared_accounts.specs.declared.limits.TheConstants as accounts;
 ghost use Rattle.linda_net_session.specs.declared.phase.TheConstants as sessions;
-ghost use Rattle.linda_net_loops.specs.Joining.{MayJoin, MayJoinByWay, groups_of};
+ghost use Rattle.linda_net_loops.specs.Joining.{joined, joined_by_way, groups_of, TakesFrom};
 
 use crate::batch::{Batch, Call};
-use crate::connection::Connection;
+use crate::connection::{Connection, Next};
 use linda_net_marks::Marks;
 use linda_net_session::{Route, Way};
 use linda_shared::{Group, MOST_ASKED};
@@ -19,8 +19,48 @@ pub fn account_has_parts_for_all()
     ensures { sessions.MOST_ASKED ≡ accounts.MOST_ASKED }
 {}
 
-/// Puts a message of the connection of this key where its session says that it goes.
-pub(crate) fn put<L: Ledger>(
+/// What came of a look at a connection.
+#[derive(Clone, Copy)]
+pub(crate) enum Found {
+    /// A message was taken, and is where its session says that it goes.
+    Taken,
+    /// There is one that cannot go yet: it is given again.
+    Kept,
+    /// There is nothing for now.
+    None,
+    /// It was read often enough: others are looked at first.
+    Later,
+}
+
+/// Takes the next message of the connection of this key, if there is room for it, and puts it where
+/// its session says that it goes.
+pub(crate) fn take_next<L: Ledger>(
+    connection: &mut Connection<L>,
+    key: usize,
+    buffer: &mut [u8],
+    calls: &mut VecDeque<Call>,
+    batch: &mut Batch<L>,
+    marks: &Marks,
+) -> Found
+    // The message that the session took joins the group of its way, as it was given; or it took
+    // none, and the groups are as they were.
+    ensures { TakesFrom connection.old.account key connection.old.session connection.new.session
+        (groups_of batch.old.asking batch.old.doing)
+        (groups_of batch.new.asking batch.new.doing) }
+{
+    match connection.next(buffer, batch.room()) {
+        Next::Message(message, route) => {
+            put(connection, key, message, route, calls, batch, marks);
+            Found::Taken
+        }
+        Next::Kept => Found::Kept,
+        Next::None => Found::None,
+        Next::Later => Found::Later,
+    }
+}
+
+// Puts a message of the connection of this key where its session says that it goes.
+fn put<L: Ledger>(
     connection: &mut Connection<L>,
     key: usize,
     message: Message,
@@ -29,10 +69,12 @@ pub(crate) fn put<L: Ledger>(
     batch: &mut Batch<L>,
     marks: &Marks,
 )
-    // It joins the group of its way, as it was given, or none.
-    ensures { MayJoinByWay route connection.old.account key message
-        (groups_of batch.old.asking batch.old.doing)
-        (groups_of batch.new.asking batch.new.doing) }
+    // It joins the group of its way, as it was given, if its account has a part left for it and the
+    // group has room; else none.
+    ensures joins { groups_of batch.new.asking batch.new.doing
+        ≡ joined_by_way route connection.old.account key message
+        (groups_of batch.old.asking batch.old.doing) }
+    ensures taken { connection.new.session.taken ≡ connection.old.session.taken }
 {
     match route {
         Route::Greet => {
@@ -56,7 +98,8 @@ fn ask<L: Ledger>(
     group: &mut Group<usize, L>,
     way: Way,
 )
-    ensures { MayJoin connection.old.account key message group.old group.new }
+    ensures joins { group.new ≡ joined connection.old.account key message group.old }
+    ensures taken { connection.new.session.taken ≡ connection.old.session.taken }
 {
     if let Some(account) = &mut connection.account {
         if account.asked() < MOST_ASKED && group.has_room() {

@@ -1,13 +1,14 @@
 //! The connections of a loop, and the sessions of their clients.
 
-ghost use Rattle.std.specs.Prelude.{◌≡◌, ◌≢◌, ◌<◌, [], None, IfSome};
+ghost use Rattle.std.specs.Prelude.{◌≡◌, ◌≢◌, ◌<◌, [], None, IfSome, IsOk, OnOk, IfErr};
 ghost use Rattle.slab.specs.Slab.{get, slab_len};
 ghost use Rattle.linda_shared.specs.Group.{group_of};
 ghost use Rattle.linda_shared_queue.specs.Hearing.{IsAnswered};
+ghost use Rattle.linda_shared_queue.specs.Seat.{back, IsLeft, IsLost};
 
 use crate::batch::{Batch, Call};
-use crate::connection::{Connection, Next};
-use crate::place::put;
+use crate::connection::Connection;
+use crate::place::{Found, take_next};
 use linda_disk::Disk;
 use linda_net_http::Stream;
 use linda_net_marks::{Marks, word_of};
@@ -202,20 +203,18 @@ impl<L: Ledger> Sessions<L> {
         };
         let mut bytes: u64 = 0;
         for _ in 0..=MOST_ASKED {
-            let next = connection.next(&mut self.buffer, batch.room());
+            let found = take_next(
+                connection,
+                key,
+                &mut self.buffer,
+                &mut self.calls,
+                batch,
+                marks,
+            );
             let read = connection.take_read();
             batch.share.read(read);
-            match next {
-                Next::Message(message, route) => {
-                    put(
-                        connection,
-                        key,
-                        message,
-                        route,
-                        &mut self.calls,
-                        batch,
-                        marks,
-                    );
+            match found {
+                Found::Taken => {
                     let weight = connection.weight();
                     batch.share.plan(weight);
                     bytes = bytes.saturating_add(read).saturating_add(weight);
@@ -224,9 +223,9 @@ impl<L: Ledger> Sessions<L> {
                     }
                 }
                 // It is given again: soon, or once something came back.
-                Next::Kept => return !connection.is_waiting(),
-                Next::Later => return true,
-                Next::None => return false,
+                Found::Kept => return !connection.is_waiting(),
+                Found::Later => return true,
+                Found::None => return false,
             }
         }
         true
@@ -467,11 +466,17 @@ fn hear_own<L: Ledger>(
     message: &Message,
     answered: Answered<usize, L>,
 ) -> Result<(), SharedFault>
-    ensures other { account.old.client ≢ client → account.new ≡ account.old }
     ensures same { account.new.client ≡ account.old.client }
-    // What it hears, if something of it is on its way, is what `hear_answer` says.
+    // An answer to another client, or if nothing is on its way, is passed over.
+    ensures other { account.old.client ≢ client → (account.new ≡ account.old) × IsOk result }
+    ensures none { account.old.asked ≡ 0 → (account.new ≡ account.old) × IsOk result }
+    // Else what it hears and what is left of it is what `hear_answer` says.
     ensures own { account.old.client ≡ client → 0 < account.old.asked
         → IsAnswered account.old message.now answered.told result }
+    ensures ok { account.old.client ≡ client → 0 < account.old.asked
+        → OnOk result (IsLost message.now (back account.old) account.new) }
+    ensures err { account.old.client ≡ client → 0 < account.old.asked
+        → IfErr result (λ fault. IsLeft message.now (back account.old) fault account.new) }
 {
     if account.asked() == 0 || account.client() != client {
         return Ok(());

@@ -4,6 +4,7 @@ ghost use Rattle.std.specs.Prelude.{◌≡◌, take, IfOk, OnErr};
 ghost use Rattle.std.specs.Io.KnownBytes.{Appends, Keeps};
 ghost use Rattle.linda_net_session.specs.Session.{in_phase, wrote};
 ghost use Rattle.linda_net_session.specs.Turns.{Tells};
+ghost use Rattle.linda_net_threads.specs.Talk.{IsRun, Grows};
 
 use linda_net_marks::Marks;
 use linda_net_session::{End, MOST_ASKED, Phase, Room, Route, Session, Way};
@@ -95,28 +96,40 @@ impl<L: Ledger> Talk<L> {
 
     // This message and those that may go with it, in order. Without memory for one the session
     // ends.
-    fn run(&mut self, alloc: Global, first: Message) -> Vec<Message> {
+    fn run(&mut self, alloc: Global, first: Message) -> Vec<Message>
+        ensures { IsRun first self.old.session result.items self.new.session }
+    {
         let mut run = Vec::new(alloc);
-        let mut next = Some(first);
-        for _ in 0..MOST_ASKED {
-            let Some(message) = next else {
-                break;
-            };
-            if run.push(message).is_err() {
-                self.session.end(None);
+        if run.push(first).is_err() {
+            self.session.end(None);
+            return Vec::new(alloc);
+        }
+        for _ in 1..MOST_ASKED {
+            if !self.grow(&mut run) {
                 break;
             }
-            next = self.next_to_go();
         }
         run
     }
 
-    // One more message that goes with those that were taken.
-    fn next_to_go(&mut self) -> Option<Message> {
+    // Takes one more message that goes with those of the run. Returns whether it did.
+    fn grow(&mut self, run: &mut Vec<Message>) -> bool
+        ensures { Grows result run.old.items self.old.session run.new.items self.new.session }
+    {
         match self.session.next(ROOM) {
-            Some((message, Route::Goes(_))) => Some(message),
-            Some(_) => None,
-            None => None,
+            Some((message, Route::Goes(_))) => {
+                if run.push(message).is_ok() {
+                    return true;
+                }
+                self.session.end(None);
+                false
+            }
+            // (nobody is greeted while something is on its way)
+            Some(_) => {
+                self.session.fail();
+                false
+            }
+            None => false,
         }
     }
 

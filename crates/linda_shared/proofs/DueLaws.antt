@@ -1,6 +1,6 @@
 -- A deed that is reported of a message is one that it asks for.
 use Rattle.std.proofs.Common.{◌≡◌, ◌⊎◌, inl, inr, ℕ, ◌+◌, zero, suc, arith, List, [], ◌∷◌, ◌++◌, Option, Some, None, All, map, replicate, length, reverse, refl, sym, ap, subst, ◌∙◌}
-use Rattle.std.proofs.Common.{Result, Ok, Err, OnOk, IfErr}
+use Rattle.std.proofs.Common.{Result, Ok, Err, OnOk, IfErr, IsErrOf, Bool, true, not}
 use Rattle.std.proofs.lemmas.List.{reverse-reverse, reverse-append, replicate-append-replicate}
 use Rattle.std.proofs.lemmas.List.Elements.{All-nil, All-cons}
 use Rattle.linda_wire.specs.declared.message.Message.{Message}
@@ -19,11 +19,12 @@ use Rattle.linda_shared_accounts.specs.declared.receipt.Receipt.{Receipt}
 use Rattle.linda_shared_accounts.specs.declared.effect.Effect.{Effect}
 use Rattle.linda_shared_accounts.specs.declared.effect.Effect.TheVariants as effects
 use Rattle.linda_shared_accounts.specs.declared.fault.SharedFault.{SharedFault}
+use Rattle.linda_shared_accounts.specs.declared.fault.SharedFault.TheVariants as faults
 use Rattle.linda_shared_accounts.specs.Effect.{told_of}
 use Rattle.linda_shared_accounts.specs.Telling.{receipt_of, receipt_for, receipt_with, kept_of}
 use Rattle.linda_shared_held.specs.Posted.{GoTogether, GoesAlone, WentAlone, WereTaken, IsHandled, none, more}
 use Rattle.linda_shared_queue.specs.Seat.{IsToldOf}
-use Rattle.linda_shared.specs.Group.{IsEffectOf, AreTold}
+use Rattle.linda_shared.specs.Group.{IsEffectOf, IsWhyNone, AreTold}
 
 -- By position: nothing is reported, or a deed that the message asks for.
 abbrev pub AreOf : List (ℕ × Message) → List (Option Receipt) → Type 0
@@ -111,12 +112,18 @@ module _ {A : Type 0} (read : A → Effect Receipt) where
 
 -- What is reported of each message is of its own.
 pub own_of : {A D : Type 0} {g : Ghosts D} (read : A → Effect Receipt) (ps : List ((ℕ × Message) × A)) (ms : List (ℕ × Message))
-    → map (λ p. p.0) ps ≡ ms → AreTold D g ms (map (λ p. read p.1) ps) → All (IsOwn read) ps
-own_of read ps ms each (inl served) =
+    → (up : Bool) → map (λ p. p.0) ps ≡ ms → AreTold D g up ms (map (λ p. read p.1) ps) → All (IsOwn read) ps
+own_of read ps ms up each (inl served) =
     effects_of read ps served.receipts
     (subst (λ (l : List (ℕ × Message)). AreOf l served.receipts) (sym each) (taken_of served.before served.count ms served.receipts served.waited served.waits served.after served.taken))
     served.told_is
-own_of read ps ms each (inr failed) = failed_of read ps failed.0 (length ms) failed.1
+own_of read ps ms up each (inr failed) = failed_of read ps failed.0 (length ms) failed.1.1
+
+-- A fault is that memory ran out, or the server is down.
+why_of : (fault : SharedFault) (down : Bool) → (fault ≡ faults.Down) ⊎ (fault ≡ faults.Memory) → (fault ≡ faults.Down → down ≡ true)
+    → IsWhyNone (not down) fault
+why_of fault down (inl is) so = inr (is, ap not (so is))
+why_of fault down (inr is) so = inl is
 
 reverse_replicate : {X : Type 0} (n : ℕ) (x : X) → reverse (replicate n x) ≡ replicate n x
 reverse_replicate zero x = refl
@@ -129,8 +136,9 @@ reverse_replicate (suc n) x =
 pub told_of_group : {D : Type 0} {g : Ghosts D} (ms : List (ℕ × Message)) (many : ℕ) (before told : List (Effect Receipt)) (s new : Durable D g) (count : ℕ)
     (old_receipts receipts : List Receipt) (waited waits : ℕ → Option (List Reply)) (r : Result (Unit {0}) SharedFault)
     → many ≡ length ms → before ≡ [] → OnOk r (IsHandled s count ms old_receipts waited before receipts waits told new)
-    → IfErr r (λ fault. told ≡ before ++ replicate many (effects.Failed fault)) → AreTold D g ms (reverse told)
-told_of_group ms many before told s new count old_receipts receipts waited waits (Ok x) same nothing done failed =
+    → IfErr r (λ fault. told ≡ before ++ replicate many (effects.Failed fault)) → IfErr r (λ fault. (fault ≡ faults.Down) ⊎ (fault ≡ faults.Memory))
+    → (down : Bool) → (IsErrOf r faults.Down → down ≡ true) → AreTold D g (not down) ms (reverse told)
+told_of_group ms many before told s new count old_receipts receipts waited waits (Ok x) same nothing done failed faulty down so =
     inl (record {
       before = s;
       count = count;
@@ -141,9 +149,12 @@ told_of_group ms many before told s new count old_receipts receipts waited waits
       taken = done.taken;
       told_is = ap reverse (done.told_are ∙ ap (λ l. l ++ reverse (map told_of done.told)) nothing) ∙ reverse-reverse (map told_of done.told);
     })
-told_of_group ms many before told s new count old_receipts receipts waited waits (Err fault) same nothing done failed =
+told_of_group ms many before told s new count old_receipts receipts waited waits (Err fault) same nothing done failed faulty down so =
     inr (
       fault,
-      ap reverse (failed ∙ ap (λ l. l ++ replicate many (effects.Failed fault)) nothing)
-          ∙ (reverse_replicate many (effects.Failed fault) ∙ ap (λ k. replicate k (effects.Failed fault)) same),
+      (
+        why_of fault down faulty (λ is. so (ap Err is)),
+        ap reverse (failed ∙ ap (λ l. l ++ replicate many (effects.Failed fault)) nothing)
+            ∙ (reverse_replicate many (effects.Failed fault) ∙ ap (λ k. replicate k (effects.Failed fault)) same),
+      ),
     )

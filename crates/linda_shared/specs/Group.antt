@@ -1,5 +1,5 @@
 -- Groups of messages that are served together, and what came of them, as contracts see both.
-use Rattle.std.specs.Prelude.{◌≡◌, ◌⊎◌, ℕ, List, [], ◌∷◌, map, length, replicate, Option}
+use Rattle.std.specs.Prelude.{◌≡◌, ◌⊎◌, ℕ, Bool, false, List, [], ◌∷◌, map, length, replicate, Option}
 use Rattle.linda_wire.specs.declared.message.Message.{Message}
 use Rattle.linda_wire.specs.declared.reply.Reply.{Reply}
 use Rattle.linda_store_step.specs.Reported.{IsDeedOf}
@@ -8,6 +8,7 @@ use Rattle.linda_server.specs.declared.durable.Durable.{Durable}
 use Rattle.linda_shared_accounts.specs.declared.effect.Effect.{Effect}
 use Rattle.linda_shared_accounts.specs.declared.effect.Effect.TheVariants as effects
 use Rattle.linda_shared_accounts.specs.declared.fault.SharedFault.{SharedFault}
+use Rattle.linda_shared_accounts.specs.declared.fault.SharedFault.TheVariants as faults
 use Rattle.linda_shared_accounts.specs.declared.job.Answered.{Answered}
 use Rattle.linda_shared_accounts.specs.declared.receipt.Receipt.{Receipt}
 use Rattle.linda_shared_accounts.specs.Effect.{told_of}
@@ -49,6 +50,10 @@ IsEffectOf m (effects.Deed r) = IsDeedOf m.0 m.1 r.deed
 IsEffectOf m effects.NoDeed = Unit {0}
 IsEffectOf m (effects.Failed fault) = Unit {0}
 
+-- Why none of a group was served: memory ran out, or the server is down, and so is not up.
+abbrev pub IsWhyNone : Bool → SharedFault → Type 0
+IsWhyNone up fault = (fault ≡ faults.Memory) ⊎ ((fault ≡ faults.Down) × (up ≡ false))
+
 module _ (D : Type 0) (g : Ghosts D) where
   -- A server in some state took these messages, one after another, and this is reported of them.
   pub record WereServed (ms : List (ℕ × Message)) (told : List (Effect Receipt)) : Type 0 where
@@ -61,8 +66,10 @@ module _ (D : Type 0) (g : Ghosts D) where
     pub taken : WereTaken before count ms receipts waited waits after
     pub told_is : told ≡ map told_of receipts
 
-  -- They were served, or none was, and the fault is reported of each.
-  abbrev pub AreTold : List (ℕ × Message) → List (Effect Receipt) → Type 0
-  AreTold ms told =
+  -- By a server that is up afterwards, or not: they were served; or none was, and why is reported
+  -- of each.
+  abbrev pub AreTold : Bool → List (ℕ × Message) → List (Effect Receipt) → Type 0
+  AreTold up ms told =
       WereServed ms told
-      ⊎ ((fault : SharedFault) × (told ≡ replicate (length ms) (effects.Failed fault)))
+      ⊎ ((fault : SharedFault) × (IsWhyNone up fault
+      × (told ≡ replicate (length ms) (effects.Failed fault))))

@@ -1,7 +1,7 @@
 //! Group of messages that go to the server together.
 
 ghost use Rattle.std.specs.Prelude.{◌≡◌, ◌+◌, ◌<◌, ◌≤◌, ◌++◌, ◌∷◌, [], true, length, map, All};
-ghost use Rattle.std.specs.Prelude.{nat_lt, IfOk};
+ghost use Rattle.std.specs.Prelude.{nat_lt, not, IfOk};
 ghost use Rattle.linda_shared_accounts.specs.Account.{account_of};
 ghost use Rattle.linda_shared_accounts.specs.declared.limits.TheConstants.{MOST_ASKED};
 ghost use Rattle.linda_store_step.specs.declared.size.TheConstants.{MAX_GROUP};
@@ -113,7 +113,8 @@ impl<A: Drop, L: Ledger> Group<A, L> {
         ensures addresses { map (λ a. a.1.address) result.answers ≡ self.addresses }
         ensures room { result.room ≡ self.room }
         // what is reported is what the server says of these messages,
-        ensures told { AreTold D D.Disk self.messages (told_in result) }
+        ensures told { AreTold D D.Disk (not held.new.server.down) self.messages
+            (told_in result) }
         // and so a deed is one that its own message asks for.
         ensures own { All (λ a. IsEffectOf a.0 a.1.told) result.answers }
     {

@@ -63,6 +63,7 @@ impl<D: Disk, L: Ledger> Locked<D, L> {
             → (c : ℕ) → handed_out (waits_for self.new.held.boxes c) ≡ [] }
         ensures none { self.old.is_given_up ≡ true → posts.new ≡ posts.old }
         ensures same { self.new.is_given_up ≡ self.old.is_given_up }
+        ensures server { self.new.held.server ≡ self.old.held.server }
     {
         for _ in rt.forever() {
             let Some(sent) = self.next_posted(alloc) else {
@@ -79,6 +80,7 @@ impl<D: Disk, L: Ledger> Locked<D, L> {
             → handed_out (waits_for self.new.held.boxes c) ≡ []) }
         ensures none { self.old.is_given_up ≡ true → result ≡ None }
         ensures same { self.new.is_given_up ≡ self.old.is_given_up }
+        ensures server { self.new.held.server ≡ self.old.held.server }
     {
         if self.is_given_up {
             return None;

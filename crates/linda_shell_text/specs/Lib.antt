@@ -5,3 +5,4 @@ pub mod Steps
 pub mod Reading
 pub mod Written
 pub mod MessageWords
+pub mod OutcomeLines

@@ -64,8 +64,9 @@ impl<D: Disk, L: Ledger> Shared<D, L> {
         ensures each { map (λ a. a.0) result.0.answers ≡ group.messages }
         ensures addresses { map (λ a. a.1.address) result.0.answers ≡ group.addresses }
         ensures room { result.0.room ≡ group.room }
-        // what is reported is what a server in some state says of these messages,
-        ensures told { AreTold D D.Disk group.messages (told_in result.0) }
+        // what is reported is what a server in some state says of these messages, or why none was
+        // served: the server is down only if that is said,
+        ensures told { AreTold D D.Disk result.1 group.messages (told_in result.0) }
         // and so a deed is one that its own message asks for.
         ensures own { All (λ a. IsEffectOf a.0 a.1.told) result.0.answers }
     {

@@ -1,5 +1,5 @@
 -- The answers come the other way round than the messages went, and the messages are turned around too.
-use Rattle.std.proofs.Common.{rules, ◌≡◌, ◌+◌, ℕ, arith, List, [], ◌++◌, length, map, reverse, refl, sym, ap, subst, ◌∙◌, vec_len}
+use Rattle.std.proofs.Common.{rules, ◌≡◌, ◌+◌, ℕ, arith, List, [], ◌++◌, length, map, reverse, not, refl, sym, ap, subst, ◌∙◌, vec_len}
 use Rattle.std.proofs.lemmas.List.{reverse-reverse}
 use Rattle.linda_wire.specs.declared.message.Message.{Message}
 use Rattle.linda_shared_accounts.specs.declared.effect.Effect.{Effect}
@@ -45,11 +45,12 @@ returns-clause-told g c =
     let same : length new.items ≡ length own.messages.items = sym new.ok.0 ∙ (all ∙ own.messages.ok.0) in
     let read = served_read (λ a. a.told) own.messages.items c.reverse.new.self.items new.items c.reverse.ensures.items same in
     let ms = c.deref.ensures.value in
-    subst (λ (t : List (Effect Receipt)). AreTold g.row.D.Denot g.D.Disk c.args.self.messages t) (sym read)
-    (subst (λ (l : List (ℕ × Message)). AreTold g.row.D.Denot g.D.Disk l (reverse (map (λ a. a.told) new.items))) (ms ∙ ap (λ v. v.messages) c.self.view_is)
+    let down = c.handle_all.new.self.server.down in
+    subst (λ (t : List (Effect Receipt)). AreTold g.row.D.Denot g.D.Disk (not down) c.args.self.messages t) (sym read)
+    (subst (λ (l : List (ℕ × Message)). AreTold g.row.D.Denot g.D.Disk (not down) l (reverse (map (λ a. a.told) new.items))) (ms ∙ ap (λ v. v.messages) c.self.view_is)
     (told_of_group _ (vec_len own.asked) (map (λ a. a.told) own.answered.items) (map (λ a. a.told) new.items) _ _ _ _ _ _ _ c.handle_all.result
     (each ∙ (own.messages.ok.0 ∙ ap length (sym ms))) (ap (map (λ a. a.told)) c.self.invariant.1) c.handle_all.ensures.done
-    c.handle_all.ensures.failed))
+    c.handle_all.ensures.failed c.handle_all.ensures.fails.fault down c.handle_all.ensures.fails.down))
 
 pub returns-clause-own : goal.returns-clause-own
-returns-clause-own g c = own_of (λ a. a.told) _ c.args.self.messages (returns-clause-each g c) (returns-clause-told g c)
+returns-clause-own g c = own_of (λ a. a.told) _ c.args.self.messages (not c.handle_all.new.self.server.down) (returns-clause-each g c) (returns-clause-told g c)
