@@ -1,5 +1,4 @@
 -- What was written are the first bytes that waited.
-use Rattle.linda_net_session.specs.Session.{Session}
 use Rattle.linda_net_session.specs.Between.{Flushes}
 use Rattle.linda_net_loops.proofs.connection.Connection.flush.Given as goal
 
