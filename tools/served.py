@@ -9,6 +9,7 @@ import os
 import socket
 import subprocess
 import sys
+import time
 from pathlib import Path
 
 TOP = Path(__file__).resolve().parent.parent
@@ -20,6 +21,8 @@ PATIENCE = 60
 # The code of the refusal that a number below the client's next one gets.
 OLD = 4
 PIECE = 65_536
+# A client that waits for others says something each so many seconds: it cancels a ticket that it never uses.
+RENEWAL, NO_TICKET = 0.2, 1_000_000
 
 
 class Server:
@@ -133,10 +136,11 @@ class Peer:
 
 def listing(port: int, template: bytes, first_client: int, patience: float | None = PATIENCE) -> dict[int, tuple]:
     """All tuples that the template (as it stands in an Ask) matches and that nobody holds, with their ids: each is asked for under a ticket of its own
-    and offered, 64 to each client, from this number on; the connections are closed at the end, which gives all of them free again. A server that is
-    down, or that refuses for another reason, is a ConnectionError."""
+    and offered, 64 to each client, from this number on; the connections are closed at the end, which gives all of them free again. Meanwhile each says
+    something now and then, so that no lease ends it. A server that is down, or that refuses for another reason, is a ConnectionError."""
     found: dict[int, tuple] = {}
-    peers = []
+    peers: list[Peer] = []
+    renewed = time.monotonic()
     while True:
         peer = Peer(port, patience)
         peers.append(peer)
@@ -154,6 +158,10 @@ def listing(port: int, template: bytes, first_client: int, patience: float | Non
                 raise ValueError(f"offered as number {count + 1}: {frames.words_of(name, parts)}")
             count += 1
             found[parts["id"]] = parts["tuple"]
+            if time.monotonic() > renewed + RENEWAL:
+                for it in peers:
+                    it.send(frames.cancel(NO_TICKET))
+                renewed = time.monotonic()
         if count < 64:
             break
     for peer in peers:

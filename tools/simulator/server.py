@@ -315,6 +315,7 @@ class Simulated:
         with self.network.lock:
             wanted = self.model.bag()
         while True:
+            began = time.monotonic()
             try:
                 found = listing(port, frames.spell_items(JOB, job_words()[1:]), LOOKERS, SILENCE)
             except TimeoutError:
@@ -323,6 +324,9 @@ class Simulated:
                 # (it has ended, or says that it is down, as planned: then the stop is looked at)
                 if self.has_plan:
                     return
+                # (a machine that stalls may let the lease of one who asks run out)
+                if self.model.lease is not None and began + self.model.lease < time.monotonic() < until + SILENCE:
+                    continue
                 raise
             self.counts["tuples looked for"] += len(found)
             if found == wanted:
