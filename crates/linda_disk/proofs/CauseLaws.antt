@@ -1,5 +1,5 @@
 -- What a fault of a disk says of the count of failures, and what it says under another name.
-use Rattle.std.proofs.Common.{◌≡◌, ℕ, ◌↔◌, Err, refl, ◌∙◌, arith}
+use Rattle.std.proofs.Common.{◌≡◌, ℕ, ◌↔◌, Err, refl, subst, ◌∙◌, arith}
 use Rattle.linda_disk.specs.declared.fault.DiskFault.{DiskFault}
 use Rattle.linda_disk.specs.declared.fault.DiskFault.TheVariants.{Device, Memory}
 use Rattle.linda_disk.specs.Disk.{CountsFailure, TellsFailures}
@@ -23,3 +23,7 @@ renamed device told failed fault old new same tells = record {
   cause = λ is. tells.cause (same.0 is);
   others = λ not. tells.others (λ is. not (same.1 is));
 }
+
+-- What tells of a count goes on from one that stayed.
+pub tells_on : {F : Type 0} (device told : F) (old mid new : ℕ) → mid ≡ old → TellsFailures device told mid new → TellsFailures device told old new
+tells_on device told old mid new same tells = subst (λ n. TellsFailures device told n new) same tells

@@ -2,3 +2,4 @@ pub mod CauseLaws
 mod KnownLaws
 mod MemDiskLaws
 pub mod RunLaws
+pub mod RunsLaws

@@ -2,6 +2,7 @@ pub mod View
 pub mod Image
 pub mod Disk
 pub mod Run
+pub mod Runs
 pub mod History
 pub mod HistoryLaws
 pub mod Trouble

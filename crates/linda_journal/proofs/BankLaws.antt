@@ -71,14 +71,9 @@ module _ (form : Form) (generation : ℕ) (body : List ℕ) (records : List (Lis
   either_one file (inl closes) = old_one file closes
   either_one file (inr closes) = inr (more, are, with_all file closes)
 
-  -- While the records are written.
-  pub staging : (mid : View) → LeavesOnly old mid (ClosesAfter (whole form generation body records)) → LeavesOnly old mid (IsOldOrAll form generation body records ds)
-  staging mid run = weaker old mid (ClosesAfter (whole form generation body records)) (IsOldOrAll form generation body records ds) run old_one
-
-  -- And while the first gate is opened.
-  pub opening : (mid new : View) → LeavesOnly old mid (ClosesAfter (whole form generation body records)) → LeavesOnly mid new (IsClosedOrOpened (whole form generation body records) behind) → LeavesOnly old new (IsOldOrAll form generation body records ds)
-  opening mid new first second =
-      joined old mid new (ClosesAfter (whole form generation body records)) (IsClosedOrOpened (whole form generation body records) behind) (IsOldOrAll form generation body records ds) first second old_one either_one
+  -- While the records are put.
+  pub putting_all : (new : View) → LeavesOnly old new (IsClosedOrOpened (whole form generation body records) behind) → LeavesOnly old new (IsOldOrAll form generation body records ds)
+  putting_all new run = weaker old new (IsClosedOrOpened (whole form generation body records) behind) (IsOldOrAll form generation body records ds) run either_one
 
   -- When it is open.
   pub settled_with : (new : View) (new_end : ℕ) → new_end ≡ end + length (spell_records form more) → IsShut (whole form generation body records ++ OPEN ∷ behind) (end + 1 + length behind) new → IsSettledWithAll form generation body records ds new_end new

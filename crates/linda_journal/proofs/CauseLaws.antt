@@ -1,5 +1,5 @@
 -- What a fault says of the count of failures.
-use Rattle.std.proofs.Common.{◌≡◌, ◌≢◌, ℕ, ◌+◌, ◌<◌, ◌≤◌, ◌⊎◌, inl, inr, List, Result, Err, refl, subst, ◌∙◌, arith}
+use Rattle.std.proofs.Common.{◌≡◌, ◌≢◌, ℕ, ◌+◌, ◌<◌, ◌≤◌, ◌⊎◌, ◌↔◌, inl, inr, List, Result, Err, refl, subst, ◌∙◌, arith}
 use Rattle.linda_disk.specs.declared.fault.DiskFault.{DiskFault}
 use Rattle.linda_disk.specs.declared.fault.DiskFault.TheVariants.{Device, Memory}
 use Rattle.linda_disk.specs.Disk.{CountsFailure, TellsFailures}
@@ -61,3 +61,8 @@ bytes_fail_none bytes fault is same = subst (IsFaultOfBank bytes) same is
 -- What is within the limit is not past it.
 pub within_not_past : (limit long : ℕ) → long ≤ limit → limit < long → ⊥
 within_not_past limit long within past = omega (arith, within, past)
+
+-- A fault of a bank is the device's exactly if the disk's is.
+pub disk_failed : (fault : DiskFault) → (fault_of_disk fault ≡ banks.Disk) ↔ (fault ≡ Device)
+disk_failed Device = ((λ _. refl), (λ _. refl))
+disk_failed Memory = ((λ is. cc), (λ is. cc))

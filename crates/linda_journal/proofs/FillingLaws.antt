@@ -1,16 +1,13 @@
 -- A new bank that is written in steps: what it has, and what a crash may leave of it.
 use Rattle.std.proofs.Common.{◌≡◌, ℕ, ◌+◌, ◌≤◌, inl, inr, List, [], ◌∷◌, ◌++◌, length, take, drop, refl, ap, subst, ◌∙◌, append_assoc, length-append, arith}
-use Rattle.std.specs.Prelude.{Result}
 use Rattle.std.proofs.lemmas.List.{take_at}
 use Rattle.linda_tuple.specs.declared.form.Form.{Form}
 use Rattle.linda_store_state.specs.DeedFormat.{written}
 use Rattle.linda_store_state.specs.declared.deed.Deed.{Deed}
-use Rattle.linda_disk.specs.declared.fault.DiskFault.{DiskFault}
-use Rattle.linda_disk.specs.View.{View, IsDurable, IsTimed}
-use Rattle.linda_disk.specs.Image.{overlay}
-use Rattle.linda_disk.specs.Disk.{Writes}
+use Rattle.linda_disk.specs.View.{View, IsDurable}
+use Rattle.linda_disk.specs.Image.{overlay, TornWrite}
 use Rattle.linda_disk.specs.Run.{LeavesOnly}
-use Rattle.linda_disk.proofs.RunLaws.{wrote, weaker, joined}
+use Rattle.linda_disk.proofs.RunLaws.{weaker, joined}
 use Rattle.linda_journal.specs.declared.kinds.TheConstants.{OPEN, CLOSED}
 use Rattle.linda_journal.specs.declared.limits.TheConstants.{MIN_BYTES}
 use Rattle.linda_journal.specs.Records.{spell_records}
@@ -35,22 +32,19 @@ none_filled v closed durable =
     record { gate = closes.gate; rest = closes.rest; parts = closes.parts; closed = closes.closed; place = refl; durable = durable }
 
 -- At no moment of the write a crash leaves a bank.
-pub step_run : {T : Type 0} (front : List ℕ) (at : ℕ) (bytes : List ℕ) (result : Result T DiskFault) (old new : View) → IsTimed old → IsFilled front at old → Writes at bytes result old new → LeavesOnly old new IsNoBank
-step_run front at bytes result old new timed filled writes =
-    let closes = filled_closes front at old filled in
-    weaker old new (ClosesAfter []) IsNoBank
-    (wrote at bytes result old new (ClosesAfter []) writes timed filled.durable closes (λ image torn. torn_later at (length bytes) old.seen image (omega (arith, filled.place)) closes torn))
-    no_candidate
+pub step_run : (front : List ℕ) (at n : ℕ) (old new : View) → IsFilled front at old → LeavesOnly old new (TornWrite at n old.seen) → LeavesOnly old new IsNoBank
+step_run front at n old new filled run =
+    weaker old new (TornWrite at n old.seen) IsNoBank run (λ image torn. no_candidate image (torn_later at n old.seen image (omega (arith, filled.place)) (filled_closes front at old filled) torn))
 
--- What was written is behind what there was.
-pub step_filled : (front : List ℕ) (at : ℕ) (bytes : List ℕ) (old mid new : View) → IsFilled front at old → mid.seen ≡ overlay at bytes old.seen → new.seen ≡ mid.seen → IsDurable new → IsFilled (front ++ bytes) (at + length bytes) new
-step_filled front at bytes old mid new filled written same durable =
+-- What was written is after what there was.
+pub step_filled : (front : List ℕ) (at : ℕ) (bytes : List ℕ) (old new : View) → IsFilled front at old → new.seen ≡ overlay at bytes old.seen → IsDurable new → IsFilled (front ++ bytes) (at + length bytes) new
+step_filled front at bytes old new filled written durable =
     let before : take at old.seen ≡ filled.gate ∷ front =
     ap (take at) filled.parts ∙ ap (λ n. take n (filled.gate ∷ (front ++ filled.rest))) filled.place ∙ take_at (filled.gate ∷ front) filled.rest (1 + length front) (omega arith)
     in record {
       gate = filled.gate;
       rest = drop (at + length bytes) old.seen;
-      parts = same ∙ written ∙ ap (λ l. (l ++ bytes) ++ drop (at + length bytes) old.seen) before;
+      parts = written ∙ ap (λ l. (l ++ bytes) ++ drop (at + length bytes) old.seen) before;
       closed = filled.closed;
       place = omega (arith, filled.place, length-append front bytes);
       durable = durable;

@@ -1,13 +1,11 @@
 -- What one write behind a gate, and one of its byte, make of a file, and what a crash may make of them.
 use Rattle.std.proofs.Common.{◌≡◌, ◌≢◌, ℕ, zero, suc, ◌+◌, ◌≤◌, inl, inr, List, [], ◌∷◌, ◌++◌, length, take, drop, refl, sym, ap, subst, ◌∙◌, append_assoc, length-append, arith}
-use Rattle.std.specs.Prelude.{Result, max}
+use Rattle.std.specs.Prelude.{max}
 use Rattle.std.proofs.lemmas.List.{take_at, drop_at, take-append-drop, length-drop, drop-drop}
-use Rattle.linda_disk.specs.declared.fault.DiskFault.{DiskFault}
-use Rattle.linda_disk.specs.View.{View, IsDurable, IsTimed}
+use Rattle.linda_disk.specs.View.{View, IsDurable}
 use Rattle.linda_disk.specs.Image.{overlay, TornWrite}
-use Rattle.linda_disk.specs.Disk.{Writes, Syncs}
 use Rattle.linda_disk.specs.Run.{LeavesOnly}
-use Rattle.linda_disk.proofs.RunLaws.{wrote, goes_on_as_before, weaker, joined}
+use Rattle.linda_disk.proofs.RunLaws.{weaker, joined}
 use Rattle.linda_journal.specs.declared.kinds.TheConstants.{OPEN, CLOSED}
 use Rattle.linda_journal.specs.Gate.{ClosesAfter, IsShut, IsReady, IsClosedOrOpened, IsLaid}
 
@@ -95,37 +93,35 @@ torn_open front body rest value place image there torn = by (drop place image) r
 -- ---- runs
 
 -- The write behind a gate.
-pub write_behind : {T : Type 0} (front : List ℕ) (place : ℕ) (bytes : List ℕ) (result : Result T DiskFault) (old new : View) → IsShut front place old → IsTimed old → Writes (place + 1) bytes result old new → LeavesOnly old new (ClosesAfter front)
-write_behind front place bytes result old new shut timed writes =
-    wrote (place + 1) bytes result old new (ClosesAfter front) writes timed shut.durable shut.file (λ image torn. torn_behind front place (length bytes) old.seen image shut.place shut.file torn)
+pub write_behind : (front : List ℕ) (place n : ℕ) (old new : View) → IsShut front place old → LeavesOnly old new (TornWrite (place + 1) n old.seen) → LeavesOnly old new (ClosesAfter front)
+write_behind front place n old new shut run = weaker old new (TornWrite (place + 1) n old.seen) (ClosesAfter front) run (λ image torn. torn_behind front place n old.seen image shut.place shut.file torn)
 
 -- The write of a gate's byte.
-pub write_open : {T : Type 0} (front : List ℕ) (place : ℕ) (body : List ℕ) (result : Result T DiskFault) (old new : View) → IsReady front place body old → IsTimed old → Writes place (OPEN ∷ []) result old new → LeavesOnly old new (IsClosedOrOpened front body)
-write_open front place body result old new ready timed writes =
-    wrote place (OPEN ∷ []) result old new (IsClosedOrOpened front body) writes timed ready.durable
-    (inl record { gate = ready.value; rest = body ++ CLOSED ∷ ready.rest; parts = ready.parts; closed = ready.closed })
+pub write_open : (front body : List ℕ) (place : ℕ) (old new : View) → IsReady front place body old → LeavesOnly old new (TornWrite place 1 old.seen) → LeavesOnly old new (IsClosedOrOpened front body)
+write_open front body place old new ready run =
+    weaker old new (TornWrite place 1 old.seen) (IsClosedOrOpened front body) run
     (λ image torn. torn_open front body ready.rest ready.value place image ready.place (subst (λ l. TornWrite place 1 l image) ready.parts torn))
 
--- A sync after it.
-pub then_sync : {T : Type 0} (result : Result T DiskFault) (old mid new : View) (P : List ℕ → Type 0) → LeavesOnly old mid P → IsTimed mid → Syncs result mid new → LeavesOnly old new P
-then_sync result old mid new P run timed syncs = goes_on_as_before old mid new P run timed syncs.crash syncs.time
+-- The one and then the other.
+pub putting : (front body : List ℕ) (old mid new : View) → LeavesOnly old mid (ClosesAfter front) → LeavesOnly mid new (IsClosedOrOpened front body) → LeavesOnly old new (IsClosedOrOpened front body)
+putting front body old mid new first second = joined old mid new (ClosesAfter front) (IsClosedOrOpened front body) (IsClosedOrOpened front body) first second (λ image closes. inl closes) (λ image is. is)
 
 -- ---- what stands there at the end
 
-pub ready_now : (front body : List ℕ) (place : ℕ) (bytes : List ℕ) (old mid new : View) → IsShut front place old → bytes ≡ body ++ CLOSED ∷ [] → mid.seen ≡ overlay (place + 1) bytes old.seen → new.seen ≡ mid.seen → IsDurable new → IsReady front place body new
-ready_now front body place bytes old mid new shut is written same durable = record {
+pub ready_now : (front body : List ℕ) (place : ℕ) (bytes : List ℕ) (old new : View) → IsShut front place old → bytes ≡ body ++ CLOSED ∷ [] → new.seen ≡ overlay (place + 1) bytes old.seen → IsDurable new → IsReady front place body new
+ready_now front body place bytes old new shut is written durable = record {
   place = shut.place;
   value = shut.file.gate;
   rest = drop (place + 1 + length (body ++ CLOSED ∷ [])) (front ++ shut.file.gate ∷ shut.file.rest);
-  parts = same ∙ written ∙ ap (λ b. overlay (place + 1) b old.seen) is ∙ ap (overlay (place + 1) (body ++ CLOSED ∷ [])) shut.file.parts ∙ put_behind front body shut.file.gate shut.file.rest place shut.place;
+  parts = written ∙ ap (λ b. overlay (place + 1) b old.seen) is ∙ ap (overlay (place + 1) (body ++ CLOSED ∷ [])) shut.file.parts ∙ put_behind front body shut.file.gate shut.file.rest place shut.place;
   closed = shut.file.closed;
   durable = durable;
 }
 
-pub shut_now : (front body : List ℕ) (place : ℕ) (old mid new : View) → IsReady front place body old → mid.seen ≡ overlay place (OPEN ∷ []) old.seen → new.seen ≡ mid.seen → IsDurable new → IsShut (front ++ OPEN ∷ body) (place + 1 + length body) new
-shut_now front body place old mid new ready written same durable =
+pub shut_now : (front body : List ℕ) (place : ℕ) (old new : View) → IsReady front place body old → new.seen ≡ overlay place (OPEN ∷ []) old.seen → IsDurable new → IsShut (front ++ OPEN ∷ body) (place + 1 + length body) new
+shut_now front body place old new ready written durable =
     let there : new.seen ≡ front ++ OPEN ∷ (body ++ CLOSED ∷ ready.rest) =
-    same ∙ written ∙ ap (overlay place (OPEN ∷ [])) ready.parts ∙ put_open front ready.value (body ++ CLOSED ∷ ready.rest) place ready.place
+    written ∙ ap (overlay place (OPEN ∷ [])) ready.parts ∙ put_open front ready.value (body ++ CLOSED ∷ ready.rest) place ready.place
     in
     record {
       place = omega (arith, ready.place, length-append front (OPEN ∷ body));
@@ -135,18 +131,17 @@ shut_now front body place old mid new ready written same durable =
 
 -- ---- a gate on an empty disk
 
-pub laid_now : (old mid new : View) → mid.seen ≡ overlay 0 (CLOSED ∷ []) old.seen → new.seen ≡ mid.seen → IsDurable new → IsShut [] 0 new
-laid_now old mid new written same durable = record {
+pub laid_now : (old new : View) → new.seen ≡ overlay 0 (CLOSED ∷ []) old.seen → IsDurable new → IsShut [] 0 new
+laid_now old new written durable = record {
   place = refl;
-  file = record { gate = CLOSED; rest = drop 1 old.seen; parts = same ∙ written; closed = not_open };
+  file = record { gate = CLOSED; rest = drop 1 old.seen; parts = written; closed = not_open };
   durable = durable;
 }
 
-pub write_first : {T : Type 0} (result : Result T DiskFault) (old new : View) → IsDurable old → old.seen ≡ [] → IsTimed old → Writes 0 (CLOSED ∷ []) result old new → LeavesOnly old new (λ file. length file ≤ 1)
-write_first result old new durable empty timed writes =
+pub write_first : (old new : View) → old.seen ≡ [] → LeavesOnly old new (TornWrite 0 1 old.seen) → LeavesOnly old new (λ file. length file ≤ 1)
+write_first old new empty run =
     let none : length old.seen ≡ 0 = ap length empty in
-    wrote 0 (CLOSED ∷ []) result old new (λ file. length file ≤ 1) writes timed durable (omega (arith, none))
-    (λ image torn. short (length old.seen) (length image) none torn.no_longer)
+    weaker old new (TornWrite 0 1 old.seen) (λ file. length file ≤ 1) run (λ image torn. short (length old.seen) (length image) none torn.no_longer)
   where
     short : (n m : ℕ) → n ≡ 0 → m ≤ max n 1 → m ≤ 1
     short n m none le = omega (arith, none, le)
@@ -156,8 +151,5 @@ write_first result old new durable empty timed writes =
 pub laid_first : (body : List ℕ) (old mid : View) → LeavesOnly old mid (λ file. length file ≤ 1) → LeavesOnly old mid (IsLaid body)
 laid_first body old mid run = weaker old mid (λ file. length file ≤ 1) (IsLaid body) run (λ file is. inl is)
 
-pub laid_staged : (body : List ℕ) (old mid new : View) → LeavesOnly old mid (λ file. length file ≤ 1) → LeavesOnly mid new (ClosesAfter []) → LeavesOnly old new (IsLaid body)
-laid_staged body old mid new first second = joined old mid new (λ file. length file ≤ 1) (ClosesAfter []) (IsLaid body) first second (λ file is. inl is) (λ file is. inr (inl is))
-
-pub laid_opened : (body : List ℕ) (old mid new : View) → LeavesOnly old mid (IsLaid body) → LeavesOnly mid new (IsClosedOrOpened [] body) → LeavesOnly old new (IsLaid body)
-laid_opened body old mid new first second = joined old mid new (IsLaid body) (IsClosedOrOpened [] body) (IsLaid body) first second (λ file is. is) (λ file is. inr is)
+pub laid_put : (body : List ℕ) (old mid new : View) → LeavesOnly old mid (λ file. length file ≤ 1) → LeavesOnly mid new (IsClosedOrOpened [] body) → LeavesOnly old new (IsLaid body)
+laid_put body old mid new first second = joined old mid new (λ file. length file ≤ 1) (IsClosedOrOpened [] body) (IsLaid body) first second (λ file is. inl is) (λ file is. inr is)

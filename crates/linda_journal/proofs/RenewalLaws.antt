@@ -8,7 +8,7 @@ use Rattle.linda_disk.specs.View.{View, IsDurable, IsTimed}
 use Rattle.linda_disk.specs.Image.{overlay, TornWrite}
 use Rattle.linda_disk.specs.Disk.{Writes}
 use Rattle.linda_disk.specs.Run.{LeavesOnly}
-use Rattle.linda_disk.proofs.RunLaws.{started, wrote, goes_on_by, weaker, joined}
+use Rattle.linda_disk.proofs.RunLaws.{started, goes_on_by, weaker, joined}
 use Rattle.linda_journal.specs.declared.kinds.TheConstants.{OPEN, CLOSED}
 use Rattle.linda_journal.specs.declared.limits.TheConstants.{MIN_BYTES}
 use Rattle.linda_journal.specs.Gate.{ClosesAfter, IsShut, IsClosedOrOpened}
@@ -38,11 +38,10 @@ torn_first old image (inr opens) torn = by image torn.after
     by (suc zero ∷ more) after = inl (ap (λ l. OPEN ∷ l) (after ∙ ap (drop 1) opens.1) ∙ sym opens.1)
     by (suc (suc n) ∷ more) after = inr (no_open (suc (suc n)) more (λ e. absurd (omega (arith, e))))
 
-pub write_closed : {T : Type 0} (result : Result T DiskFault) (old mid new : View) → LeavesOnly old mid (λ image. image ≡ old.seen) → mid.seen ≡ old.seen → IsDurable mid → IsTimed mid → IsOpenOrShort old.seen → Writes 0 (CLOSED ∷ []) result mid new → LeavesOnly old new (IsSameOrNone old.seen)
-write_closed result old mid new before same durable timed opens writes =
-    joined old mid new (λ image. image ≡ old.seen) (IsSameOrNone old.seen) (IsSameOrNone old.seen) before
-    (wrote 0 (CLOSED ∷ []) result mid new (IsSameOrNone old.seen) writes timed durable (inl same) (λ image torn. torn_first old.seen image opens (subst (λ l. TornWrite 0 1 l image) same torn)))
-    (λ image is. inl is) (λ image is. is)
+pub write_closed : (old mid new : View) → LeavesOnly old mid (λ image. image ≡ old.seen) → mid.seen ≡ old.seen → IsOpenOrShort old.seen → LeavesOnly mid new (TornWrite 0 1 mid.seen) → LeavesOnly old new (IsSameOrNone old.seen)
+write_closed old mid new before same opens run =
+    joined old mid new (λ image. image ≡ old.seen) (TornWrite 0 1 mid.seen) (IsSameOrNone old.seen) before run
+    (λ image is. inl is) (λ image torn. torn_first old.seen image opens (subst (λ l. TornWrite 0 1 l image) same torn))
 
 -- ---- writing behind a closed gate
 

@@ -6,11 +6,13 @@ use Rattle.linda_tuple.specs.declared.form.Form.{Form}
 use Rattle.linda_store_state.specs.declared.deed.Deed.{Deed}
 use Rattle.linda_store_state.specs.DeedFormat.{written}
 use Rattle.linda_disk.specs.View.{View, IsDurable}
+use Rattle.linda_disk.specs.Run.{LeavesOnly}
+use Rattle.linda_disk.specs.Runs.{Law}
 use Rattle.linda_journal.specs.declared.kinds.TheConstants.{OPEN, CLOSED}
 use Rattle.linda_journal.specs.declared.limits.TheConstants.{MIN_BYTES, PIECE}
 use Rattle.linda_journal.specs.Gate.{IsReady}
 use Rattle.linda_journal.specs.Records.{IsRecord, spell_records}
-use Rattle.linda_journal.specs.Bank.{IsCandidate, IsBank, behind_gate}
+use Rattle.linda_journal.specs.Bank.{IsCandidate, IsBank, IsNoneOrNew, behind_gate}
 
 -- Bytes that are no bank.
 abbrev pub IsNoBank : List ℕ → Type 0
@@ -87,3 +89,35 @@ abbrev pub TakesCalls : ℕ → View → View → Type 0
 TakesCalls calls old new =
     (IsOpenOrShort old.seen × (new.moment ≡ old.moment + (2 + calls)))
     ⊎ ((MIN_BYTES ≤ length old.seen) × IsClosed old.seen × (new.moment ≡ old.moment + calls))
+
+-- ---- what runs of device calls leave
+
+-- What was there, or no bank.
+abbrev pub shuts : Law
+shuts old new = LeavesOnly old new (IsSameOrNone old.seen)
+
+-- No bank, if the bytes before this offset are those of a new one after a closed gate.
+abbrev pub fills : ℕ → Law
+fills at old new = (front : List ℕ) → IsFilled front at old → LeavesOnly old new IsNoBank
+
+-- No bank, or the whole new one, of this generation and with its end at this offset.
+abbrev pub unlocks : ℕ → ℕ → Law
+unlocks generation end old new = (body : List ℕ) (records : List (List Deed))
+    → IsWholeWith written generation body records end old
+    → LeavesOnly old new (IsNoneOrNewWith written generation body records)
+
+abbrev pub unlocks_empty : ℕ → ℕ → Law
+unlocks_empty generation end old new = (body : List ℕ)
+    → IsWhole written generation body end old
+    → LeavesOnly old new (IsNoneOrNew written generation body)
+
+-- No bank, or the new one that these last bytes make whole.
+abbrev pub finishes : ℕ → ℕ → List ℕ → Law
+finishes generation at bytes old new = (front body : List ℕ) (records : List (List Deed))
+    → IsFilled front at old → IsLast generation body records front bytes
+    → LeavesOnly old new (IsNoneOrNewWith written generation body records)
+
+-- On an empty disk no bank, or the new one with this body.
+abbrev pub creates : ℕ → List ℕ → Law
+creates generation body old new = IsDurable old → old.seen ≡ []
+    → LeavesOnly old new (IsNoneOrNew written generation body)

@@ -6,16 +6,16 @@ ghost use Rattle.std.specs.Prelude.{◌≡◌, ◌<◌, ◌≤◌, ◌+◌, ◌*
 ghost use Rattle.std.specs.Prelude.{IfOk, IfErr, true, false};
 ghost use Rattle.linda_store_state.specs.DeedFormat.{written};
 ghost use Rattle.linda_disk.specs.View.{IsDurable};
-ghost use Rattle.linda_disk.specs.Disk.{TellsFailures};
-ghost use Rattle.linda_disk.specs.Run.{LeavesOnly};
+ghost use Rattle.linda_disk.specs.Runs.{RunsTo, takes};
 ghost use Rattle.linda_journal.specs.declared.limits.TheConstants.{MAX_DEEDS, MAX_RECORDS};
 ghost use Rattle.linda_journal.specs.declared.limits.TheConstants.{MIN_BYTES};
-ghost use Rattle.linda_journal.specs.Bank.{IsSettled, IsNoneOrNew};
-ghost use Rattle.linda_journal.specs.Renewal.{IsWhole, IsWholeWith, IsNoneOrNewWith};
+ghost use Rattle.linda_journal.specs.Bank.{IsSettled};
+ghost use Rattle.linda_journal.specs.Renewal.{IsWhole, IsWholeWith, creates, unlocks};
+ghost use Rattle.linda_journal.specs.Renewal.{unlocks_empty};
 ghost use Rattle.linda_store_state.specs.declared.deed.Deed.{Deed};
 
 use crate::fault::BankFault;
-use crate::gate::{open_gate, stage};
+use crate::gate::{open_gate, put};
 use crate::limits::MIN_BYTES;
 use crate::making::{inscribe, spell_front};
 use crate::opening::load;
@@ -121,26 +121,15 @@ impl<D: Disk> Bank<D> {
         ensures new { IfOk result (λ b. (b.form ≡ written) × (b.generation ≡ generation)
             × (b.limit ≡ limit)
             × (b.records ≡ 0) × (b.is_spent ≡ false)) }
-        // At no moment a crash leaves another bank than the whole one.
-        ensures any_moment { D.honest disk → IsDurable (D.view disk) → (D.view disk).seen ≡ []
-            → IfOk result (λ b. LeavesOnly (D.view disk) (D.view b.disk)
-            (IsNoneOrNew written generation body.now))
-            × IfErr result (λ e. LeavesOnly (D.view disk) (D.view e.1)
-            (IsNoneOrNew written generation body.now)) }
         // It is Full exactly where the bank is longer than its limit, and then the disk is as it
         // was.
         ensures room { IfOk result (λ b. b.end < limit) }
         ensures full { IfErr result (λ e.
             (e.0 ≡ BankFault.Full ↔ limit < MIN_BYTES + 1 + length body.now)
             × (e.0 ≡ BankFault.Full → e.1 ≡ disk)) }
-        ensures honest { IfOk result (λ b. D.honest disk ↔ D.honest b.disk)
-            × IfErr result (λ e. D.honest disk ↔ D.honest e.1) }
-        // The count of failures rises where the device is reported to have failed, and there alone.
-        ensures cause { IfErr result (λ e. TellsFailures BankFault.Disk e.0
-            (D.failures disk) (D.failures e.1)) }
-        ensures steady { IfOk result (λ b. D.failures b.disk ≡ D.failures disk) }
-        ensures clock { D.honest disk
-            → IfOk result (λ b. (D.view b.disk).moment ≡ (D.view disk).moment + 6) }
+        // At no moment a crash leaves another bank than the whole one.
+        ensures runs { RunsTo D.Disk (λ b. b.disk) (creates generation body.now) (takes 6)
+            BankFault.Disk disk result }
     {
         if limit < MIN_BYTES + 1 + body.len() {
             return Err((BankFault::Full, disk));
@@ -255,8 +244,7 @@ impl<D: Disk> Bank<D> {
         }
         let bytes = spell_all(alloc, self.form, deeds, len)?;
         self.is_spent = true;
-        stage(&mut self.disk, self.end, behind_gate(&bytes))?;
-        open_gate(&mut self.disk, self.end)?;
+        put(&mut self.disk, self.end, behind_gate(&bytes))?;
         self.end += len;
         self.records += records_for(deeds.len());
         self.is_spent = false;
@@ -298,21 +286,9 @@ pub fn unlock<D: Disk>(whole: Whole<D>, limit: usize) -> Result<Bank<D>, (DiskFa
     ensures new { IfOk result (λ b. (b.form ≡ written) × (b.generation ≡ whole.generation)
         × (b.limit ≡ limit)
         × (b.end ≡ whole.end) × (b.records ≡ 0) × (b.is_spent ≡ false)) }
-    // At no moment a crash leaves another bank than the whole new one.
-    ensures any_moment { (body : List ℕ) → D.honest whole.disk
-        → IsWhole written whole.generation body whole.end (D.view whole.disk)
-        → IfOk result (λ b. LeavesOnly (D.view whole.disk) (D.view b.disk)
-        (IsNoneOrNew written whole.generation body))
-        × IfErr result (λ e. LeavesOnly (D.view whole.disk) (D.view e.1)
-        (IsNoneOrNew written whole.generation body)) }
-    ensures honest { IfOk result (λ b. D.honest whole.disk ↔ D.honest b.disk)
-        × IfErr result (λ e. D.honest whole.disk ↔ D.honest e.1) }
-    ensures cause { IfErr result (λ e. TellsFailures DiskFault.Device e.0
-        (D.failures whole.disk) (D.failures e.1)) }
-    ensures steady { IfOk result (λ b. D.failures b.disk ≡ D.failures whole.disk) }
-    // It is a write and a sync.
-    ensures clock { D.honest whole.disk
-        → IfOk result (λ b. (D.view b.disk).moment ≡ (D.view whole.disk).moment + 2) }
+    // At no moment a crash leaves another bank than the whole new one. It is a write and a sync.
+    ensures runs { RunsTo D.Disk (λ b. b.disk) (unlocks_empty whole.generation whole.end) (takes 2)
+        DiskFault.Device whole.disk result }
 {
     let Whole {
         mut disk,
@@ -354,21 +330,9 @@ pub(crate) fn unlock_with<D: Disk>(
     ensures new { IfOk result (λ b. (b.form ≡ written) × (b.generation ≡ generation)
         × (b.limit ≡ limit)
         × (b.end ≡ end) × (b.records ≡ records) × (b.is_spent ≡ false)) }
-    // At no moment a crash leaves another bank than the whole new one.
-    ensures any_moment { (body : List ℕ) (rs : List (List Deed)) → D.honest disk
-        → IsWholeWith written generation body rs end (D.view disk)
-        → IfOk result (λ b. LeavesOnly (D.view disk) (D.view b.disk)
-        (IsNoneOrNewWith written generation body rs))
-        × IfErr result (λ e. LeavesOnly (D.view disk) (D.view e.1)
-        (IsNoneOrNewWith written generation body rs)) }
-    ensures honest { IfOk result (λ b. D.honest disk ↔ D.honest b.disk)
-        × IfErr result (λ e. D.honest disk ↔ D.honest e.1) }
-    ensures cause { IfErr result (λ e. TellsFailures DiskFault.Device e.0
-        (D.failures disk) (D.failures e.1)) }
-    ensures steady { IfOk result (λ b. D.failures b.disk ≡ D.failures disk) }
-    // It is a write and a sync.
-    ensures clock { D.honest disk
-        → IfOk result (λ b. (D.view b.disk).moment ≡ (D.view disk).moment + 2) }
+    // At no moment a crash leaves another bank than the whole new one. It is a write and a sync.
+    ensures runs { RunsTo D.Disk (λ b. b.disk) (unlocks generation end) (takes 2)
+        DiskFault.Device disk result }
 {
     let mut disk = disk;
     match open_gate(&mut disk, 0) {

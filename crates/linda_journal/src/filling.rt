@@ -1,19 +1,18 @@
 //! A new bank that is written in steps, after a first gate that is closed. Each step ends synced,
 //! and whatever a crash leaves in between is no bank. Once all is there, the gate is opened.
 
-ghost use Rattle.std.specs.Prelude.{◌≡◌, ◌∷◌, [], ◌++◌, ◌<◌, ◌≤◌, ◌+◌, ◌^◌, ◌↔◌, ℕ, List, length};
-ghost use Rattle.std.specs.Prelude.{◌-◌, min, false, IfOk, IfErr, OnOk};
+ghost use Rattle.std.specs.Prelude.{◌≡◌, ◌∷◌, [], ◌++◌, ◌<◌, ◌≤◌, ◌+◌, ◌-◌, ℕ, List, length, min};
+ghost use Rattle.std.specs.Prelude.{false, IfOk, OnOk};
 ghost use Rattle.linda_store_state.specs.declared.deed.Deed.{Deed};
 ghost use Rattle.linda_store_state.specs.DeedFormat.{written};
-ghost use Rattle.linda_disk.specs.Disk.{CountsFailure, TellsFailures};
-ghost use Rattle.linda_disk.specs.Run.{LeavesOnly};
+ghost use Rattle.linda_disk.specs.Runs.{Runs, RunsTo, takes};
 ghost use Rattle.linda_journal.specs.Bank.{IsSettled};
-ghost use Rattle.linda_journal.specs.Renewal.{IsNoBank, IsFilled, IsLast, IsWholeWith};
-ghost use Rattle.linda_journal.specs.Renewal.{IsNoneOrNewWith};
+ghost use Rattle.linda_journal.specs.Renewal.{IsFilled, IsLast, IsWholeWith};
+ghost use Rattle.linda_journal.specs.Renewal.{fills, unlocks, finishes};
 
 use crate::bank::{Bank, unlock_with};
 use crate::closed::Closed;
-use linda_disk::{Disk, DiskFault};
+use linda_disk::{Disk, DiskFault, write_synced};
 
 /// A disk that is not in use, on which a new bank is written in steps behind a first gate that is
 /// closed.
@@ -74,17 +73,8 @@ impl<D: Disk> Filling<D> {
             → IfOk result (λ f. IsFilled (front ++ bytes.now) f.at (D.view f.disk)) }
         ensures place { IfOk result (λ f. f.at ≡ self.at + length bytes.now) }
         // At no moment a crash leaves a bank.
-        ensures any_moment { (front : List ℕ) → D.honest self.disk
-            → IsFilled front self.at (D.view self.disk)
-            → IfOk result (λ f. LeavesOnly (D.view self.disk) (D.view f.disk) IsNoBank)
-            × IfErr result (λ e. LeavesOnly (D.view self.disk) (D.view e.1) IsNoBank) }
-        ensures honest { IfOk result (λ f. D.honest self.disk ↔ D.honest f.disk)
-            × IfErr result (λ e. D.honest self.disk ↔ D.honest e.1) }
-        ensures cause { IfErr result (λ e. TellsFailures DiskFault.Device e.0
-            (D.failures self.disk) (D.failures e.1)) }
-        ensures steady { IfOk result (λ f. D.failures f.disk ≡ D.failures self.disk) }
-        ensures clock { D.honest self.disk
-            → IfOk result (λ f. (D.view f.disk).moment ≡ (D.view self.disk).moment + 2) }
+        ensures runs { RunsTo D.Disk (λ f. f.disk) (fills self.at) (takes 2) DiskFault.Device
+            self.disk result }
     {
         let Filling { mut disk, at, .. } = self;
         let Some(next) = at.checked_add(bytes.len()) else {
@@ -115,19 +105,8 @@ impl<D: Disk> Filling<D> {
             × (b.limit ≡ limit) × (b.end ≡ self.at - 1) × (b.is_spent ≡ false)) }
         ensures records { IfOk result (λ b. b.records ≡ min records (self.at - 1)) }
         // At no moment a crash leaves another bank than the whole new one.
-        ensures any_moment { (body : List ℕ) (rs : List (List Deed)) → D.honest self.disk
-            → IsWholeWith written generation body rs (self.at - 1) (D.view self.disk)
-            → IfOk result (λ b. LeavesOnly (D.view self.disk) (D.view b.disk)
-            (IsNoneOrNewWith written generation body rs))
-            × IfErr result (λ e. LeavesOnly (D.view self.disk) (D.view e.1)
-            (IsNoneOrNewWith written generation body rs)) }
-        ensures honest { IfOk result (λ b. D.honest self.disk ↔ D.honest b.disk)
-            × IfErr result (λ e. D.honest self.disk ↔ D.honest e.1) }
-        ensures cause { IfErr result (λ e. TellsFailures DiskFault.Device e.0
-            (D.failures self.disk) (D.failures e.1)) }
-        ensures steady { IfOk result (λ b. D.failures b.disk ≡ D.failures self.disk) }
-        ensures clock { D.honest self.disk
-            → IfOk result (λ b. (D.view b.disk).moment ≡ (D.view self.disk).moment + 2) }
+        ensures runs { RunsTo D.Disk (λ b. b.disk) (unlocks generation (self.at - 1)) (takes 2)
+            DiskFault.Device self.disk result }
     {
         let Filling { disk, at, .. } = self;
         let end = at - 1;
@@ -159,20 +138,8 @@ impl<D: Disk> Filling<D> {
         ensures place { IfOk result (λ b. b.end + 1 ≡ self.at + length bytes.now) }
         ensures records { IfOk result (λ b. b.records ≡ min records b.end) }
         // At no moment a crash leaves another bank than the whole new one.
-        ensures any_moment { (front body : List ℕ) (rs : List (List Deed)) → D.honest self.disk
-            → IsFilled front self.at (D.view self.disk)
-            → IsLast generation body rs front bytes.now
-            → IfOk result (λ b. LeavesOnly (D.view self.disk) (D.view b.disk)
-            (IsNoneOrNewWith written generation body rs))
-            × IfErr result (λ e. LeavesOnly (D.view self.disk) (D.view e.1)
-            (IsNoneOrNewWith written generation body rs)) }
-        ensures honest { IfOk result (λ b. D.honest self.disk ↔ D.honest b.disk)
-            × IfErr result (λ e. D.honest self.disk ↔ D.honest e.1) }
-        ensures cause { IfErr result (λ e. TellsFailures DiskFault.Device e.0
-            (D.failures self.disk) (D.failures e.1)) }
-        ensures steady { IfOk result (λ b. D.failures b.disk ≡ D.failures self.disk) }
-        ensures clock { D.honest self.disk
-            → IfOk result (λ b. (D.view b.disk).moment ≡ (D.view self.disk).moment + 4) }
+        ensures runs { RunsTo D.Disk (λ b. b.disk) (finishes generation self.at bytes.now)
+            (takes 4) DiskFault.Device self.disk result }
     {
         match self.add(bytes) {
             Err((fault, disk)) => Err((fault, disk)),
@@ -189,16 +156,9 @@ fn fill_more<D: Disk>(disk: &mut D, at: usize, bytes: &[u8]) -> Result<(), DiskF
     requires within { D.honest disk.old → at ≤ length (D.view disk.old).seen }
     ensures filled { (front : List ℕ) → D.honest disk.old → IsFilled front at (D.view disk.old)
         → OnOk result (IsFilled (front ++ bytes.now) (at + length bytes.now) (D.view disk.new)) }
-    ensures any_moment { (front : List ℕ) → D.honest disk.old → IsFilled front at (D.view disk.old)
-        → LeavesOnly (D.view disk.old) (D.view disk.new) IsNoBank }
     ensures long { D.honest disk.old
         → OnOk result (at + length bytes.now ≤ length (D.view disk.new).seen) }
-    ensures honest { D.honest disk.old ↔ D.honest disk.new }
-    ensures cause { CountsFailure result (D.failures disk.old) (D.failures disk.new) }
-    ensures clock { D.honest disk.old
-        → OnOk result ((D.view disk.new).moment ≡ (D.view disk.old).moment + 2) }
+    ensures runs { Runs D.Disk (fills at) (takes 2) DiskFault.Device disk.old result disk.new }
 {
-    disk.write_at(at, bytes)?;
-    disk.sync()?;
-    Ok(())
+    write_synced(disk, at, bytes)
 }

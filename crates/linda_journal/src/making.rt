@@ -1,18 +1,16 @@
 //! A new bank on an empty disk.
 
-ghost use Rattle.std.specs.Prelude.{◌≡◌, ◌<◌, ◌≤◌, ◌+◌, ◌^◌, ◌++◌, ◌∷◌, [], ◌↔◌, ℕ, List, length};
-ghost use Rattle.std.specs.Prelude.{IfOk, IfErr, OnOk, IsErrOf};
+ghost use Rattle.std.specs.Prelude.{◌≡◌, ◌<◌, ◌≤◌, ◌+◌, ◌^◌, ◌++◌, ◌∷◌, [], ℕ, List, length};
+ghost use Rattle.std.specs.Prelude.{IfOk, OnOk, IsErrOf};
 ghost use Rattle.linda_codec.specs.Formats.{number, short_number};
 ghost use Rattle.linda_store_state.specs.DeedFormat.{written};
-ghost use Rattle.linda_disk.specs.View.{IsDurable};
-ghost use Rattle.linda_disk.specs.Disk.{TellsFailures};
-ghost use Rattle.linda_disk.specs.Run.{LeavesOnly};
+ghost use Rattle.linda_disk.specs.Runs.{Runs, takes};
 ghost use Rattle.linda_journal.specs.declared.kinds.TheConstants.{OPEN, CLOSED};
-ghost use Rattle.linda_journal.specs.Gate.{IsShut, IsLaid};
+ghost use Rattle.linda_journal.specs.Gate.{IsShut, inscribes};
 ghost use Rattle.linda_journal.specs.Bank.{magic, behind_gate};
 
 use crate::fault::BankFault;
-use crate::gate::{lay_gate, open_gate, stage};
+use crate::gate::{lay_gate, put};
 use crate::kinds::CLOSED;
 use crate::limits::MIN_BYTES;
 use crate::record::as_length;
@@ -85,21 +83,13 @@ fn letters(form: Form) -> [u8; 4]
 pub(crate) fn inscribe<D: Disk>(disk: &mut D, bytes: &[u8]) -> Result<(), BankFault>
     ensures done { (body : List ℕ) → bytes.now ≡ body ++ CLOSED ∷ [] → D.honest disk.old
         → OnOk result (IsShut (OPEN ∷ body) (1 + length body) (D.view disk.new)) }
-    ensures any_moment { (body : List ℕ) → bytes.now ≡ body ++ CLOSED ∷ [] → D.honest disk.old
-        → IsDurable (D.view disk.old) → (D.view disk.old).seen ≡ []
-        → LeavesOnly (D.view disk.old) (D.view disk.new) (IsLaid body) }
     ensures long { D.honest disk.old
         → OnOk result (length bytes.now < length (D.view disk.new).seen) }
     ensures known { IsErrOf result BankFault.Full → ⊥ }
-    ensures honest { D.honest disk.old ↔ D.honest disk.new }
-    ensures cause { IfErr result (λ fault. TellsFailures BankFault.Disk fault
-        (D.failures disk.old) (D.failures disk.new)) }
-    ensures clock { D.honest disk.old
-        → OnOk result ((D.view disk.new).moment ≡ (D.view disk.old).moment + 6) }
-    ensures steady { OnOk result (D.failures disk.new ≡ D.failures disk.old) }
+    ensures runs { Runs D.Disk (inscribes bytes.now) (takes 6) BankFault.Disk disk.old result
+        disk.new }
 {
     lay_gate(disk)?;
-    stage(disk, 0, bytes)?;
-    open_gate(disk, 0)?;
+    put(disk, 0, bytes)?;
     Ok(())
 }

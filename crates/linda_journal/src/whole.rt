@@ -1,12 +1,11 @@
 //! A new bank after a first gate that is still closed: it is written whole before that gate opens.
 
-ghost use Rattle.std.specs.Prelude.{◌≡◌, ◌∷◌, [], ◌++◌, ◌<◌, ◌≤◌, ◌+◌, ◌^◌, ◌↔◌, ℕ, List, length};
-ghost use Rattle.std.specs.Prelude.{IfOk, IfErr, OnOk};
+ghost use Rattle.std.specs.Prelude.{◌≡◌, ◌∷◌, [], ◌++◌, ◌<◌, ◌≤◌, ◌+◌, ◌^◌, ℕ, List, length};
+ghost use Rattle.std.specs.Prelude.{IfOk, OnOk};
 ghost use Rattle.linda_store_state.specs.DeedFormat.{written};
 ghost use Rattle.linda_disk.specs.View.{IsDurable};
 ghost use Rattle.linda_disk.specs.Image.{overlay};
-ghost use Rattle.linda_disk.specs.Disk.{CountsFailure, TellsFailures};
-ghost use Rattle.linda_disk.specs.Run.{LeavesOnly};
+ghost use Rattle.linda_disk.specs.Runs.{Runs, RunsTo, leaves, takes};
 ghost use Rattle.linda_journal.specs.declared.kinds.TheConstants.{CLOSED};
 ghost use Rattle.linda_journal.specs.Gate.{ClosesAfter, IsReady};
 ghost use Rattle.linda_journal.specs.Bank.{behind_gate};
@@ -41,18 +40,9 @@ pub fn fill<D: Disk>(
         → bytes.now ≡ behind_gate written generation body ++ CLOSED ∷ [] → D.honest closed.disk
         → IfOk result (λ w. IsWhole written generation body w.end (D.view w.disk)) }
     ensures new { IfOk result (λ w. (w.generation ≡ generation) × (w.end ≡ length bytes.now)) }
-    // At no moment a crash leaves a bank.
-    ensures any_moment { D.honest closed.disk
-        → IfOk result (λ w. LeavesOnly (D.view closed.disk) (D.view w.disk) IsNoBank)
-        × IfErr result (λ e. LeavesOnly (D.view closed.disk) (D.view e.1) IsNoBank) }
-    ensures honest { IfOk result (λ w. D.honest closed.disk ↔ D.honest w.disk)
-        × IfErr result (λ e. D.honest closed.disk ↔ D.honest e.1) }
-    ensures cause { IfErr result (λ e. TellsFailures DiskFault.Device e.0
-        (D.failures closed.disk) (D.failures e.1)) }
-    ensures steady { IfOk result (λ w. D.failures w.disk ≡ D.failures closed.disk) }
-    // It is one write for each piece, and a sync.
-    ensures clock { D.honest closed.disk → IfOk result (λ w.
-        (D.view w.disk).moment ≡ (D.view closed.disk).moment + (pieces (length bytes.now) + 1)) }
+    // At no moment a crash leaves a bank. It is one write for each piece, and a sync.
+    ensures runs { RunsTo D.Disk (λ w. w.disk) (leaves IsNoBank)
+        (takes (pieces (length bytes.now) + 1)) DiskFault.Device closed.disk result }
 {
     let mut disk = closed.into_disk();
     match write_behind(&mut disk, bytes) {
@@ -71,15 +61,10 @@ fn write_behind<D: Disk>(disk: &mut D, bytes: &[u8]) -> Result<(), DiskFault>
     requires durable { D.honest disk.old → IsDurable (D.view disk.old) }
     ensures ready { (body : List ℕ) → bytes.now ≡ body ++ CLOSED ∷ [] → D.honest disk.old
         → OnOk result (IsReady [] 0 body (D.view disk.new)) }
-    ensures any_moment { D.honest disk.old
-        → LeavesOnly (D.view disk.old) (D.view disk.new) IsNoBank }
     ensures long { D.honest disk.old
         → OnOk result (length bytes.now < length (D.view disk.new).seen) }
-    ensures honest { D.honest disk.old ↔ D.honest disk.new }
-    ensures cause { CountsFailure result (D.failures disk.old) (D.failures disk.new) }
-    ensures clock { D.honest disk.old
-        → OnOk result ((D.view disk.new).moment
-        ≡ (D.view disk.old).moment + (pieces (length bytes.now) + 1)) }
+    ensures runs { Runs D.Disk (leaves IsNoBank) (takes (pieces (length bytes.now) + 1))
+        DiskFault.Device disk.old result disk.new }
 {
     write_pieces(disk, bytes)?;
     disk.sync()?;
@@ -93,13 +78,8 @@ fn write_pieces<D: Disk>(disk: &mut D, bytes: &[u8]) -> Result<(), DiskFault>
     requires durable { D.honest disk.old → IsDurable (D.view disk.old) }
     ensures seen { D.honest disk.old
         → OnOk result ((D.view disk.new).seen ≡ overlay 1 bytes.now (D.view disk.old).seen) }
-    ensures any_moment { D.honest disk.old
-        → LeavesOnly (D.view disk.old) (D.view disk.new) (ClosesAfter []) }
-    ensures honest { D.honest disk.old ↔ D.honest disk.new }
-    ensures cause { CountsFailure result (D.failures disk.old) (D.failures disk.new) }
-    ensures clock { D.honest disk.old
-        → OnOk result ((D.view disk.new).moment
-        ≡ (D.view disk.old).moment + pieces (length bytes.now)) }
+    ensures runs { Runs D.Disk (leaves (ClosesAfter [])) (takes (pieces (length bytes.now)))
+        DiskFault.Device disk.old result disk.new }
 {
     let mut at = 1;
     let mut rest = bytes;

@@ -10,16 +10,17 @@ use Rattle.linda_wire.specs.declared.message.Message.{Message}
 use Rattle.linda_store_state.specs.declared.deed.Deed.{Deed}
 use Rattle.linda_store_state.specs.State.{State, IsState}
 use Rattle.linda_store_state.specs.Proper.{AreDone}
-use Rattle.linda_store_state.specs.DeedFormat.{spell_deed, payload, SuitsForm, IsUnspelled}
+use Rattle.linda_store_state.specs.DeedFormat.{payload, SuitsForm, IsUnspelled}
 use Rattle.linda_store_state.proofs.ProperLaws.{none_done}
 use Rattle.linda_store_step.specs.Soft.{Soft}
 use Rattle.linda_store_step.specs.Answer.{Answer}
 use Rattle.linda_store_step.specs.Store.{Store, IsOrderly}
+use Rattle.linda_store_step.specs.declared.size.Need.{Need}
+use Rattle.linda_store_step.specs.Size.{IsNeedOf}
 use Rattle.linda_store_step.specs.History.{Coming, comings, history_of, nothing_yet}
 use Rattle.linda_store.specs.Node.{Node, MayRemain}
 use Rattle.linda_store_step.proofs.HistoryLaws.{happened}
 use Rattle.linda_disk.specs.View.{View, IsTimed}
-use Rattle.linda_store_state.proofs.DeedFormatLaws.{deed_some}
 use Rattle.linda_snap.specs.Stands.{Stands}
 use Rattle.linda_disk.specs.declared.disk.Disk.{Ghosts}
 use Rattle.linda_journal.specs.declared.bank.Bank.{Bank}
@@ -89,53 +90,37 @@ few st soft ms told new then most le served =
     let same = ap length served.tells.deeds in
     omega (arith, le, count, deeds, same)
 
-pub some_bytes : (form : Form) (ds : List Deed) → 0 < length ds → 0 < length (payload form ds)
-some_bytes form [] lt = absurd (omega (arith, lt))
-some_bytes form (d ∷ ds) lt =
-    let first = deed_some form d in
-    let all = length-append (spell_deed form d) (payload form ds) in
-    omega (arith, first, all)
+-- What a need in a form says of deeds: they have records that keep within the limit,
+module _ (given form : Form) (same : given ≡ form) (end limit : ℕ) (need : Option Need) (ds : List Deed) (is : IsNeedOf given ds need) where
+  abbrev Fits : Option Need → Type 0
+  Fits o = IfSome o (λ (n : Need). 0 < n.deeds → end + room_for n.deeds n.bytes ≤ limit)
 
--- What a size in a form says of deeds: how many bytes their record has, or that it has none.
-module _ (given form : Form) (same : given ≡ form) (end limit most : ℕ) (size : Option ℕ) (ds : List Deed) where
-  -- They have a record that keeps within the limit,
-  pub room_of : IfSome size (λ s. s ≡ length (payload given ds)) → IfSome size (λ b. 0 < b → end + room_for most b ≤ limit) → is_some size ≡ true
-      → 0 < length (payload form ds) → end + room_for most (length (payload form ds)) ≤ limit
-  room_of = subst (λ f. IfSome size (λ s. s ≡ length (payload given ds)) → IfSome size (λ b. 0 < b → end + room_for most b ≤ limit) → is_some size ≡ true
-      → 0 < length (payload f ds) → end + room_for most (length (payload f ds)) ≤ limit) same (by size)
+  pub room_of : Fits need → is_some need ≡ true → 0 < length ds → end + room_for (length ds) (length (payload form ds)) ≤ limit
+  room_of = subst (λ f. Fits need → is_some need ≡ true → 0 < length ds → end + room_for (length ds) (length (payload f ds)) ≤ limit) same (by need is)
     where
-      by : (o : Option ℕ) → IfSome o (λ s. s ≡ length (payload given ds)) → IfSome o (λ b. 0 < b → end + room_for most b ≤ limit) → is_some o ≡ true
-          → 0 < length (payload given ds) → end + room_for most (length (payload given ds)) ≤ limit
-      by None bytes room there some = absurd (true≢false (sym there))
-      by (Some b) bytes room there some = let fits = room (omega (arith, bytes, some)) in omega (arith, fits, bytes)
+      by : (o : Option Need) → IsNeedOf given ds o → Fits o → is_some o ≡ true → 0 < length ds → end + room_for (length ds) (length (payload given ds)) ≤ limit
+      by None is room there some = absurd (true≢false (sym there))
+      by (Some n) is room there some = subst (λ k. end + room_for k (length (payload given ds)) ≤ limit) is.0 (subst (λ b. end + room_for n.deeds b ≤ limit) is.1 (room (subst (λ k. 0 < k) (sym is.0) some)))
 
   -- and each has a spelling;
-  pub suit_of : IfSome size (λ s. All (SuitsForm given) ds) → is_some size ≡ true → All (SuitsForm form) ds
-  suit_of = subst (λ f. IfSome size (λ s. All (SuitsForm given) ds) → is_some size ≡ true → All (SuitsForm f) ds) same (by size)
+  pub suit_of : is_some need ≡ true → All (SuitsForm form) ds
+  suit_of = subst (λ f. is_some need ≡ true → All (SuitsForm f) ds) same (by need is)
     where
-      by : (o : Option ℕ) → IfSome o (λ s. All (SuitsForm given) ds) → is_some o ≡ true → All (SuitsForm given) ds
-      by None suit there = absurd (true≢false (sym there))
-      by (Some b) suit there = suit
+      by : (o : Option Need) → IsNeedOf given ds o → is_some o ≡ true → All (SuitsForm given) ds
+      by None is there = absurd (true≢false (sym there))
+      by (Some n) is there = is.2
 
   -- or they are too much.
-  pub too_much : IfSome size (λ s. s ≡ length (payload given ds)) → IfNone size (IsUnspelled given ds)
-      → IfSome size (λ b. (0 < b) × (limit < end + room_for most b)) → IsTooMuch form end limit most ds
-  too_much = subst (λ f. IfSome size (λ s. s ≡ length (payload given ds)) → IfNone size (IsUnspelled given ds)
-      → IfSome size (λ b. (0 < b) × (limit < end + room_for most b)) → IsTooMuch f end limit most ds) same (by size)
+  pub too_much : IfSome need (λ (n : Need). (0 < n.deeds) × (limit < end + room_for n.deeds n.bytes)) → IsTooMuch form end limit ds
+  too_much = subst (λ f. IfSome need (λ (n : Need). (0 < n.deeds) × (limit < end + room_for n.deeds n.bytes)) → IsTooMuch f end limit ds) same (by need is)
     where
-      by : (o : Option ℕ) → IfSome o (λ s. s ≡ length (payload given ds)) → IfNone o (IsUnspelled given ds)
-          → IfSome o (λ b. (0 < b) × (limit < end + room_for most b)) → IsTooMuch given end limit most ds
-      by None bytes none past = inl none
-      by (Some b) bytes none past = inr (let some = past.0 in omega (arith, some, bytes), let over = past.1 in omega (arith, over, bytes))
+      by : (o : Option Need) → IsNeedOf given ds o → IfSome o (λ (n : Need). (0 < n.deeds) × (limit < end + room_for n.deeds n.bytes)) → IsTooMuch given end limit ds
+      by None is past = inl is
+      by (Some n) is past = inr (subst (λ k. 0 < k) is.0 past.0, subst (λ k. limit < end + room_for k (length (payload given ds))) is.0 (subst (λ b. limit < end + room_for n.deeds b) is.1 past.1))
 
-  pub not_too_much : IfSome size (λ s. s ≡ length (payload given ds)) → IfSome size (λ s. All (SuitsForm given) ds)
-      → IfSome size (λ b. 0 < b → end + room_for most b ≤ limit) → is_some size ≡ true → IsTooMuch form end limit most ds → ⊥
-  not_too_much bytes suit room there (inl unspelled) = unspelled (suit_of suit there)
-  not_too_much bytes suit room there (inr past) = let some = past.0 in let over = past.1 in let fits = room_of bytes room there some in omega (arith, fits, over)
-
--- Fewer deeds take no more room.
-pub room_less : (count most bytes : ℕ) → count ≤ most → room_for count bytes ≤ room_for most bytes
-room_less count most bytes le = omega (arith, le)
+  pub not_too_much : Fits need → is_some need ≡ true → IsTooMuch form end limit ds → ⊥
+  not_too_much room there (inl unspelled) = unspelled (suit_of there)
+  not_too_much room there (inr past) = let over = past.1 in let fits = room_of room there past.0 in absurd (omega (arith, over, fits))
 
 pub handled : (old new : Store) (ms : List (ℕ × Message)) (told : Served) → IsServed old.state old.soft ms told new.state new.soft → HasHandled old (comings ms) told.sends.items new
 handled old new ms told served = record {

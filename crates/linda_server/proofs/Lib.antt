@@ -7,6 +7,7 @@ mod ReopeningLaws
 mod SwitchLaws
 mod NextLaws
 mod SteppingLaws
+mod RewritesLaws
 mod SameLaws
 pub mod NodeLaws
 pub mod FallenLaws

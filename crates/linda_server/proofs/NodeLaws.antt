@@ -72,16 +72,16 @@ module _ (before after : State) (old new : Store) (was_down is_down : Bool) (los
   }
 
   -- An answer to what came.
-  module _ (form : Form) (end limit most : ℕ) (xs : List Coming) (r : Result (Vec (ℕ × Reply)) NodeFault)
+  module _ (form : Form) (end limit : ℕ) (xs : List Coming) (r : Result (Vec (ℕ × Reply)) NodeFault)
       (done : IfOk r (λ sends. HasHandled old xs sends.items new))
       (up : OnOk r ((was_down ≡ false) × (is_down ≡ false)))
       (full : IsErrOf r faults.Full → New ≡ Old)
-      (room : IsErrOf r faults.Full → (all : History) → Happens old.state old.soft xs all → IsTooMuch form end limit most all.deeds)
+      (room : IsErrOf r faults.Full → (all : History) → Happens old.state old.soft xs all → IsTooMuch form end limit all.deeds)
       (down : IsErrOf r faults.Down → is_down ≡ true)
       (stays : was_down ≡ true → IsErrOf r faults.Down × (New ≡ Old))
       (before_is : was_down ≡ false → is_down ≡ true → after ≡ old.state)
       (remains : was_down ≡ false → is_down ≡ true → MayRemain Old xs still_lost) where
-    some_deeds : (ds : List Deed) → IsTooMuch form end limit most ds → ds ≢ []
+    some_deeds : (ds : List Deed) → IsTooMuch form end limit ds → ds ≢ []
     some_deeds [] (inl unspelled) none = unspelled (All-nil (SuitsForm form))
     some_deeds [] (inr some) none = absurd (omega (arith, some.0))
     some_deeds (d ∷ ds) much none = absurd (nothing_there d ds none)

@@ -2,7 +2,6 @@
 -- known of it then.
 use Rattle.std.proofs.Common.{◌≡◌, ℕ, ◌+◌, ◌<◌, ◌≤◌, inr, List, length, sym, subst, arith}
 use Rattle.std.proofs.Math.Logic.{∥∥₁_map, ∥∥₁_elim}
-use Rattle.std.proofs.Props.{props}
 use Rattle.std.proofs.lemmas.Grind.{not_there}
 use Rattle.std.specs.Coded.{Coded-set, coded_ℕ}
 use Rattle.linda_tuple.specs.declared.form.Form.{Form}
@@ -13,36 +12,45 @@ use Rattle.linda_disk.specs.declared.disk.Disk.{Ghosts}
 use Rattle.linda_disk.proofs.RunLaws.{weaker}
 use Rattle.linda_journal.specs.declared.bank.Bank.{Bank}
 use Rattle.linda_journal.specs.declared.filling.Filling.{Filling}
-use Rattle.linda_journal.specs.Renewal.{IsNoBank, IsSameOrNone, IsFilled}
+use Rattle.linda_journal.specs.Renewal.{IsNoBank, IsSameOrNone, IsFilled, fills}
 use Rattle.linda_journal.proofs.FillingLaws.{step_within}
 use Rattle.linda_snap.specs.Stands.{Stands, IsUp, StandsBeside}
 use Rattle.linda_snap.specs.declared.successor.Successor.{Successor}
 use Rattle.linda_snap.specs.Successor.{Follows, Completes}
+use Rattle.linda_snap.specs.Switch.{takes_over}
 use Rattle.linda_snap.proofs.SuccessorLaws.{counts}
 use Rattle.linda_server.specs.declared.disks.Disks.{Disks}
 use Rattle.linda_server.specs.declared.disks.Disks.TheVariants.{InUse, Shut, Away}
+use Rattle.linda_server.specs.declared.disks.Pair.{Pair}
+use Rattle.linda_server.specs.Disks.{sides}
 use Rattle.linda_server.specs.declared.next.NextBank.{NextBank}
 use Rattle.linda_server.specs.Next.{IsBegunOn, IsFilledOn, IsWithin}
 use Rattle.linda_server.specs.Pairs.{PairsSince}
-use Rattle.linda_server.specs.Calls.{StandsFor}
-use Rattle.linda_server.specs.Server.{both_of, generation_in_use, limit_in_use, BothHonest, IsUpFor, IsKeptFor}
-use Rattle.linda_server.proofs.CallLaws.{at_most, from_some, up_for}
-use Rattle.linda_server.proofs.SwitchLaws.{emptied_beside}
+use Rattle.linda_server.specs.Server.{both_of, generation_in_use, limit_in_use, BothHonest, IsUpFor}
+use Rattle.linda_server.proofs.CallLaws.{at_most}
+use Rattle.linda_server.proofs.SwitchLaws.{changed, emptied_beside}
 
 -- A disk without a bank stands beside the bank in use.
 pub filled_beside : (form : Form) (generation end : ℕ) (used other new : View) (st : State) → IsUp form generation end used other st → LeavesOnly other new IsNoBank → LeavesOnly other new (StandsBeside used.seen st)
 filled_beside form generation end used other new st up run =
     emptied_beside form generation end used other new st up (weaker other new IsNoBank (IsSameOrNone other.seen) run (λ image none. inr none))
 
--- Both facts are there.
-both_there : {A B : Type 0} → ∥ A ∥₁ → ∥ B ∥₁ → ∥ A × B ∥₁
-both_there a b = ∥∥₁_elim a (hlevel props) (λ x. ∥∥₁_map b (λ y. (x, y)))
-
 module _ {D : Type 0} {g : Ghosts D} where
   -- What is filled is filled, if it is gone on with.
   pub resumed : (front : List ℕ) (at : ℕ) (f : Filling D g) (other : D) → f.disk ≡ other → f.at ≡ at → (g.honest other → IsFilled front at (g.view other)) → g.honest other → IsFilled front f.at (g.view f.disk)
   resumed front at f other disk place filled honest =
       subst (λ d. IsFilled front f.at (g.view d)) (sym disk) (subst (λ n. IsFilled front n (g.view other)) (sym place) (filled honest))
+
+  -- So a bank that is taken over is beside the bank in use, from the disk of that pair.
+  pub ended_by : (pair : Pair (Bank D g) D) (st : State) (front : List ℕ) (at : ℕ) (f : Filling D g) → f.disk ≡ pair.other → f.at ≡ at → (s : Successor) (bytes : List ℕ) (new : D)
+      → (g.honest f.disk → takes_over (g.honest pair.bank.disk) pair.bank.form pair.bank.generation pair.bank.end (g.view pair.bank.disk) s f.at bytes (g.view f.disk) (g.view new))
+      → (g.honest pair.other → IsFilled front at (g.view pair.other)) → Completes s front bytes st
+      → g.honest pair.bank.disk → g.honest pair.other → IsUp pair.bank.form pair.bank.generation pair.bank.end (g.view pair.bank.disk) (g.view pair.other) st
+      → LeavesOnly (g.view pair.other) (g.view new) (StandsBeside (g.view pair.bank.disk).seen st)
+  ended_by pair st front at f same place s bytes new run filled whole used other up =
+      subst (λ d. LeavesOnly (g.view d) (g.view new) (StandsBeside (g.view pair.bank.disk).seen st)) same
+      (run (subst g.honest (sym same) other) front st used (subst (λ d. IsUp pair.bank.form pair.bank.generation pair.bank.end (g.view pair.bank.disk) (g.view d) st) (sym same) up)
+      (resumed front at f pair.other same place filled other) whole)
 
   -- ---- what is known of the next bank
 
@@ -86,21 +94,16 @@ module _ {D : Type 0} {g : Ghosts D} where
       omega (arith, at_most (s.records + 1) (next.at + length bytes) (∥∥₁_map begun (λ b. let p = parts_of next disks st b in omega (arith, p.place, counts s p.front bytes st (ends p.front p.follows)))))
 
 module _ {D : Type 0} {g : Ghosts D} (timed : (d : D) → g.honest d → IsTimed (g.view d)) where
-  -- The state stands at each moment of a step.
-  pub steps_since : (next : NextBank) (disks new : Disks (Bank D g) D) (st now : State) → now ≡ st → BothHonest disks → ∥ IsKeptFor disks st ∥₁ → ∥ IsBegunOn next disks st ∥₁
-      → (BothHonest disks → IsUpFor disks now → IsBegunOn next disks now → PairsSince (both_of disks) (both_of new) (λ left right. Stands left right now))
-      → PairsSince (both_of disks) (both_of new) (StandsFor st)
-  steps_since next disks new st now same are kept begun goes =
-      subst (λ s. PairsSince (both_of disks) (both_of new) (StandsFor s)) same
-      (from_some (both_of disks) (both_of new) (λ left right. Stands left right now) (λ left right. Stands left right now)
-      (both_there (up_for timed disks now are (subst (λ s. ∥ IsKeptFor disks s ∥₁) (sym same) kept)) (subst (λ s. ∥ IsBegunOn next disks s ∥₁) (sym same) begun))
-      (λ x. goes are x.0 x.1) (λ left right x. x))
-
-  -- What is known of the disks and of the next bank then.
-  pub steps_kept : (next : NextBank) (disks new : Disks (Bank D g) D) (st now : State) → now ≡ st → ∥ IsKeptFor disks st ∥₁ → ∥ IsBegunOn next disks st ∥₁ → (IsBegunOn next disks now → IsKeptFor disks now → IsKeptFor new now) → ∥ IsKeptFor new st ∥₁
-  steps_kept next disks new st now same kept begun goes =
-      subst (λ s. ∥ IsKeptFor new s ∥₁) same
-      (∥∥₁_map (both_there (subst (λ s. ∥ IsKeptFor disks s ∥₁) (sym same) kept) (subst (λ s. ∥ IsBegunOn next disks s ∥₁) (sym same) begun)) (λ x. goes x.1 x.0))
+  -- More is written after what is filled of the disk that is not in use.
+  pub written_by : (disks : Disks (Bank D g) D) (pair : Pair (Bank D g) D) → disks ≡ InUse pair → (st : State) (front : List ℕ) (at : ℕ) (f : Filling D g) → f.disk ≡ pair.other → f.at ≡ at → (new : D)
+      → (g.honest f.disk → fills f.at (g.view f.disk) (g.view new)) → IsFilledOn front at disks → BothHonest disks → IsUpFor disks st
+      → PairsSince (both_of disks) (sides pair.is_right (g.view pair.bank.disk) (g.view new)) (λ left right. Stands left right st)
+  written_by disks pair is st front at f same place new run filled =
+      changed timed disks pair is st (g.view new)
+      (λ used other was_up.
+      filled_beside pair.bank.form pair.bank.generation pair.bank.end (g.view pair.bank.disk) (g.view pair.other) (g.view new) st was_up
+      (subst (λ d. LeavesOnly (g.view d) (g.view new) IsNoBank) same
+      (run (subst g.honest (sym same) other) front (resumed front at f pair.other same place (subst (IsFilledOn front at) is filled) other))))
 
   pub steps_begun : (next later : NextBank) (disks new : Disks (Bank D g) D) (st now : State) → now ≡ st → ∥ IsBegunOn next disks st ∥₁ → (IsBegunOn next disks now → IsBegunOn later new now) → ∥ IsBegunOn later new st ∥₁
   steps_begun next later disks new st now same begun goes =

@@ -104,6 +104,14 @@ emptied_beside form generation end used other new st up run = weaker other new (
     by image (inl same) = subst (StandsBeside used.seen st) (sym same) (stands_now form generation end used other st up)
     by image (inr none) = inl record { generation = generation; stands = stands_on form generation end used st up.stored; lesser = inl none }
 
+-- So it is written, and is not in use still.
+pub changed_by : {D : Type 0} {g : Ghosts D} (timed : (d : D) → g.honest d → IsTimed (g.view d)) (disks : Disks (Bank D g) D) (pair : Pair (Bank D g) D) → disks ≡ InUse pair → (st : State) (new : D)
+    → (g.honest pair.other → LeavesOnly (g.view pair.other) (g.view new) (IsSameOrNone (g.view pair.other).seen)) → BothHonest disks → IsUpFor disks st
+    → PairsSince (both_of disks) (sides pair.is_right (g.view pair.bank.disk) (g.view new)) (For st)
+changed_by {g = g} timed disks pair is st new run =
+    changed timed disks pair is st (g.view new)
+    (λ used other was. emptied_beside pair.bank.form pair.bank.generation pair.bank.end (g.view pair.bank.disk) (g.view pair.other) (g.view new) st was (run other))
+
 -- ---- where only that some bank is in use is known
 
 module _ {D : Type 0} {g : Ghosts D} (timed : (d : D) → g.honest d → IsTimed (g.view d)) where
@@ -111,24 +119,6 @@ module _ {D : Type 0} {g : Ghosts D} (timed : (d : D) → g.honest d → IsTimed
   other_durable (InUse pair) st kept = λ h image left. ∥∥₁_elim kept (Coded-set (coded_list coded_ℕ) _ _) (λ k. k.durable h image left)
   other_durable (Shut left right) st kept = not_there kept (λ k. k)
   other_durable Away st kept = not_there kept (λ k. k)
-
-  -- The state stands at each moment of a call that says so of a bank in use.
-  pub stands_since : (disks new : Disks (Bank D g) D) (st now : State) → now ≡ st → BothHonest disks → ∥ IsKeptFor disks st ∥₁
-      → (BothHonest disks → IsUpFor disks now → PairsSince (both_of disks) (both_of new) (For now))
-      → PairsSince (both_of disks) (both_of new) (StandsFor st)
-  stands_since disks new st now same are kept goes =
-      subst (λ s. PairsSince (both_of disks) (both_of new) (StandsFor s)) same
-      (from_some (both_of disks) (both_of new) (For now) (For now)
-      (up_for timed disks now are (subst (λ s. ∥ IsKeptFor disks s ∥₁) (sym same) kept))
-      (goes are) (λ left right x. x))
-
-  -- What is known of the disks then.
-  pub kept_since : (disks new : Disks (Bank D g) D) (st now : State) → now ≡ st → ∥ IsKeptFor disks st ∥₁
-      → (IsKeptFor disks now → IsKeptFor new now)
-      → ∥ IsKeptFor new st ∥₁
-  kept_since disks new st now same kept goes =
-      subst (λ s. ∥ IsKeptFor new s ∥₁) same
-      (∥∥₁_map (subst (λ s. ∥ IsKeptFor disks s ∥₁) (sym same) kept) goes)
 
 -- What represents a state, represents it and no deed.
 pub with_none : (st : State) (deeds : List Deed) → deeds ≡ [] → IsState st → (left right : List ℕ) → StandsFor st left right → IsWithOrWithout st deeds left right

@@ -70,20 +70,19 @@ IsNothingOr st left right = (IsNoBank left × IsNoBank right) ⊎ Stands left ri
 abbrev pub room_for : ℕ → ℕ → ℕ
 room_for count bytes = bytes_for count bytes + GATE_BYTES
 
--- The deeds, so many at most, have no room on a bank in this form: one of them has no spelling
--- there; or there are some, and as many records as so many deeds take, after this end, would pass
--- the limit.
-abbrev pub IsTooMuch : Form → ℕ → ℕ → ℕ → List Deed → Type 0
-IsTooMuch form end limit most deeds =
+-- The deeds have no room on a bank in this form: one of them has no spelling there; or there are
+-- some, and their records, after this end, would pass the limit.
+abbrev pub IsTooMuch : Form → ℕ → ℕ → List Deed → Type 0
+IsTooMuch form end limit deeds =
     IsUnspelled form deeds
-    ⊎ ((0 < length (payload form deeds))
-    × (limit < end + room_for most (length (payload form deeds))))
+    ⊎ ((0 < length deeds)
+    × (limit < end + room_for (length deeds) (length (payload form deeds))))
 
--- The deeds that the messages would do have no room there. Up to 64 messages need one record.
+-- The deeds that the messages would do have no room there. Up to 64 deeds are one record.
 abbrev pub HasNoRoom : Store → List (ℕ × Message) → Form → ℕ → ℕ → Type 0
 HasNoRoom old ms form end limit =
     (all : History) → Answers old.state old.soft ms all
-    → IsTooMuch form end limit (length ms) all.deeds
+    → IsTooMuch form end limit all.deeds
 
 -- The limit is one that a bank may have.
 abbrev pub IsLimit : ℕ → Type 0

@@ -1,5 +1,6 @@
 -- The next bank of a server, while it is written in steps on the disk that is not in use.
-use Rattle.std.specs.Prelude.{◌≡◌, ◌<◌, ◌≤◌, ◌+◌, ℕ, List, All, Option, Some, IfSome, length}
+use Rattle.std.specs.Prelude.{◌≡◌, ◌<◌, ◌≤◌, ◌+◌, ℕ, List, All, Option, Some, None, Result, Ok, Err}
+use Rattle.std.specs.Prelude.{IfSome, length}
 use Rattle.linda_wire.specs.declared.message.Message.{Message}
 use Rattle.linda_wire.specs.declared.message.Message.TheVariants.{Hello, Out, Ask, Accept, Cancel, Leave}
 use Rattle.linda_store_state.specs.State.{State}
@@ -10,10 +11,12 @@ use Rattle.linda_journal.specs.Renewal.{IsFilled}
 use Rattle.linda_snap.specs.declared.entry.TheConstants.{MAX_KEPT_BYTES}
 use Rattle.linda_snap.specs.declared.successor.Successor.{Successor}
 use Rattle.linda_snap.specs.Draft.{Tuples}
-use Rattle.linda_snap.specs.Successor.{Follows, IsSafeFor}
+use Rattle.linda_snap.specs.Successor.{Completes, Follows, IsSafeFor}
 use Rattle.linda_server.specs.declared.disks.Disks.{Disks}
 use Rattle.linda_server.specs.declared.disks.Disks.TheVariants.{InUse, Shut, Away}
 use Rattle.linda_server.specs.declared.next.NextBank.{NextBank}
+use Rattle.linda_server.specs.Server.{IsBankStill, end_in_use}
+use Rattle.linda_server.specs.Switch.{IsTakenOver}
 
 -- ---- what is on the disk
 
@@ -44,11 +47,26 @@ module _ {D : Type 0} {g : Ghosts D} where
   IsFilledOn front at (Shut left right) = ⊥
   IsFilledOn front at Away = ⊥
 
+  -- So they do, and with these last ones a bank is there for the state.
+  abbrev pub IsLastOn : Successor → List ℕ → List ℕ → ℕ → Disks (Bank D g) D → State → Type 0
+  IsLastOn s front bytes at disks st = IsFilledOn front at disks × Completes s front bytes st
+
   -- That disk has so many bytes, if it is honest.
   abbrev pub IsWithin : ℕ → Disks (Bank D g) D → Type 0
   IsWithin at (InUse pair) = g.honest pair.other → at ≤ length (g.view pair.other).seen
   IsWithin at (Shut left right) = ⊥
   IsWithin at Away = ⊥
+
+  -- A step of it, of so many bytes at most and one entry more: more of it is written, and the bank in
+  -- use is as it was; or it is in use now, with all that was noted (`advance`).
+  abbrev pub StepsOn : {E : Type 0} → ℕ → NextBank → Disks (Bank D g) D
+      → Result (Option NextBank) E → Disks (Bank D g) D → Type 0
+  StepsOn most next old (Ok (Some later)) new =
+      (next.at < later.at) × (later.at ≤ next.at + (most + MAX_KEPT_BYTES)) × IsBankStill old new
+  StepsOn most next old (Ok None) new =
+      IsTakenOver next.successor.records old new
+      × (end_in_use new < next.at + (most + MAX_KEPT_BYTES))
+  StepsOn most next old (Err fault) new = Unit {0}
 
 -- There is one still, and more of it is written: so many bytes at most, and one entry of a snapshot.
 pub record HasGrown (most : ℕ) (old new : Option NextBank) : Type 0 where

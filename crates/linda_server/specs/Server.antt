@@ -1,15 +1,17 @@
 -- The two disks of a server, and what its calls keep to, as clauses speak of them.
-use Rattle.std.specs.Prelude.{◌≡◌, ℕ, ◌+◌, Bool, List, Option}
+use Rattle.std.specs.Prelude.{◌≡◌, ◌↔◌, ℕ, ◌+◌, Bool, true, List, Option, Result, IfErr, OnOk}
 use Rattle.linda_tuple.specs.declared.form.Form.{Form}
 use Rattle.linda_store_state.specs.State.{State}
 use Rattle.linda_disk.specs.declared.disk.Disk.{Ghosts}
+use Rattle.linda_disk.specs.Disk.{TellsFailures}
+use Rattle.linda_snap.specs.Stands.{Stands}
 use Rattle.linda_journal.specs.declared.bank.Bank.{Bank}
 use Rattle.linda_journal.specs.Renewal.{TakesCalls}
 use Rattle.linda_server.specs.declared.disks.Disks.{Disks}
 use Rattle.linda_server.specs.declared.disks.InUse.{InUse}
 use Rattle.linda_server.specs.Pairs.{Both, PairsSince, PairsNow}
 use Rattle.linda_server.specs.Disks.{both, used_of, form_of, number_of, is_ready, AreHonest}
-use Rattle.linda_server.specs.Disks.{failures, IsUpOn, IsKeptOn}
+use Rattle.linda_server.specs.Disks.{failures, is_there, IsUpOn, IsKeptOn}
 use Rattle.linda_server.specs.Disks.{AreRelated, AreSwapped}
 use Rattle.linda_server.specs.Calls.{StandsFor}
 
@@ -101,3 +103,20 @@ module _ {D : Type 0} {g : Ghosts D} where
   -- Crashes now leave the state.
   abbrev pub StandNow : Disks (Bank D g) D → State → Type 0
   StandNow disks st = BothHonest disks → PairsNow (both_of disks) (StandsFor st)
+
+  -- Calls on both disks of a server, for a state that stays as it is; if a snapshot in steps goes
+  -- on, `begun` is what is known of it.
+  pub record RunsOnBoth {T F : Type 0} (begun : Type 0) (st : State) (device : F)
+      (old : Disks (Bank D g) D) (result : Result T F) (new : Disks (Bank D g) D) : Type 0 where
+    -- At no moment crashes leave anything but the state;
+    pub any_moment : begun → BothHonest old → IsUpFor old st
+        → PairsSince (both_of old) (both_of new) (λ left right. Stands left right st)
+    -- at Ok the bank in use represents it, whichever it is.
+    pub kept : begun → IsKeptFor old st → OnOk result (IsKeptFor new st)
+    pub there : is_there new ≡ true
+    pub ready : OnOk result (is_usable new ≡ true)
+    pub limit : OnOk result (limit_in_use new ≡ limit_in_use old)
+    pub honest : BothHonest old ↔ BothHonest new
+    -- A fault is that of the device exactly if one of the disks counted one.
+    pub cause : IfErr result
+        (λ fault. TellsFailures device fault (failures_of old) (failures_of new))

@@ -7,6 +7,7 @@ use linda_disk::{Disk, MemDisk};
 use linda_journal::Bank;
 use linda_store_state::BANK_FORM;
 use linda_tuple::Form;
+use std::mem;
 
 /// The two disks of a server. What a bank and a disk are is left to who uses them.
 #[derive(Drop)]
@@ -58,7 +59,7 @@ impl<D: Disk> Disks<Bank<D>, D> {
     ghost use Rattle.std.specs.Prelude.{◌≡◌, true, Some};
     ghost use Rattle.linda_server.specs.Disks.{disks_of, is_there};
     ghost use Rattle.linda_server.specs.Server.{bank_in_use, form_in_use, end_in_use};
-    ghost use Rattle.linda_server.specs.Server.{records_in_use};
+    ghost use Rattle.linda_server.specs.Server.{records_in_use, is_usable};
 
     /// The form of the bank in use; where none is in use, that of new banks.
     pub(crate) fn form(&self) -> Form
@@ -101,6 +102,17 @@ impl<D: Disk> Disks<Bank<D>, D> {
                 generation: pair.bank.generation(),
             }),
             Disks::Shut { .. } | Disks::Away => None,
+        }
+    }
+
+    /// Hands out the bank in use and the other disk. Until they are put back the disks are away.
+    pub(crate) fn lend(&mut self) -> Pair<Bank<D>, D>
+        requires { is_usable self.old ≡ true }
+        ensures lent { self.old ≡ Disks.InUse result }
+    {
+        match mem::replace(self, Disks::Away) {
+            Disks::InUse(pair) => pair,
+            Disks::Shut { .. } | Disks::Away => unreachable!(),
         }
     }
 

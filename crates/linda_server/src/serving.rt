@@ -21,16 +21,6 @@ pub(crate) enum Batch<'a> {
     Many(&'a [(u32, Message)]),
 }
 
-/// How many messages these are.
-pub(crate) fn count_of(batch: Batch<'_>) -> usize
-    ensures { result ≡ length (messages_of batch.entry) }
-{
-    match batch {
-        Batch::One(..) => 1,
-        Batch::Many(messages) => messages.len(),
-    }
-}
-
 /// Serves messages.
 ///
 /// # Errors

@@ -1,23 +1,17 @@
 //! Steps of a snapshot: the next bank is written on the disk that is not in use, and is taken into
 //! use.
 
-ghost use Rattle.std.specs.Prelude.{◌≡◌, ◌≤◌, ◌<◌, ◌+◌, ◌++◌, ◌^◌, ◌↔◌, ℕ, List, true, length};
-ghost use Rattle.std.specs.Prelude.{IfOk, IfErr, OnOk, IfSome, IfNone, IsErrOf};
+ghost use Rattle.std.specs.Prelude.{◌≡◌, ◌≤◌, ◌<◌, ◌+◌, ◌++◌, ◌^◌, ℕ, List, true, length};
+ghost use Rattle.std.specs.Prelude.{IfOk, OnOk, IfSome, IsErrOf};
 ghost use Rattle.linda_store_state.specs.State as states;
 ghost use Rattle.linda_store_state.specs.State.{IsState};
 ghost use Rattle.linda_disk.specs.View.{IsDurable};
-ghost use Rattle.linda_disk.specs.Disk.{TellsFailures};
-ghost use Rattle.linda_disk.specs.Run.{LeavesOnly};
-ghost use Rattle.linda_journal.specs.Renewal.{IsNoBank, IsSameOrNone, IsFilled};
-ghost use Rattle.linda_snap.specs.Stands.{Stands};
-ghost use Rattle.linda_snap.specs.Successor.{Follows, Completes};
-ghost use Rattle.linda_server.specs.Disks.{is_there};
-ghost use Rattle.linda_server.specs.Next.{IsBegun, IsBegunOn, IsFilledOn, IsWithin};
-ghost use Rattle.linda_server.specs.Pairs.{PairsSince};
-ghost use Rattle.linda_server.specs.Server.{both_of, is_usable, generation_in_use, limit_in_use};
-ghost use Rattle.linda_server.specs.Server.{BothHonest, failures_of, IsUpFor, IsKeptFor};
-ghost use Rattle.linda_server.specs.Server.{IsBankStill, end_in_use};
-ghost use Rattle.linda_snap.specs.declared.entry.TheConstants.{MAX_KEPT_BYTES};
+ghost use Rattle.linda_disk.specs.Runs.{Runs, anything};
+ghost use Rattle.linda_journal.specs.Renewal.{IsNoBank, IsFilled, shuts};
+ghost use Rattle.linda_server.specs.Next.{IsBegun, IsBegunOn, IsFilledOn, IsLastOn, IsWithin};
+ghost use Rattle.linda_server.specs.Next.{StepsOn};
+ghost use Rattle.linda_server.specs.Server.{is_usable, generation_in_use, limit_in_use};
+ghost use Rattle.linda_server.specs.Server.{IsBankStill, RunsOnBoth, end_in_use};
 ghost use Rattle.linda_server.specs.Switch.{HasNoNext, IsOtherDurable, IsTakenOver};
 
 use crate::disks::{Disks, Pair};
@@ -30,7 +24,6 @@ use linda_journal::{Bank, Filling, shut};
 use linda_snap::{Part, Successor, take_over};
 use linda_store_state::State;
 use std::alloc::Global;
-use std::mem;
 
 /// Begins the next bank, with a snapshot of the state, on the disk that is not in use: its first
 /// gate is closed, and the first bytes are written behind it.
@@ -48,45 +41,28 @@ pub(crate) fn start<B: Bag, D: Disk>(
     requires ready { is_usable disks.old ≡ true }
     requires short { limit_in_use disks.old < 2 ^ 32 }
     requires durable { IsOtherDurable disks.old }
-    // At no moment crashes leave anything but the state, which is the same.
-    ensures any_moment { (st : states.State)
-        → BothHonest disks.old
-        → IsUpFor disks.old st
-        → PairsSince (both_of disks.old) (both_of disks.new) (λ left right. Stands left right st) }
-    ensures kept { (st : states.State)
-        → IsKeptFor disks.old st
-        → OnOk result (IsKeptFor disks.new st) }
+    // At no moment crashes leave anything but the state.
+    ensures runs { RunsOnBoth (Unit {0}) state.now ServeFault.Disk disks.old result disks.new }
     ensures begun { IfOk result (λ next. IsBegunOn next disks.new state.now) }
     ensures still { IsBankStill disks.old disks.new }
-    ensures there { is_there disks.new ≡ true }
-    ensures ready { OnOk result (is_usable disks.new ≡ true) }
-    ensures limit { OnOk result (limit_in_use disks.new ≡ limit_in_use disks.old) }
     ensures full { IsErrOf result ServeFault.Full → (disks.new ≡ disks.old)
         × HasNoNext state.now (limit_in_use disks.old) (generation_in_use disks.old) }
     ensures room { OnOk result (HasNoNext state.now (limit_in_use disks.old)
         (generation_in_use disks.old) → ⊥) }
-    ensures honest { BothHonest disks.old ↔ BothHonest disks.new }
-    ensures cause { IfErr result (λ fault. TellsFailures ServeFault.Disk fault
-        (failures_of disks.old) (failures_of disks.new)) }
     ensures known { IsErrOf result ServeFault.Down → ⊥ }
 {
-    match mem::replace(disks, Disks::Away) {
-        Disks::InUse(pair) => {
-            let Pair {
-                bank,
-                other,
-                is_right,
-            } = pair;
-            let (told, other) = start_on(other, alloc, state, bank.generation(), bank.limit());
-            *disks = Disks::InUse(Pair {
-                bank,
-                other,
-                is_right,
-            });
-            told
-        }
-        Disks::Shut { .. } | Disks::Away => unreachable!(),
-    }
+    let Pair {
+        bank,
+        other,
+        is_right,
+    } = disks.lend();
+    let (told, other) = start_on(other, alloc, state, bank.generation(), bank.limit());
+    *disks = Disks::InUse(Pair {
+        bank,
+        other,
+        is_right,
+    });
+    told
 }
 
 // Begins a bank after this generation and of this limit on the disk.
@@ -100,8 +76,6 @@ fn start_on<B: Bag, D: Disk>(
     requires ranges { IsState state.now }
     requires short { limit < 2 ^ 32 }
     requires durable { D.honest other → IsDurable (D.view other) }
-    ensures any_moment { D.honest other → LeavesOnly (D.view other) (D.view result.1)
-        (IsSameOrNone (D.view other).seen) }
     ensures none { D.honest other → OnOk result.0 (IsNoBank (D.view result.1).seen) }
     ensures durable { D.honest other → OnOk result.0 (IsDurable (D.view result.1)) }
     ensures begun { IfOk result.0 (λ next.
@@ -110,9 +84,7 @@ fn start_on<B: Bag, D: Disk>(
     ensures full { IsErrOf result.0 ServeFault.Full → (result.1 ≡ other)
         × HasNoNext state.now limit generation }
     ensures room { OnOk result.0 (HasNoNext state.now limit generation → ⊥) }
-    ensures honest { D.honest other ↔ D.honest result.1 }
-    ensures cause { IfErr result.0 (λ fault. TellsFailures ServeFault.Disk fault
-        (D.failures other) (D.failures result.1)) }
+    ensures runs { Runs D.Disk shuts anything ServeFault.Disk other result.0 result.1 }
     ensures known { IsErrOf result.0 ServeFault.Down → ⊥ }
 {
     let Some(generation) = generation.checked_add(1) else {
@@ -130,14 +102,10 @@ fn start_on<B: Bag, D: Disk>(
 // Closes the first gate of the disk, and writes the bytes behind it. Gives the offset behind them.
 fn lay<D: Disk>(disk: D, bytes: &[u8]) -> (Result<usize, DiskFault>, D)
     requires { D.honest disk → IsDurable (D.view disk) }
-    ensures any_moment { D.honest disk → LeavesOnly (D.view disk) (D.view result.1)
-        (IsSameOrNone (D.view disk).seen) }
     ensures filled { D.honest disk
         → IfOk result.0 (λ at. IsFilled bytes.now at (D.view result.1)) }
     ensures place { IfOk result.0 (λ at. at ≡ 1 + length bytes.now) }
-    ensures honest { D.honest disk ↔ D.honest result.1 }
-    ensures cause { IfErr result.0 (λ fault. TellsFailures DiskFault.Device fault
-        (D.failures disk) (D.failures result.1)) }
+    ensures runs { Runs D.Disk shuts anything DiskFault.Device disk result.0 result.1 }
 {
     match shut(disk) {
         Err((fault, disk)) => (Err(fault), disk),
@@ -163,33 +131,14 @@ pub(crate) fn advance<B: Bag, D: Disk>(
 ) -> Result<Option<NextBank>, ServeFault>
     requires ready { is_usable disks.old ≡ true }
     requires begun { ∥ IsBegunOn next disks.old state.now ∥₁ }
-    // At no moment crashes leave anything but the state;
-    ensures any_moment { BothHonest disks.old
-        → IsUpFor disks.old state.now
-        → IsBegunOn next disks.old state.now
-        → PairsSince (both_of disks.old) (both_of disks.new)
-        (λ left right. Stands left right state.now) }
-    // at Ok the bank in use represents it, whichever it is, and the next one, if more of it is to
-    // come, follows it.
-    ensures kept { IsBegunOn next disks.old state.now
-        → IsKeptFor disks.old state.now
-        → OnOk result (IsKeptFor disks.new state.now) }
+    // At no moment crashes leave anything but the state.
+    ensures runs { RunsOnBoth (IsBegunOn next disks.old state.now) state.now ServeFault.Disk
+        disks.old result disks.new }
+    // The next bank, if more of it is to come, follows it.
     ensures begun { IsBegunOn next disks.old state.now
         → IfOk result (λ o. IfSome o (λ n. IsBegunOn n disks.new state.now)) }
-    ensures still { IfOk result (λ o. IfSome o (λ n. IsBankStill disks.old disks.new)) }
     // Each step writes something, and no more than it may.
-    ensures further { IfOk result (λ o. IfSome o (λ n. next.at < n.at)) }
-    ensures few { IfOk result (λ o. IfSome o (λ n. n.at ≤ next.at + (most + MAX_KEPT_BYTES))) }
-    ensures last { IfOk result (λ o. IfNone o (end_in_use disks.new
-        < next.at + (most + MAX_KEPT_BYTES))) }
-    ensures switched { IfOk result (λ o. IfNone o
-        (IsTakenOver next.successor.records disks.old disks.new)) }
-    ensures there { is_there disks.new ≡ true }
-    ensures ready { OnOk result (is_usable disks.new ≡ true) }
-    ensures limit { OnOk result (limit_in_use disks.new ≡ limit_in_use disks.old) }
-    ensures honest { BothHonest disks.old ↔ BothHonest disks.new }
-    ensures cause { IfErr result (λ fault. TellsFailures ServeFault.Disk fault
-        (failures_of disks.old) (failures_of disks.new)) }
+    ensures steps { StepsOn most next disks.old result disks.new }
     ensures known { (IsErrOf result ServeFault.Full → ⊥) × (IsErrOf result ServeFault.Down → ⊥) }
 {
     let NextBank { mut successor, at } = next;
@@ -215,55 +164,37 @@ fn write_on<D: Disk>(
     requires ready { is_usable disks.old ≡ true }
     requires behind { 1 ≤ at }
     requires within { IsWithin at disks.old }
-    ensures any_moment { (st : states.State) (front : List ℕ)
-        → BothHonest disks.old
-        → IsUpFor disks.old st
-        → IsFilledOn front at disks.old
-        → PairsSince (both_of disks.old) (both_of disks.new) (λ left right. Stands left right st) }
-    ensures kept { (st : states.State) (front : List ℕ)
-        → IsFilledOn front at disks.old
-        → IsKeptFor disks.old st
-        → OnOk result (IsKeptFor disks.new st) }
+    ensures runs { (st : states.State) (front : List ℕ)
+        → RunsOnBoth (IsFilledOn front at disks.old) st DiskFault.Device disks.old result disks.new }
     ensures filled { (front : List ℕ) → IsFilledOn front at disks.old
         → IfOk result (λ next. IsFilledOn (front ++ bytes.now) next disks.new) }
     ensures place { IfOk result (λ next. next ≡ at + length bytes.now) }
     ensures still { IsBankStill disks.old disks.new }
     ensures generation { OnOk result (generation_in_use disks.new ≡ generation_in_use disks.old) }
-    ensures there { is_there disks.new ≡ true }
-    ensures ready { OnOk result (is_usable disks.new ≡ true) }
-    ensures limit { OnOk result (limit_in_use disks.new ≡ limit_in_use disks.old) }
-    ensures honest { BothHonest disks.old ↔ BothHonest disks.new }
-    ensures cause { IfErr result (λ fault. TellsFailures DiskFault.Device fault
-        (failures_of disks.old) (failures_of disks.new)) }
 {
-    match mem::replace(disks, Disks::Away) {
-        Disks::InUse(pair) => {
-            let Pair {
+    let Pair {
+        bank,
+        other,
+        is_right,
+    } = disks.lend();
+    match Filling::resume(other, at).add(bytes) {
+        Err((fault, other)) => {
+            *disks = Disks::InUse(Pair {
                 bank,
                 other,
                 is_right,
-            } = pair;
-            match Filling::resume(other, at).add(bytes) {
-                Err((fault, other)) => {
-                    *disks = Disks::InUse(Pair {
-                        bank,
-                        other,
-                        is_right,
-                    });
-                    Err(fault)
-                }
-                Ok(filling) => {
-                    let next = filling.at();
-                    *disks = Disks::InUse(Pair {
-                        bank,
-                        other: filling.into_disk(),
-                        is_right,
-                    });
-                    Ok(next)
-                }
-            }
+            });
+            Err(fault)
         }
-        Disks::Shut { .. } | Disks::Away => unreachable!(),
+        Ok(filling) => {
+            let next = filling.at();
+            *disks = Disks::InUse(Pair {
+                bank,
+                other: filling.into_disk(),
+                is_right,
+            });
+            Ok(next)
+        }
     }
 }
 
@@ -281,53 +212,34 @@ fn end<D: Disk>(
     requires generation { successor.now.generation ≡ generation_in_use disks.old + 1 }
     requires fits { at + length bytes.now ≤ limit_in_use disks.old }
     requires counted { successor.now.records < at + length bytes.now }
-    ensures any_moment { (st : states.State) (front : List ℕ)
-        → BothHonest disks.old
-        → IsUpFor disks.old st
-        → IsFilledOn front at disks.old
-        → Completes successor.now front bytes.now st
-        → PairsSince (both_of disks.old) (both_of disks.new) (λ left right. Stands left right st) }
-    ensures kept { (st : states.State) (front : List ℕ)
-        → IsFilledOn front at disks.old
-        → Completes successor.now front bytes.now st
-        → IsKeptFor disks.old st
-        → OnOk result (IsKeptFor disks.new st) }
+    ensures runs { (st : states.State) (front : List ℕ)
+        → RunsOnBoth (IsLastOn successor.now front bytes.now at disks.old st) st ServeFault.Disk
+        disks.old result disks.new }
     ensures switched { OnOk result (IsTakenOver successor.now.records disks.old disks.new) }
     ensures place { OnOk result (end_in_use disks.new + 1 ≡ at + length bytes.now) }
-    ensures there { is_there disks.new ≡ true }
-    ensures ready { OnOk result (is_usable disks.new ≡ true) }
-    ensures limit { OnOk result (limit_in_use disks.new ≡ limit_in_use disks.old) }
-    ensures honest { BothHonest disks.old ↔ BothHonest disks.new }
-    ensures cause { IfErr result (λ fault. TellsFailures ServeFault.Disk fault
-        (failures_of disks.old) (failures_of disks.new)) }
     ensures known { (IsErrOf result ServeFault.Full → ⊥) × (IsErrOf result ServeFault.Down → ⊥) }
 {
-    match mem::replace(disks, Disks::Away) {
-        Disks::InUse(pair) => {
-            let Pair {
+    let Pair {
+        bank,
+        other,
+        is_right,
+    } = disks.lend();
+    match take_over(bank, Filling::resume(other, at), successor, bytes) {
+        Err((fault, bank, other)) => {
+            *disks = Disks::InUse(Pair {
                 bank,
                 other,
                 is_right,
-            } = pair;
-            match take_over(bank, Filling::resume(other, at), successor, bytes) {
-                Err((fault, bank, other)) => {
-                    *disks = Disks::InUse(Pair {
-                        bank,
-                        other,
-                        is_right,
-                    });
-                    Err(of_disk(fault))
-                }
-                Ok((bank, other)) => {
-                    *disks = Disks::InUse(Pair {
-                        bank,
-                        other,
-                        is_right: !is_right,
-                    });
-                    Ok(())
-                }
-            }
+            });
+            Err(of_disk(fault))
         }
-        Disks::Shut { .. } | Disks::Away => unreachable!(),
+        Ok((bank, other)) => {
+            *disks = Disks::InUse(Pair {
+                bank,
+                other,
+                is_right: !is_right,
+            });
+            Ok(())
+        }
     }
 }

@@ -74,7 +74,7 @@ hello_has_room s c client version fresh orderly lacks =
     let all : whole.0.deeds ≡ [] =
     ap (λ (h : History). h.deeds) whole.1.1.1.1.1.1
     ∙ (ap (λ (l : List Deed). option_to_list a.deed ++ l) none ∙ (append-nil (option_to_list a.deed) ∙ ap (λ (x : Answer). option_to_list x.deed) step.answer)) in
-    elim (subst (λ ds. IsTooMuch (form_in_use s.disks) (end_in_use s.disks) s.limit 1 ds) all (lacks whole.0 whole.1)) [
+    elim (subst (λ ds. IsTooMuch (form_in_use s.disks) (end_in_use s.disks) s.limit ds) all (lacks whole.0 whole.1)) [
       | inl unspelled ↦ unspelled (All-nil (SuitsForm (form_in_use s.disks)))
       | inr much ↦ absurd (omega (arith, much.0))
     ]

@@ -20,14 +20,17 @@ use Rattle.linda_snap.specs.Switch.{IsOldNoneOrNew}
 
 -- ---- the runs of a renewal
 
+pub closing : (generation : ℕ) (body : List ℕ) (old new : View) → LeavesOnly old new (IsSameOrNone old.seen) → LeavesOnly old new (IsOldNoneOrNew old.seen generation body)
+closing generation body old new run = weaker old new (IsSameOrNone old.seen) (IsOldNoneOrNew old.seen generation body) run shut
+  where
+    shut : (image : List ℕ) → IsSameOrNone old.seen image → IsOldNoneOrNew old.seen generation body image
+    shut image (inl is) = inl is
+    shut image (inr is) = inr (inl is)
+
 module _ (generation : ℕ) (body : List ℕ) (old mid : View) where
   pub filling : (new : View) → LeavesOnly old mid (IsSameOrNone old.seen) → LeavesOnly mid new IsNoBank → LeavesOnly old new (IsOldNoneOrNew old.seen generation body)
   filling new first second =
-      joined old mid new (IsSameOrNone old.seen) IsNoBank (IsOldNoneOrNew old.seen generation body) first second shut (λ image is. inr (inl is))
-    where
-      shut : (image : List ℕ) → IsSameOrNone old.seen image → IsOldNoneOrNew old.seen generation body image
-      shut image (inl is) = inl is
-      shut image (inr is) = inr (inl is)
+      joined old mid new (IsOldNoneOrNew old.seen generation body) IsNoBank (IsOldNoneOrNew old.seen generation body) (closing generation body old mid first) second (λ image is. is) (λ image is. inr (inl is))
 
   pub opening : (new : View) → LeavesOnly old mid (IsOldNoneOrNew old.seen generation body) → LeavesOnly mid new (IsNoneOrNew written generation body) → LeavesOnly old new (IsOldNoneOrNew old.seen generation body)
   opening new first second =

@@ -6,15 +6,14 @@ ghost use Rattle.std.specs.Prelude.{true, false, length, IfOk, IfErr, IfSome, If
 ghost use Rattle.linda_store_state.specs.State.{IsState};
 ghost use Rattle.linda_store_state.specs.DeedFormat.{written};
 ghost use Rattle.linda_disk.specs.View.{IsDurable};
-ghost use Rattle.linda_disk.specs.Disk.{TellsFailures};
-ghost use Rattle.linda_disk.specs.Run.{LeavesOnly};
+ghost use Rattle.linda_disk.specs.Runs.{RunsTo, RunsBeside};
 ghost use Rattle.linda_journal.specs.declared.kinds.TheConstants.{CLOSED};
 ghost use Rattle.linda_journal.specs.declared.limits.TheConstants.{MIN_BYTES};
 ghost use Rattle.linda_journal.specs.Bank.{behind_gate, IsSettled};
 ghost use Rattle.linda_journal.specs.Renewal.{pieces, TakesCalls};
 ghost use Rattle.linda_snap.specs.Snapshot.{spell_state, FitsState};
-ghost use Rattle.linda_snap.specs.Stands.{IsStored, IsUp, StandsBeside};
-ghost use Rattle.linda_snap.specs.Switch.{IsOldNoneOrNew, fault_of_disk};
+ghost use Rattle.linda_snap.specs.Stands.{IsStored, IsUp};
+ghost use Rattle.linda_snap.specs.Switch.{fault_of_disk, renews, switches};
 
 use crate::putting::{put_state, room_after};
 use linda_bag::Bag;
@@ -72,16 +71,7 @@ pub fn switch<B: Bag, D: Disk>(
     requires ranges { IsState state.now }
     requires short { current.limit < 2 ^ 32 }
     requires durable { D.honest other → IsDurable (D.view other) }
-    // At no moment a crash leaves anything on the other disk but what stands, beside the bank in
-    // use, for the state;
-    ensures any_moment { D.honest current.disk → D.honest other
-        → IsUp current.form current.generation current.end (D.view current.disk) (D.view other)
-        state.now
-        → IfOk result (λ x. LeavesOnly (D.view other) (D.view x.0.disk)
-        (StandsBeside (D.view current.disk).seen state.now))
-        × IfErr result (λ e. LeavesOnly (D.view other) (D.view e.2)
-        (StandsBeside (D.view current.disk).seen state.now)) }
-    // at Ok the new bank is in use, and stands for it.
+    // At Ok the new bank is in use, and represents the state.
     ensures done { D.honest current.disk → D.honest other
         → IsUp current.form current.generation current.end (D.view current.disk) (D.view other)
         state.now
@@ -111,17 +101,13 @@ pub fn switch<B: Bag, D: Disk>(
         × (e.0 ≡ SwitchFault.GenerationsSpent → (e.1 ≡ current) × (e.2 ≡ other))
         × (e.0 ≡ SwitchFault.Memory → ((e.1 ≡ current) × (e.2 ≡ other)) ⊎ (e.1.is_spent ≡ true))
         × (e.0 ≡ SwitchFault.Disk → e.1.is_spent ≡ true)) }
-    ensures honest { IfOk result (λ x. D.honest other ↔ D.honest x.0.disk)
-        × IfErr result (λ e. D.honest other ↔ D.honest e.2) }
-    // The count of failures rises where the device is reported to have failed, and there alone.
-    ensures cause { IfErr result (λ e. TellsFailures SwitchFault.Disk e.0
-        (D.failures other) (D.failures e.2)) }
-    ensures steady { IfOk result (λ x. D.failures x.0.disk ≡ D.failures other) }
-    // It is a write for each piece of the new bank, a sync, a write and a sync; and first a write
-    // and a sync, where the disk's first gate is to be closed.
-    ensures clock { D.honest other → IfOk result (λ x.
-        TakesCalls (3 + pieces (MIN_BYTES + length (spell_state written state.now)))
-        (D.view other) (D.view x.0.disk)) }
+    // At no moment a crash leaves anything on the other disk but what represents the state, beside
+    // the bank in use. It is a write for each piece of the new bank, a sync, a write and a sync; and
+    // first a write and a sync, if the disk's first gate is to be closed.
+    ensures runs { RunsBeside D.Disk (λ x. x.0.disk) (switches (D.honest current.disk)
+        current.form current.generation current.end (D.view current.disk) state.now)
+        (TakesCalls (3 + pieces (MIN_BYTES + length (spell_state written state.now))))
+        SwitchFault.Disk other result }
 {
     let limit = current.limit();
     let Some(len) = len_within(state, limit) else {
@@ -155,22 +141,11 @@ fn renew<D: Disk>(
     ensures done { (body : List ℕ) → length body < 2 ^ 32
         → bytes.now ≡ behind_gate written generation body ++ CLOSED ∷ [] → D.honest other
         → IfOk result (λ b. IsSettled written generation body [] b.end (D.view b.disk)) }
-    ensures any_moment { (body : List ℕ) → length body < 2 ^ 32
-        → bytes.now ≡ behind_gate written generation body ++ CLOSED ∷ [] → D.honest other
-        → IfOk result (λ b. LeavesOnly (D.view other) (D.view b.disk)
-        (IsOldNoneOrNew (D.view other).seen generation body))
-        × IfErr result (λ e. LeavesOnly (D.view other) (D.view e.1)
-        (IsOldNoneOrNew (D.view other).seen generation body)) }
     ensures new { IfOk result (λ b. (b.form ≡ written) × (b.generation ≡ generation)
         × (b.limit ≡ limit)
         × (b.records ≡ 0) × (b.is_spent ≡ false)) }
-    ensures honest { IfOk result (λ b. D.honest other ↔ D.honest b.disk)
-        × IfErr result (λ e. D.honest other ↔ D.honest e.1) }
-    ensures cause { IfErr result (λ e. TellsFailures DiskFault.Device e.0
-        (D.failures other) (D.failures e.1)) }
-    ensures steady { IfOk result (λ b. D.failures b.disk ≡ D.failures other) }
-    ensures clock { D.honest other → IfOk result (λ b.
-        TakesCalls (3 + pieces (length bytes.now)) (D.view other) (D.view b.disk)) }
+    ensures runs { RunsTo D.Disk (λ b. b.disk) (renews generation bytes.now)
+        (TakesCalls (3 + pieces (length bytes.now))) DiskFault.Device other result }
 {
     match shut(other) {
         Err((fault, other)) => Err((fault, other)),

@@ -1,13 +1,13 @@
 //! The end of a new bank that was written in steps: it is taken into use.
 
-ghost use Rattle.std.specs.Prelude.{◌≡◌, ◌+◌, ◌<◌, ◌↔◌, ℕ, List, true, false, length, IfOk, IfErr};
+ghost use Rattle.std.specs.Prelude.{◌≡◌, ◌+◌, ◌<◌, ℕ, List, true, false, length, IfOk, IfErr};
 ghost use Rattle.linda_store_state.specs.DeedFormat.{written};
 ghost use Rattle.linda_store_state.specs.State as states;
-ghost use Rattle.linda_disk.specs.Disk.{TellsFailures};
-ghost use Rattle.linda_disk.specs.Run.{LeavesOnly};
+ghost use Rattle.linda_disk.specs.Runs.{RunsBeside, takes};
 ghost use Rattle.linda_journal.specs.Renewal.{IsFilled};
-ghost use Rattle.linda_snap.specs.Stands.{IsStored, IsUp, StandsBeside};
+ghost use Rattle.linda_snap.specs.Stands.{IsStored, IsUp};
 ghost use Rattle.linda_snap.specs.Successor.{Completes};
+ghost use Rattle.linda_snap.specs.Switch.{takes_over};
 
 use crate::successor::Successor;
 use linda_disk::{Disk, DiskFault};
@@ -27,19 +27,7 @@ pub fn take_over<D: Disk>(
     bytes: &[u8],
 ) -> Result<(Bank<D>, D), (DiskFault, Bank<D>, D)>
     requires { next.now.generation ≡ current.generation + 1 }
-    // At no moment a crash leaves anything on the other disk but what stands, beside the bank in
-    // use, for the state;
-    ensures any_moment { (front : List ℕ) (st : states.State)
-        → D.honest current.disk → D.honest filling.disk
-        → IsUp current.form current.generation current.end (D.view current.disk)
-        (D.view filling.disk) st
-        → IsFilled front filling.at (D.view filling.disk)
-        → Completes next.now front bytes.now st
-        → IfOk result (λ x. LeavesOnly (D.view filling.disk) (D.view x.0.disk)
-        (StandsBeside (D.view current.disk).seen st))
-        × IfErr result (λ e. LeavesOnly (D.view filling.disk) (D.view e.2)
-        (StandsBeside (D.view current.disk).seen st)) }
-    // at Ok the new bank is in use, and stands for it,
+    // At Ok the new bank is in use, and represents the state,
     ensures done { (front : List ℕ) (st : states.State)
         → D.honest current.disk → D.honest filling.disk
         → IsUp current.form current.generation current.end (D.view current.disk)
@@ -67,12 +55,11 @@ pub fn take_over<D: Disk>(
     ensures same { IfOk result (λ x. x.1 ≡ current.disk)
         × IfErr result (λ e. e.1.disk ≡ current.disk) }
     ensures spent { IfErr result (λ e. e.1.is_spent ≡ true) }
-    ensures honest { IfOk result (λ x. D.honest filling.disk ↔ D.honest x.0.disk)
-        × IfErr result (λ e. D.honest filling.disk ↔ D.honest e.2) }
-    // The count of failures rises if the device is reported to have failed, and only then.
-    ensures cause { IfErr result (λ e. TellsFailures DiskFault.Device e.0
-        (D.failures filling.disk) (D.failures e.2)) }
-    ensures steady { IfOk result (λ x. D.failures x.0.disk ≡ D.failures filling.disk) }
+    // At no moment a crash leaves anything on the other disk but what represents the state, beside
+    // the bank in use.
+    ensures runs { RunsBeside D.Disk (λ x. x.0.disk) (takes_over (D.honest current.disk)
+        current.form current.generation current.end (D.view current.disk) next.now filling.at
+        bytes.now) (takes 4) DiskFault.Device filling.disk result }
 {
     let limit = current.limit();
     match filling.finish(bytes, next.generation(), limit, next.records()) {

@@ -1,12 +1,13 @@
 -- A message does the deed that it asks for exactly where its demand is met; so the bytes of all deeds in a form
 -- can be counted, and whether each has a spelling there is known.
-use Rattle.std.proofs.Common.{◌≡◌, ℕ, ◌+◌, ◌≤◌, ◌<◌, Bool, true, false, cond, ◌==◌, List, [], ◌∷◌, ◌++◌, length, Option, Some, None, All, IfSome, is_some, option_to_list, refl, sym, ap, ◌∙◌, subst, ne_eqb, length-append, append-nil, arith}
+use Rattle.std.proofs.Common.{◌≡◌, ℕ, ◌+◌, ◌≤◌, ◌<◌, Bool, true, false, cond, ◌==◌, List, [], ◌∷◌, ◌++◌, length, Option, Some, None, All, IfSome, is_some, option_to_list, IfNone, refl, sym, ap, ◌∙◌, subst, ne_eqb, length-append, append-nil, arith}
 use Rattle.std.proofs.lemmas.Grind.{flat_map-append}
 use Rattle.std.proofs.lemmas.List.Elements.{All-nil, All-cons, All-head, All-tail}
 use Rattle.std.specs.FinMap.{get, insert, len}
 use Rattle.linda_maps.proofs.MapLaws.{get_inserted, len_new, len_old}
 use Rattle.linda_tuple.specs.Tuple.{Tuple}
 use Rattle.linda_tuple.specs.declared.form.Form.{Form}
+use Rattle.linda_tuple.specs.declared.form.Form.TheVariants.{One}
 use Rattle.linda_wire.specs.declared.message.Message.{Message}
 use Rattle.linda_book.specs.Entries.{Entry, number_in, is_left}
 use Rattle.linda_store_state.specs.declared.deed.Deed.{Deed}
@@ -23,7 +24,8 @@ use Rattle.linda_store_step.specs.Judge.{to_put, to_take, to_leave, puts, leaves
 use Rattle.linda_store_step.specs.Soft.{Soft}
 use Rattle.linda_store_step.specs.Answer.{Answer, last_number, standing_of, IsStep}
 use Rattle.linda_store_step.specs.History.{History, Happens, comings}
-use Rattle.linda_store_step.specs.Size.{latest_in, latest_of, numbers_of, deed_bytes, if_done, done_by, done_of, numbers_after, bytes_of, bytes_from, Suits, SuitsIfDone, AllSuit}
+use Rattle.linda_store_step.specs.declared.size.Need.{Need}
+use Rattle.linda_store_step.specs.Size.{IsNeedOf, latest_in, latest_of, numbers_of, deed_bytes, if_done, done_by, done_of, numbers_after, bytes_of, bytes_from, count_of, count_from, Suits, SuitsIfDone, AllSuit}
 use Rattle.linda_store_step.proofs.AnswerCourse.{Course, unnumbered, turned_down, told_again, stored, taken, passed, left, course_of}
 use Rattle.linda_store_step.proofs.NumberLaws.{none_is_done}
 use Rattle.linda_store_step.proofs.AnswerLaws.{step_state}
@@ -84,6 +86,7 @@ outcome_of form st c soft _ _ (left n none) =
 -- What is done of the message is known from the numbers of before: its bytes, and the numbers after it.
 record IsTold (form : Form) (st : State) (c : ℕ) (m : Message) (deed : Option Deed) (new : State) : Type 0 where
   bytes : length (payload form (option_to_list deed)) ≡ bytes_of form m (done_of (numbers_of st) c m)
+  count : length (option_to_list deed) ≡ count_of (done_of (numbers_of st) c m)
   suits : (later : List Deed) → All (SuitsForm form) (option_to_list deed ++ later) → SuitsIfDone form m (done_of (numbers_of st) c m) × All (SuitsForm form) later
   suited : (later : List Deed) → SuitsIfDone form m (done_of (numbers_of st) c m) → All (SuitsForm form) later → All (SuitsForm form) (option_to_list deed ++ later)
   numbers : numbers_of new ≡ numbers_after (numbers_of st) c (done_of (numbers_of st) c m)
@@ -93,6 +96,7 @@ told_of form st new c m deed is after (nothing none undone) =
     let same : new ≡ st = one_after st [] new st (subst (λ d. IsAfter st (option_to_list d) new) none after) (none_after st is) in
     record {
       bytes = ap (λ d. length (payload form (option_to_list d))) none ∙ sym (ap (bytes_of form m) undone);
+      count = ap (λ d. length (option_to_list d)) none ∙ sym (ap count_of undone);
       suits = λ later all. (subst (SuitsIfDone form m) (sym undone) tt, subst (λ o. All (SuitsForm form) (option_to_list o ++ later)) none all);
       suited = λ later this all. subst (λ o. All (SuitsForm form) (option_to_list o ++ later)) (sym none) all;
       numbers = ap numbers_of same ∙ sym (ap (numbers_after (numbers_of st) c) undone);
@@ -101,6 +105,7 @@ told_of form st new c m deed is after (one d w some was_done asked) =
     let same : new ≡ done st d = one_after st (d ∷ []) new (done st d) (subst (λ d. IsAfter st (option_to_list d) new) some after) (done_after st d is) in
     record {
       bytes = ap (λ d. length (payload form (option_to_list d))) some ∙ ap length (append-nil (spell_deed form d)) ∙ asked.size ∙ sym (ap (bytes_of form m) was_done);
+      count = ap (λ d. length (option_to_list d)) some ∙ sym (ap count_of was_done);
       suits = λ later all.
           let both = subst (λ o. All (SuitsForm form) (option_to_list o ++ later)) some all in
           (subst (SuitsIfDone form m) (sym was_done) (asked.suits (All-head (SuitsForm form) d later both)), All-tail (SuitsForm form) d later both);
@@ -146,6 +151,21 @@ all_bytes form st soft (m ∷ ms) all is happens =
     ∙ ap (λ n. n + length (payload form later.deeds)) told.bytes
     ∙ ap (λ n. bytes_of form m.1 (done_of (numbers_of st) m.0 m.1) + n) (rest ∙ ap (λ ns. bytes_from form ns ms) told.numbers)
 
+-- How many deeds messages lead to.
+pub all_deeds : (st : State) (soft : Soft) (ms : List (ℕ × Message)) (all : History) → IsState st → Happens st soft (comings ms) all → length all.deeds ≡ count_from (numbers_of st) ms
+all_deeds st soft [] all is happens = ap (λ (h : History). length h.deeds) happens
+all_deeds st soft (m ∷ ms) all is happens =
+    let first : Answer = happens.0 in
+    let mid : State = happens.1.0 in
+    let later : History = happens.1.1.0 in
+    let step : IsStep st soft m.0 m.1 first mid = happens.1.1.1.0 in
+    let told = first_told One st mid soft m.0 m.1 first is step in
+    let rest = all_deeds mid first.soft ms later (step_state st mid soft m.0 m.1 first is step) happens.1.1.1.1.0 in
+    ap (λ (h : History). length h.deeds) happens.1.1.1.1.1
+    ∙ length-append (option_to_list first.deed) later.deeds
+    ∙ ap (λ n. n + length later.deeds) told.count
+    ∙ ap (λ n. count_of (done_of (numbers_of st) m.0 m.1) + n) (rest ∙ ap (λ ns. count_from ns ms) told.numbers)
+
 -- Where all of these deeds have a spelling in the form, so has what is done of the messages;
 pub all_suit : (form : Form) (st : State) (soft : Soft) (ms : List (ℕ × Message)) (all : History) → IsState st → Happens st soft (comings ms) all → All (SuitsForm form) all.deeds → AllSuit form (numbers_of st) ms
 all_suit form st soft [] all is happens suit = tt
@@ -170,3 +190,20 @@ suit_all form st soft (m ∷ ms) all is happens suit =
     let told = first_told form st mid soft m.0 m.1 first is step in
     let rest = suit_all form mid first.soft ms later (step_state st mid soft m.0 m.1 first is step) happens.1.1.1.1.0 (subst (λ ns. AllSuit form ns ms) (sym told.numbers) suit.1) in
     subst (λ (h : History). All (SuitsForm form) h.deeds) (sym happens.1.1.1.1.1) (told.suited later.deeds suit.0 rest)
+
+-- What was counted of messages is what their deeds need.
+need_is : (form : Form) (st : State) (soft : Soft) (ms : List (ℕ × Message)) (o : Option Need) (all : History) → IsState st → Happens st soft (comings ms) all
+    → IfSome o (λ (n : Need). n.bytes ≡ bytes_from form (numbers_of st) ms) → IfSome o (λ (n : Need). n.deeds ≡ count_from (numbers_of st) ms) → IfSome o (λ (n : Need). AllSuit form (numbers_of st) ms)
+    → IfNone o (AllSuit form (numbers_of st) ms → ⊥) → IsNeedOf form all.deeds o
+need_is form st soft ms None all is happens bytes deeds suit none = λ suits. none (all_suit form st soft ms all is happens suits)
+need_is form st soft ms (Some need) all is happens bytes deeds suit none = (
+  deeds ∙ sym (all_deeds st soft ms all is happens),
+  bytes ∙ sym (all_bytes form st soft ms all is happens),
+  suit_all form st soft ms all is happens suit,
+)
+
+-- So it is of a state that is the same.
+pub need_in : (form : Form) (inside st : State) (soft : Soft) (ms : List (ℕ × Message)) (o : Option Need) (all : History) → inside ≡ st → IsState inside → Happens st soft (comings ms) all
+    → IfSome o (λ (n : Need). n.bytes ≡ bytes_from form (numbers_of inside) ms) → IfSome o (λ (n : Need). n.deeds ≡ count_from (numbers_of inside) ms)
+    → IfSome o (λ (n : Need). AllSuit form (numbers_of inside) ms) → IfNone o (AllSuit form (numbers_of inside) ms → ⊥) → IsNeedOf form all.deeds o
+need_in form inside st soft ms o all same is happens = need_is form inside soft ms o all is (subst (λ s. Happens s soft (comings ms) all) (sym same) happens)

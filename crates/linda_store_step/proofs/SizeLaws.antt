@@ -14,7 +14,7 @@ use Rattle.linda_store_step.specs.declared.judge.Verdict.{Verdict}
 use Rattle.linda_store_step.specs.declared.judge.Verdict.TheVariants.{Refused, Repeated, Done}
 use Rattle.linda_store_step.specs.Judge.{demand_of, judge, puts, leaves}
 use Rattle.linda_store_step.proofs.JudgeLaws.{IsFresh, IsVerdict, verdict_means}
-use Rattle.linda_store_step.specs.Size.{Latest, Numbers, latest_of, if_done, done_by, done_of, deed_bytes, numbers_after, bytes_of, bytes_from, SuitsIfDone, Suits, AllSuit, last_behind}
+use Rattle.linda_store_step.specs.Size.{Latest, Numbers, latest_of, if_done, done_by, done_of, deed_bytes, numbers_after, bytes_of, bytes_from, count_of, count_from, SuitsIfDone, Suits, AllSuit, last_behind}
 
 -- ---- what was counted so far
 
@@ -85,6 +85,13 @@ module _ (form : Form) (st : State) (es fs : List (ℕ × Latest)) (c : ℕ) (m 
       ∙ sym (add_assoc bytes (deed_bytes form m) (bytes_from form (numbers_behind st fs k x) ms))
       ∙ ap (λ s. bytes + s + bytes_from form (numbers_behind st fs k x) ms) (sym size_is)
 
+  pub one_more : (count all : ℕ) → all ≡ count + count_from (numbers_behind st es clients next) ((c, m) ∷ ms) → all ≡ count + 1 + count_from (numbers_behind st fs k x) ms
+  one_more count all is =
+      is
+      ∙ ap (λ o. count + (count_of o + count_from (numbers_after (numbers_behind st es clients next) c o) ms)) same_done
+      ∙ ap (λ ns. count + (1 + count_from ns ms)) same_numbers
+      ∙ sym (add_assoc count 1 (count_from (numbers_behind st fs k x) ms))
+
   -- All suit from here on exactly where this one does and the others do.
   pub suit_on : AllSuit form (numbers_behind st es clients next) ((c, m) ∷ ms) → Suits form m × AllSuit form (numbers_behind st fs k x) ms
   suit_on suit =
@@ -115,6 +122,9 @@ module _ (form : Form) (st : State) (es : List (ℕ × Latest)) (c : ℕ) (m : M
   pub passed_on : (bytes total : ℕ) → total ≡ bytes + bytes_from form (numbers_behind st es clients next) ((c, m) ∷ ms)
       → total ≡ bytes + bytes_from form (numbers_behind st es clients next) ms
   passed_on bytes total all = all ∙ ap (λ o. bytes + (bytes_of form m o + bytes_from form (numbers_after (numbers_behind st es clients next) c o) ms)) same_undone ∙ none_more bytes _
+
+  pub count_passed : (count all : ℕ) → all ≡ count + count_from (numbers_behind st es clients next) ((c, m) ∷ ms) → all ≡ count + count_from (numbers_behind st es clients next) ms
+  count_passed count all is = is ∙ ap (λ o. count + (count_of o + count_from (numbers_after (numbers_behind st es clients next) c o) ms)) same_undone ∙ none_more count _
 
   pub suit_passed : AllSuit form (numbers_behind st es clients next) ((c, m) ∷ ms) → AllSuit form (numbers_behind st es clients next) ms
   suit_passed suit = (subst (λ o. SuitsIfDone form m o × AllSuit form (numbers_after (numbers_behind st es clients next) c o) ms) same_undone suit).1

@@ -1,6 +1,6 @@
 -- Sizes of deeds: which messages do one, whether it has a spelling in a form, and how many bytes.
 -- That follows from numbers, from tuples and from who left, so it is known before anything is done.
-use Rattle.std.specs.Prelude.{ℕ, Bool, ◌+◌, ◌==◌, if◌then◌else◌}
+use Rattle.std.specs.Prelude.{◌≡◌, ℕ, Bool, ◌+◌, ◌==◌, if◌then◌else◌, All}
 use Rattle.std.specs.Prelude.{List, [], ◌∷◌, length, Option, Some, None}
 use Rattle.std.specs.FinMap as map
 use Rattle.linda_tuple.specs.declared.form.Form.{Form}
@@ -10,8 +10,10 @@ use Rattle.linda_wire.specs.declared.message.Message.{Message}
 use Rattle.linda_wire.specs.declared.message.Message.TheVariants as messages
 use Rattle.linda_store_state.specs.declared.limits.TheConstants.{HEAD_BYTES, ID_BYTES}
 use Rattle.linda_store_state.specs.State.{State}
-use Rattle.linda_store_state.specs.DeedFormat.{HasLeaves}
+use Rattle.linda_store_state.specs.declared.deed.Deed.{Deed}
+use Rattle.linda_store_state.specs.DeedFormat.{HasLeaves, payload, SuitsForm, IsUnspelled}
 use Rattle.linda_book.specs.Entries.{Entry, left_in, number_in}
+use Rattle.linda_store_step.specs.declared.size.Need.{Need}
 use Rattle.linda_store_step.specs.declared.judge.Demand.{Demand}
 use Rattle.linda_store_step.specs.declared.judge.Standing.{Standing}
 use Rattle.linda_store_step.specs.declared.judge.Verdict.{Verdict}
@@ -83,6 +85,17 @@ bytes_from form ns (m ∷ ms) =
     bytes_of form m.1 (done_of ns m.0 m.1)
     + bytes_from form (numbers_after ns m.0 (done_of ns m.0 m.1)) ms
 
+-- how many deeds that is
+abbrev pub count_of : Option Demand → ℕ
+count_of None = 0
+count_of (Some d) = 1
+
+-- how many deeds are done of messages, one after another
+abbrev pub count_from : Numbers → List (ℕ × Message) → ℕ
+count_from ns [] = 0
+count_from ns (m ∷ ms) =
+    count_of (done_of ns m.0 m.1) + count_from (numbers_after ns m.0 (done_of ns m.0 m.1)) ms
+
 -- The tuple that a message brings, where it brings one, has a spelling in the form, and a Leave
 -- where the form has them.
 abbrev pub Suits : Form → Message → Type 0
@@ -107,3 +120,11 @@ AllSuit form ns (m ∷ ms) =
 abbrev pub last_behind : List (ℕ × Latest) → ℕ → Latest → Latest
 last_behind [] c last = last
 last_behind (e ∷ es) c last = last_behind es c (if e.0 == c then e.1 else last)
+
+-- This is what the deeds need on a bank in the form: how many they are, and how many bytes they
+-- spell; it is none if one of them has no spelling there.
+abbrev pub IsNeedOf : Form → List Deed → Option Need → Type 0
+IsNeedOf form deeds None = IsUnspelled form deeds
+IsNeedOf form deeds (Some need) =
+    (need.deeds ≡ length deeds) × (need.bytes ≡ length (payload form deeds))
+    × All (SuitsForm form) deeds

@@ -37,6 +37,6 @@ pub use promises::{
     takes_hand_over_what_was_put, two_takes_of_a_tuple_are_one, what_is_covered_stays_so,
     what_is_reported_is_kept,
 };
-pub use size::{MAX_BATCH, MAX_GROUP};
+pub use size::{MAX_BATCH, MAX_GROUP, Need};
 pub use step::{Step, Steps};
 pub use store::Store;

@@ -1,5 +1,5 @@
-//! Sizes of the deeds that messages will do, in bytes of a form, and whether each has a spelling
-//! there, known without doing them.
+//! Needs of the deeds that messages will do: how many they are, how many bytes of a form they take,
+//! and whether each has a spelling there, known without doing them.
 //!
 //! Whether a message does a deed follows only from numbers, and from whether its client left: the
 //! last number of its client, how many clients are kept, and the next id. So these are counted on
@@ -10,7 +10,7 @@ ghost use Rattle.linda_store_state.specs.declared.limits.TheConstants.{MAX_DEED_
 ghost use Rattle.linda_store_state.specs.State.{IsState};
 ghost use Rattle.linda_store_step.specs.Judge.{demand_of};
 ghost use Rattle.linda_store_step.specs.Size as spec;
-ghost use Rattle.linda_store_step.specs.Size.{bytes_from, numbers_of, AllSuit, Suits};
+ghost use Rattle.linda_store_step.specs.Size.{bytes_from, count_from, numbers_of, AllSuit, Suits};
 
 use crate::judge::{self, Demand, Standing, Verdict};
 use linda_bag::Bag;
@@ -25,18 +25,30 @@ pub const MAX_BATCH: usize = linda_store_state::MAX_DEEDS;
 /// several records.
 pub const MAX_GROUP: usize = 1024;
 
-/// How many bytes the deeds of the messages spell in the form, each of its client, one after
-/// another; None where one of them has no spelling there.
-pub(crate) fn bytes_of<B: Bag>(
+/// What deeds need on a bank.
+#[derive(Clone, Copy, Debug, PartialEq, Eq)]
+pub struct Need {
+    /// How many deeds there are.
+    pub deeds: usize,
+    /// How many bytes they spell in the form of the bank.
+    pub bytes: usize,
+}
+
+/// What the deeds of the messages need in the form, each of its client, one after another; None if
+/// one of them has no spelling there.
+pub(crate) fn need_of<B: Bag>(
     form: Form,
     state: &State<B>,
     messages: &[(u32, Message)],
-) -> Option<usize>
+) -> Option<Need>
     requires ranges { IsState state.now }
     requires few { length messages.now ≤ MAX_GROUP }
-    ensures bytes { IfSome result (λ bytes.
-        bytes ≡ bytes_from form (numbers_of state.now) messages.now) }
-    ensures suit { IfSome result (λ bytes. AllSuit form (numbers_of state.now) messages.now) }
+    ensures bytes { IfSome result (λ need.
+        need.bytes ≡ bytes_from form (numbers_of state.now) messages.now) }
+    ensures deeds { IfSome result (λ need.
+        need.deeds ≡ count_from (numbers_of state.now) messages.now) }
+    ensures few { IfSome result (λ need. need.deeds ≤ MAX_GROUP) }
+    ensures suit { IfSome result (λ need. AllSuit form (numbers_of state.now) messages.now) }
     ensures none { IfNone result (AllSuit form (numbers_of state.now) messages.now → ⊥) }
 {
     let mut lasts = [(0, (0, false)); MAX_GROUP];
@@ -62,27 +74,36 @@ pub(crate) fn bytes_of<B: Bag>(
         next += u64::from(done.puts());
         bytes += size;
     }
-    Some(bytes)
+    Some(Need {
+        deeds: count,
+        bytes,
+    })
 }
 
-/// How many bytes the deed of the client's message spells in the form, and 0 where it does none;
-/// None where it has no spelling there.
-pub(crate) fn bytes_of_one<B: Bag>(
+/// What the deed of the client's message needs in the form, nothing if it does none; None if it has
+/// no spelling there.
+pub(crate) fn need_of_one<B: Bag>(
     form: Form,
     state: &State<B>,
     client: u32,
     message: &Message,
-) -> Option<usize>
-    ensures bytes { IfSome result (λ bytes.
-        bytes ≡ bytes_from form (numbers_of state.now) ((client, message.now) ∷ [])) }
-    ensures suit { IfSome result (λ bytes.
+) -> Option<Need>
+    ensures bytes { IfSome result (λ need.
+        need.bytes ≡ bytes_from form (numbers_of state.now) ((client, message.now) ∷ [])) }
+    ensures deeds { IfSome result (λ need.
+        need.deeds ≡ count_from (numbers_of state.now) ((client, message.now) ∷ [])) }
+    ensures few { IfSome result (λ need. need.deeds ≤ MAX_GROUP) }
+    ensures suit { IfSome result (λ need.
         AllSuit form (numbers_of state.now) ((client, message.now) ∷ [])) }
     ensures none { IfNone result (AllSuit form (numbers_of state.now) ((client, message.now) ∷ [])
         → ⊥) }
 {
     match done_of(message, Standing::of(state, client)) {
-        Some(_) => deed_bytes(form, message),
-        None => Some(0),
+        Some(_) => match deed_bytes(form, message) {
+            Some(bytes) => Some(Need { deeds: 1, bytes }),
+            None => None,
+        },
+        None => Some(Need { deeds: 0, bytes: 0 }),
     }
 }
 

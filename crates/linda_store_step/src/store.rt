@@ -9,9 +9,10 @@ ghost use Rattle.linda_store_step.specs.Soft.{no_asks};
 ghost use Rattle.linda_store_step.specs.Dispatch.{on_close};
 ghost use Rattle.linda_store_step.specs.Answer.{IsStep};
 ghost use Rattle.linda_store_step.specs.History.{History, Answers, IsOneMore, says, history_of};
+ghost use Rattle.linda_store_step.specs.Size.{IsNeedOf};
 ghost use Rattle.linda_store_step.specs.Store.{IsOrderly};
 
-use crate::size::{self, MAX_GROUP};
+use crate::size::{self, MAX_GROUP, Need};
 use crate::soft::Soft;
 use crate::step::{Step, Steps, answer_message};
 use linda_bag::{Bag, Starts};
@@ -179,9 +180,8 @@ impl<B: Bag> Store<B> {
     }
 
     /// How many bytes the deeds of the messages will spell in the form, each of its client, one
-    /// after another, as
-    /// `step_all` does them; None where one of them will have no spelling there. Takes no memory,
-    /// and changes nothing.
+    /// after another, as `step_all` does them; None if one of them will have no spelling there.
+    /// Takes no memory, and changes nothing.
     pub fn size_of(&self, form: Form, messages: &[(u32, Message)]) -> Option<u64>
         requires { length messages.now ≤ MAX_GROUP }
         ensures bytes { (all : History) → Answers self.now.state self.now.soft messages.now all
@@ -192,31 +192,36 @@ impl<B: Bag> Store<B> {
             → IfNone result (IsUnspelled form all.deeds) }
         ensures orderly { IsOrderly self.now.state self.now.soft }
     {
-        match size::bytes_of(form, &self.state, messages) {
-            Some(bytes) => Some(bytes as u64),
+        match self.need_of(form, messages) {
+            Some(need) => Some(need.bytes as u64),
             None => None,
         }
     }
 
-    /// How many bytes the deed of the client's message will spell in the form, as `step` does it,
-    /// and 0 where it will do none; None where it will have no spelling there. Takes no memory, and
-    /// changes nothing.
-    pub fn size_of_one(&self, form: Form, client: u32, message: &Message) -> Option<u64>
-        ensures bytes { (all : History)
-            → Answers self.now.state self.now.soft ((client, message.now) ∷ []) all
-            → IfSome result (λ size. size ≡ length (payload form all.deeds)) }
-        ensures suit { (all : History)
-            → Answers self.now.state self.now.soft ((client, message.now) ∷ []) all
-            → IfSome result (λ size. All (SuitsForm form) all.deeds) }
-        ensures none { (all : History)
-            → Answers self.now.state self.now.soft ((client, message.now) ∷ []) all
-            → IfNone result (IsUnspelled form all.deeds) }
+    /// What the deeds of the messages will need in the form, each of its client, one after another,
+    /// as `step_all` does them; None if one of them will have no spelling there. Takes no memory,
+    /// and changes nothing.
+    pub fn need_of(&self, form: Form, messages: &[(u32, Message)]) -> Option<Need>
+        requires { length messages.now ≤ MAX_GROUP }
+        ensures need { (all : History) → Answers self.now.state self.now.soft messages.now all
+            → IsNeedOf form all.deeds result }
+        ensures few { IfSome result (λ need. need.deeds ≤ MAX_GROUP) }
         ensures orderly { IsOrderly self.now.state self.now.soft }
     {
-        match size::bytes_of_one(form, &self.state, client, message) {
-            Some(bytes) => Some(bytes as u64),
-            None => None,
-        }
+        size::need_of(form, &self.state, messages)
+    }
+
+    /// What the deed of the client's message will need in the form, as `step` does it, and nothing
+    /// if it will do none; None if it will have no spelling there. Takes no memory, and changes
+    /// nothing.
+    pub fn need_of_one(&self, form: Form, client: u32, message: &Message) -> Option<Need>
+        ensures need { (all : History)
+            → Answers self.now.state self.now.soft ((client, message.now) ∷ []) all
+            → IsNeedOf form all.deeds result }
+        ensures few { IfSome result (λ need. need.deeds ≤ MAX_GROUP) }
+        ensures orderly { IsOrderly self.now.state self.now.soft }
+    {
+        size::need_of_one(form, &self.state, client, message)
     }
 
     // Does one message more.

@@ -1,7 +1,7 @@
 //! Serving messages: judged, done, and put onto the bank in use before anything is answered.
 
 ghost use Rattle.std.specs.Prelude.{◌≡◌, ◌∷◌, [], ◌<◌, ◌≤◌, ◌+◌, ◌↔◌};
-ghost use Rattle.std.specs.Prelude.{ℕ, true, false, length, All, IfOk, IfErr, IfSome, IfNone, OnOk};
+ghost use Rattle.std.specs.Prelude.{ℕ, true, false, length, All, IfOk, IfErr, IfSome, OnOk};
 ghost use Rattle.std.specs.Prelude.{OnErr};
 ghost use Rattle.std.specs.Prelude.{IsErrOf, is_some};
 ghost use Rattle.linda_disk.specs.Disk.{TellsFailures};
@@ -16,17 +16,19 @@ use crate::commit::commit;
 use crate::fault::ServeFault;
 use crate::next::{noted, spared, unless_spent};
 use crate::served::Served;
-use crate::serving::{Batch, count_of, serve};
+use crate::serving::{Batch, serve};
 use linda_disk::Disk;
 use linda_journal::{GATE_BYTES, RECORD_HEAD, records_for};
 use linda_moment::Moment;
+use linda_store_step::Need;
 use linda_wire::Message;
 use std::alloc::Global;
 use std::mem;
 
 impl<D: Disk> Durable<D> {
     ghost use Rattle.linda_store_state.specs.State.{IsState};
-    ghost use Rattle.linda_store_state.specs.DeedFormat.{payload, SuitsForm, IsUnspelled};
+    ghost use Rattle.linda_store_state.specs.DeedFormat.{payload, SuitsForm};
+    ghost use Rattle.linda_store_step.specs.Size.{IsNeedOf};
     ghost use Rattle.linda_store_step.specs.declared.size.TheConstants.{MAX_GROUP};
     ghost use Rattle.linda_store_step.specs.History.{History, Answers};
     ghost use Rattle.linda_store_step.specs.Store.{IsOrderly};
@@ -76,9 +78,8 @@ impl<D: Disk> Durable<D> {
         requires { length (messages_of batch) ≤ MAX_GROUP }
         ensures { Serves self.old (messages_of batch.entry) result self.new }
     {
-        let size = self.size_of(batch);
-        let count = count_of(batch);
-        self.admit(size, count)?;
+        let need = self.need_of(batch);
+        self.admit(need)?;
         self.begin();
         let next = mem::replace(&mut self.next, None);
         self.next = unless_spent(spared(next, alloc, self.store.state(), batch));
@@ -88,49 +89,43 @@ impl<D: Disk> Durable<D> {
         self.settle(alloc, served)
     }
 
-    // How many bytes the deeds of the messages will spell in the form of the bank in use; None
-    // where one of them will have no spelling there.
-    fn size_of(&self, batch: Batch<'_>) -> Option<u64>
+    // What the deeds of the messages will need on the bank in use; None if one of them will have no
+    // spelling in its form.
+    fn need_of(&self, batch: Batch<'_>) -> Option<Need>
         requires { length (messages_of batch) ≤ MAX_GROUP }
-        ensures bytes { (all : History)
+        ensures need { (all : History)
             → Answers self.now.store.state self.now.store.soft (messages_of batch.entry) all
-            → IfSome result (λ size.
-            size ≡ length (payload (form_in_use self.now.disks) all.deeds)) }
-        ensures suit { (all : History)
-            → Answers self.now.store.state self.now.store.soft (messages_of batch.entry) all
-            → IfSome result (λ size. All (SuitsForm (form_in_use self.now.disks)) all.deeds) }
-        ensures none { (all : History)
-            → Answers self.now.store.state self.now.store.soft (messages_of batch.entry) all
-            → IfNone result (IsUnspelled (form_in_use self.now.disks) all.deeds) }
+            → IsNeedOf (form_in_use self.now.disks) all.deeds result }
+        ensures few { IfSome result (λ need. need.deeds ≤ MAX_GROUP) }
         ensures orderly { IsOrderly self.now.store.state self.now.store.soft }
     {
         let form = self.disks.form();
         match batch {
-            Batch::One(client, message) => self.store.size_of_one(form, client, message),
-            Batch::Many(messages) => self.store.size_of(form, messages),
+            Batch::One(client, message) => self.store.need_of_one(form, client, message),
+            Batch::Many(messages) => self.store.need_of(form, messages),
         }
     }
 
-    // Whether it may do deeds of this size, so many at most; the size is None if one of them has
-    // no spelling in the form of the bank in use.
-    fn admit(&self, size: Option<u64>, most: usize) -> Result<(), ServeFault>
-        requires { most ≤ MAX_GROUP }
+    // Whether it may do deeds that need this; it is None if one of them has no spelling in the form
+    // of the bank in use.
+    fn admit(&self, need: Option<Need>) -> Result<(), ServeFault>
+        requires { IfSome need (λ need. need.deeds ≤ MAX_GROUP) }
         ensures was_down { IsErrOf result ServeFault.Down ↔ (self.now.down ≡ true) }
-        ensures full { IsErrOf result ServeFault.Full → IfSome size (λ bytes. (0 < bytes)
-            × (self.now.limit < end_in_use self.now.disks + room_for most bytes)) }
-        ensures room { OnOk result (IfSome size (λ bytes. 0 < bytes
-            → end_in_use self.now.disks + room_for most bytes ≤ self.now.limit)) }
-        ensures spelled { OnOk result (is_some size ≡ true) }
+        ensures full { IsErrOf result ServeFault.Full → IfSome need (λ need. (0 < need.deeds)
+            × (self.now.limit < end_in_use self.now.disks + room_for need.deeds need.bytes)) }
+        ensures room { OnOk result (IfSome need (λ need. 0 < need.deeds
+            → end_in_use self.now.disks + room_for need.deeds need.bytes ≤ self.now.limit)) }
+        ensures spelled { OnOk result (is_some need ≡ true) }
         ensures known { (IsErrOf result ServeFault.Disk → ⊥)
             × (IsErrOf result ServeFault.Memory → ⊥) }
     {
         if self.down {
             return Err(ServeFault::Down);
         }
-        let Some(size) = size else {
+        let Some(need) = need else {
             return Err(ServeFault::Full);
         };
-        if !has_room(self.limit, self.disks.end(), most, size) {
+        if !has_room(self.limit, self.disks.end(), need) {
             return Err(ServeFault::Full);
         }
         Ok(())
@@ -206,19 +201,20 @@ impl<D: Disk> Durable<D> {
     }
 }
 
-// Whether as many records as so many deeds take, of this size, and the gate after them, keep within
-// the limit, if there are deeds.
-fn has_room(limit: usize, end: usize, most: usize, size: u64) -> bool
-    requires { most ≤ MAX_GROUP }
-    ensures yes { result ≡ true → 0 < size → end + room_for most size ≤ limit }
-    ensures no { result ≡ false → (0 < size) × (limit < end + room_for most size) }
+// Whether the records of deeds that need this, and the gate after them, keep within the limit, if
+// there are deeds.
+fn has_room(limit: usize, end: usize, need: Need) -> bool
+    requires { need.deeds ≤ MAX_GROUP }
+    ensures yes { result ≡ true → 0 < need.deeds → end + room_for need.deeds need.bytes ≤ limit }
+    ensures no { result ≡ false → (0 < need.deeds)
+        × (limit < end + room_for need.deeds need.bytes) }
 {
-    if size == 0 {
+    if need.deeds == 0 {
         return true;
     }
-    let heads = RECORD_HEAD * records_for(most) + GATE_BYTES;
+    let heads = RECORD_HEAD * records_for(need.deeds) + GATE_BYTES;
     let Some(start) = end.checked_add(heads) else {
         return false;
     };
-    start <= limit && size <= (limit - start) as u64
+    start <= limit && need.bytes <= limit - start
 }

@@ -1,35 +1,20 @@
-use Rattle.linda_disk.proofs.RunLaws.{goes_on}
-use Rattle.linda_journal.specs.Renewal.{IsNoBank}
+-- One write after what is written.
+use Rattle.std.proofs.Common.{length}
+use Rattle.linda_disk.specs.declared.fault.DiskFault.TheVariants.{Device}
+use Rattle.linda_disk.specs.Runs.{anything, takes}
+use Rattle.linda_disk.proofs.RunsLaws.{runs_by, on_both}
+use Rattle.linda_journal.specs.Renewal.{fills}
 use Rattle.linda_journal.proofs.FillingLaws.{step_run, step_filled}
 use Rattle.linda_journal.proofs.filling.fill_more.Goals as goal
 
-pub returns-in_err-write_at-clause-any_moment : goal.returns-in_err-write_at-clause-any_moment
-returns-in_err-write_at-clause-any_moment g c front honest filled =
-    step_run front c.args.at c.args.bytes.now c.write_at.result (g.D.Disk.view c.args.disk.now) (g.D.Disk.view c.write_at.new.self)
-    (g.met.D.Disk.timed c.args.disk.now honest) filled (c.write_at.ensures.writes honest)
-
-pub returns-in_err-sync-clause-any_moment : goal.returns-in_err-sync-clause-any_moment
-returns-in_err-sync-clause-any_moment g c front honest filled =
+pub returns-clause-runs : goal.returns-clause-runs
+returns-clause-runs g c =
     let old = g.D.Disk.view c.args.disk.now in
-    let mid = g.D.Disk.view c.write_at.new.self in
-    let syncs = c.sync.ensures.syncs (c.write_at.ensures.honest.0 honest) in
-    let run = step_run front c.args.at c.args.bytes.now c.write_at.result old mid (g.met.D.Disk.timed c.args.disk.now honest) filled (c.write_at.ensures.writes honest) in
-    let timed = g.met.D.Disk.timed c.write_at.new.self (c.write_at.ensures.honest.0 honest) in
-    goes_on old mid (g.D.Disk.view c.sync.new.self) IsNoBank run syncs.time
-    (λ image left. run.each image (timed.counts_now old.moment image run.later (syncs.crash image left)))
+    let new = g.D.Disk.view c.write_synced.new.disk in
+    runs_by g.D.Disk anything (fills c.args.at) (takes 2) Device c.args.disk.now c.write_synced.result c.write_synced.new.disk c.write_synced.ensures.runs
+    (λ h any front filled. step_run front c.args.at (length c.args.bytes.now) old new filled ((c.write_synced.ensures.writes h).any_moment filled.durable))
 
 pub returns-clause-filled : goal.returns-clause-filled
 returns-clause-filled g c front honest filled =
-    let syncs = c.in_ok-sync.ensures.syncs (c.write_at.ensures.honest.0 honest) in
-    step_filled front c.args.at c.args.bytes.now (g.D.Disk.view c.args.disk.now) (g.D.Disk.view c.write_at.new.self) (g.D.Disk.view c.sync.new.self)
-    filled (c.in_ok-write_at.ensures.writes honest).seen syncs.seen syncs.durable
-
-pub returns-clause-any_moment : goal.returns-clause-any_moment
-returns-clause-any_moment g c front honest filled =
-    let old = g.D.Disk.view c.args.disk.now in
-    let mid = g.D.Disk.view c.write_at.new.self in
-    let syncs = c.sync.ensures.syncs (c.write_at.ensures.honest.0 honest) in
-    let run = step_run front c.args.at c.args.bytes.now c.write_at.result old mid (g.met.D.Disk.timed c.args.disk.now honest) filled (c.write_at.ensures.writes honest) in
-    let timed = g.met.D.Disk.timed c.write_at.new.self (c.write_at.ensures.honest.0 honest) in
-    goes_on old mid (g.D.Disk.view c.sync.new.self) IsNoBank run syncs.time
-    (λ image left. run.each image (timed.counts_now old.moment image run.later (syncs.crash image left)))
+    let writes = c.write_synced.ensures.writes honest in
+    on_both _ _ _ c.write_synced.result writes.seen writes.durable (step_filled front c.args.at c.args.bytes.now (g.D.Disk.view c.args.disk.now) (g.D.Disk.view c.write_synced.new.disk) filled)

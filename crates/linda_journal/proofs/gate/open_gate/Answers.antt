@@ -1,37 +1,29 @@
-use Rattle.linda_journal.specs.Gate.{IsClosedOrOpened}
-use Rattle.linda_journal.proofs.GateLaws.{write_open, then_sync, shut_now}
-use Rattle.std.proofs.lemmas.Result.{err_from_is_err_and}
-use Rattle.linda_disk.proofs.CauseLaws.{fails_on}
+-- One write of the gate.
+use Rattle.std.proofs.Common.{◌≡◌, ◌∷◌, [], length, ap, arith}
+use Rattle.linda_journal.specs.declared.kinds.TheConstants.{OPEN}
+use Rattle.linda_store_state.proofs.DoneLaws.{on_ok}
+use Rattle.linda_disk.specs.HistoryLaws.{length-overlay}
+use Rattle.linda_disk.specs.declared.fault.DiskFault.TheVariants.{Device}
+use Rattle.linda_disk.specs.Runs.{anything, takes}
+use Rattle.linda_disk.proofs.RunsLaws.{runs_by, on_both}
+use Rattle.linda_journal.specs.Gate.{opens}
+use Rattle.linda_journal.proofs.GateLaws.{write_open, shut_now}
 use Rattle.linda_journal.proofs.gate.open_gate.Goals as goal
 
-pub returns-in_err-write_at-clause-any_moment : goal.returns-in_err-write_at-clause-any_moment
-returns-in_err-write_at-clause-any_moment g c front body honest ready =
-    write_open front c.args.gate body _ (g.D.Disk.view c.args.disk.now) (g.D.Disk.view c.write_at.new.self) ready (g.met.D.Disk.timed c.args.disk.now honest) (c.write_at.ensures.writes honest)
-
-pub returns-in_err-sync-clause-any_moment : goal.returns-in_err-sync-clause-any_moment
-returns-in_err-sync-clause-any_moment g c front body honest ready =
+pub returns-clause-runs : goal.returns-clause-runs
+returns-clause-runs g c =
     let old = g.D.Disk.view c.args.disk.now in
-    let mid = g.D.Disk.view c.write_at.new.self in
-    let run = write_open front c.args.gate body _ old mid ready (g.met.D.Disk.timed c.args.disk.now honest) (c.write_at.ensures.writes honest) in
-    let still = c.write_at.ensures.honest.0 honest in
-    then_sync _ old mid (g.D.Disk.view c.sync.new.self) (IsClosedOrOpened front body) run (g.met.D.Disk.timed c.write_at.new.self still) (c.sync.ensures.syncs still)
-
-pub returns-clause-any_moment : goal.returns-clause-any_moment
-returns-clause-any_moment g c front body honest ready =
-    let old = g.D.Disk.view c.args.disk.now in
-    let mid = g.D.Disk.view c.write_at.new.self in
-    let run = write_open front c.args.gate body _ old mid ready (g.met.D.Disk.timed c.args.disk.now honest) (c.write_at.ensures.writes honest) in
-    let still = c.write_at.ensures.honest.0 honest in
-    then_sync _ old mid (g.D.Disk.view c.sync.new.self) (IsClosedOrOpened front body) run (g.met.D.Disk.timed c.write_at.new.self still) (c.sync.ensures.syncs still)
+    let new = g.D.Disk.view c.write_synced.new.disk in
+    runs_by g.D.Disk anything (opens c.args.gate) (takes 2) Device c.args.disk.now c.write_synced.result c.write_synced.new.disk c.write_synced.ensures.runs
+    (λ h any front body ready. write_open front body c.args.gate old new ready ((c.write_synced.ensures.writes h).any_moment ready.durable))
 
 pub returns-clause-opened : goal.returns-clause-opened
 returns-clause-opened g c front body honest ready =
-    let writes = c.in_ok-write_at.ensures.writes honest in
-    let syncs = c.in_ok-sync.ensures.syncs (c.write_at.ensures.honest.0 honest) in
-    shut_now front body c.args.gate (g.D.Disk.view c.args.disk.now) (g.D.Disk.view c.write_at.new.self) (g.D.Disk.view c.sync.new.self) ready writes.seen syncs.seen syncs.durable
+    let writes = c.write_synced.ensures.writes honest in
+    on_both _ _ _ c.write_synced.result writes.seen writes.durable (shut_now front body c.args.gate (g.D.Disk.view c.args.disk.now) (g.D.Disk.view c.write_synced.new.disk) ready)
 
-pub returns-in_err-sync-clause-cause : goal.returns-in_err-sync-clause-cause
-returns-in_err-sync-clause-cause g c =
-    let p = err_from_is_err_and c.from_residual-in_err-sync.result c.from_residual-in_err-sync.ensures.1 in
-    let count = g.D.Disk.failures in
-    rw (p.1, p.2) (fails_on c.in_err-sync.field-0.0 (count c.args.disk.now) (count c.write_at.new.self) (count c.sync.new.self) c.in_ok-write_at.ensures.cause.ok c.in_err-sync.ensures.cause)
+pub returns-clause-long : goal.returns-clause-long
+returns-clause-long g c honest =
+    let old = g.D.Disk.view c.args.disk.now in
+    let within = c.requires honest in
+    on_ok _ _ c.write_synced.result (λ seen. let all = ap length seen in let long = length-overlay c.args.gate (OPEN ∷ []) old.seen (omega (arith, within)) in omega (arith, all, long, within)) (c.write_synced.ensures.writes honest).seen

@@ -1,37 +1,20 @@
-use Rattle.linda_journal.specs.Gate.{ClosesAfter}
-use Rattle.linda_journal.proofs.GateLaws.{write_behind, then_sync, ready_now}
-use Rattle.std.proofs.lemmas.Result.{err_from_is_err_and}
-use Rattle.linda_disk.proofs.CauseLaws.{fails_on}
+-- One write after the gate.
+use Rattle.std.proofs.Common.{length}
+use Rattle.linda_disk.specs.declared.fault.DiskFault.TheVariants.{Device}
+use Rattle.linda_disk.specs.Runs.{anything, takes}
+use Rattle.linda_disk.proofs.RunsLaws.{runs_by, on_both}
+use Rattle.linda_journal.specs.Gate.{stays_shut}
+use Rattle.linda_journal.proofs.GateLaws.{write_behind, ready_now}
 use Rattle.linda_journal.proofs.gate.stage.Goals as goal
 
-pub returns-in_err-write_at-clause-any_moment : goal.returns-in_err-write_at-clause-any_moment
-returns-in_err-write_at-clause-any_moment g c front honest shut =
-    write_behind front c.args.gate c.args.bytes.now _ (g.D.Disk.view c.args.disk.now) (g.D.Disk.view c.write_at.new.self) shut (g.met.D.Disk.timed c.args.disk.now honest) (c.write_at.ensures.writes honest)
-
-pub returns-in_err-sync-clause-any_moment : goal.returns-in_err-sync-clause-any_moment
-returns-in_err-sync-clause-any_moment g c front honest shut =
+pub returns-clause-runs : goal.returns-clause-runs
+returns-clause-runs g c =
     let old = g.D.Disk.view c.args.disk.now in
-    let mid = g.D.Disk.view c.write_at.new.self in
-    let run = write_behind front c.args.gate c.args.bytes.now _ old mid shut (g.met.D.Disk.timed c.args.disk.now honest) (c.write_at.ensures.writes honest) in
-    let still = c.write_at.ensures.honest.0 honest in
-    then_sync _ old mid (g.D.Disk.view c.sync.new.self) (ClosesAfter front) run (g.met.D.Disk.timed c.write_at.new.self still) (c.sync.ensures.syncs still)
-
-pub returns-clause-any_moment : goal.returns-clause-any_moment
-returns-clause-any_moment g c front honest shut =
-    let old = g.D.Disk.view c.args.disk.now in
-    let mid = g.D.Disk.view c.write_at.new.self in
-    let run = write_behind front c.args.gate c.args.bytes.now _ old mid shut (g.met.D.Disk.timed c.args.disk.now honest) (c.write_at.ensures.writes honest) in
-    let still = c.write_at.ensures.honest.0 honest in
-    then_sync _ old mid (g.D.Disk.view c.sync.new.self) (ClosesAfter front) run (g.met.D.Disk.timed c.write_at.new.self still) (c.sync.ensures.syncs still)
+    let new = g.D.Disk.view c.write_synced.new.disk in
+    runs_by g.D.Disk anything (stays_shut c.args.gate) (takes 2) Device c.args.disk.now c.write_synced.result c.write_synced.new.disk c.write_synced.ensures.runs
+    (λ h any front shut. write_behind front c.args.gate (length c.args.bytes.now) old new shut ((c.write_synced.ensures.writes h).any_moment shut.durable))
 
 pub returns-clause-ready : goal.returns-clause-ready
 returns-clause-ready g c front body is honest shut =
-    let writes = c.in_ok-write_at.ensures.writes honest in
-    let syncs = c.in_ok-sync.ensures.syncs (c.write_at.ensures.honest.0 honest) in
-    ready_now front body c.args.gate c.args.bytes.now (g.D.Disk.view c.args.disk.now) (g.D.Disk.view c.write_at.new.self) (g.D.Disk.view c.sync.new.self) shut is writes.seen syncs.seen syncs.durable
-
-pub returns-in_err-sync-clause-cause : goal.returns-in_err-sync-clause-cause
-returns-in_err-sync-clause-cause g c =
-    let p = err_from_is_err_and c.from_residual-in_err-sync.result c.from_residual-in_err-sync.ensures.1 in
-    let count = g.D.Disk.failures in
-    rw (p.1, p.2) (fails_on c.in_err-sync.field-0.0 (count c.args.disk.now) (count c.write_at.new.self) (count c.sync.new.self) c.in_ok-write_at.ensures.cause.ok c.in_err-sync.ensures.cause)
+    let writes = c.write_synced.ensures.writes honest in
+    on_both _ _ _ c.write_synced.result writes.seen writes.durable (ready_now front body c.args.gate c.args.bytes.now (g.D.Disk.view c.args.disk.now) (g.D.Disk.view c.write_synced.new.disk) shut is)

@@ -1,56 +1,40 @@
-use Rattle.std.proofs.Common.{[], refl, ◌∙◌}
-use Rattle.linda_journal.proofs.GateLaws.{laid_first, laid_staged, laid_opened}
+-- The gate is laid, and then the body is put after it.
+use Rattle.std.proofs.Common.{[], ◌+◌, arith}
 use Rattle.std.proofs.lemmas.Result.{err_from_is_err_and}
-use Rattle.linda_journal.proofs.CauseLaws.{device_told}
+use Rattle.linda_disk.specs.declared.fault.DiskFault.TheVariants.{Device}
+use Rattle.linda_disk.proofs.RunsLaws.{broken_by, done_on, broken_on}
+use Rattle.linda_journal.specs.declared.fault.BankFault.TheVariants as banks
+use Rattle.linda_journal.specs.Faults.{fault_of_disk}
+use Rattle.linda_journal.specs.Gate.{inscribes}
+use Rattle.linda_journal.proofs.GateLaws.{laid_first, laid_put}
+use Rattle.linda_journal.proofs.CauseLaws.{disk_failed}
 use Rattle.linda_journal.proofs.making.inscribe.Goals as goal
 
-pub returns-in_err-lay_gate-clause-any_moment : goal.returns-in_err-lay_gate-clause-any_moment
-returns-in_err-lay_gate-clause-any_moment g c body is honest durable empty =
-    laid_first body (g.D.Disk.view c.args.disk.now) (g.D.Disk.view c.lay_gate.new.disk) (c.lay_gate.ensures.any_moment honest durable empty)
+pub returns-in_err-lay_gate-clause-runs : goal.returns-in_err-lay_gate-clause-runs
+returns-in_err-lay_gate-clause-runs g c =
+    let p = err_from_is_err_and c.from_residual.result c.from_residual.ensures.1 in
+    let fault = c.in_err-lay_gate.field-0.0 in
+    rw (p.1, p.2)
+    (broken_by g.D.Disk Device fault banks.Disk (fault_of_disk fault) c.args.disk.now c.lay_gate.new.disk c.in_err-lay_gate.ensures.runs (disk_failed fault)
+    (λ honest lays body is durable empty. laid_first body (g.D.Disk.view c.args.disk.now) (g.D.Disk.view c.lay_gate.new.disk) (lays durable empty)))
 
-pub returns-in_err-stage-clause-any_moment : goal.returns-in_err-stage-clause-any_moment
-returns-in_err-stage-clause-any_moment g c body is honest durable empty =
-    laid_staged body (g.D.Disk.view c.args.disk.now) (g.D.Disk.view c.lay_gate.new.disk) (g.D.Disk.view c.stage.new.disk) (c.lay_gate.ensures.any_moment honest durable empty)
-    (c.stage.ensures.any_moment [] (c.lay_gate.ensures.honest.0 honest) (c.in_ok-lay_gate.ensures.shut honest))
+pub returns-in_err-put-clause-runs : goal.returns-in_err-put-clause-runs
+returns-in_err-put-clause-runs g c =
+    let p = err_from_is_err_and c.from_residual-in_err-put.result c.from_residual-in_err-put.ensures.1 in
+    let view = g.D.Disk.view in
+    let fault = c.in_err-put.field-0.0 in
+    rw (p.1, p.2)
+    (broken_by g.D.Disk {law = inscribes c.args.bytes.now} Device fault banks.Disk (fault_of_disk fault) c.args.disk.now c.put.new.disk
+    (broken_on g.D.Disk Device fault c.args.disk.now c.lay_gate.new.disk c.put.new.disk c.in_ok-lay_gate.ensures.runs c.in_err-put.ensures.runs
+    (λ honest still lays puts body is durable empty. laid_put body (view c.args.disk.now) (view c.lay_gate.new.disk) (view c.put.new.disk) (lays durable empty) (puts [] body is (c.in_ok-lay_gate.ensures.shut honest))))
+    (disk_failed fault) (λ honest law. law))
 
-pub returns-in_err-open_gate-clause-any_moment : goal.returns-in_err-open_gate-clause-any_moment
-returns-in_err-open_gate-clause-any_moment g c body is honest durable empty =
-    let old = g.D.Disk.view c.args.disk.now in
-    let mid = g.D.Disk.view c.stage.new.disk in
-    let still = c.lay_gate.ensures.honest.0 honest in
-    let shut = c.in_ok-lay_gate.ensures.shut honest in
-    let run = laid_staged body old (g.D.Disk.view c.lay_gate.new.disk) mid (c.lay_gate.ensures.any_moment honest durable empty) (c.stage.ensures.any_moment [] still shut) in
-    laid_opened body old mid (g.D.Disk.view c.open_gate.new.disk) run (c.open_gate.ensures.any_moment [] body (c.stage.ensures.honest.0 still) (c.in_ok-stage.ensures.ready [] body is still shut))
-
-pub returns-clause-any_moment : goal.returns-clause-any_moment
-returns-clause-any_moment g c body is honest durable empty =
-    let old = g.D.Disk.view c.args.disk.now in
-    let mid = g.D.Disk.view c.stage.new.disk in
-    let still = c.lay_gate.ensures.honest.0 honest in
-    let shut = c.in_ok-lay_gate.ensures.shut honest in
-    let run = laid_staged body old (g.D.Disk.view c.lay_gate.new.disk) mid (c.lay_gate.ensures.any_moment honest durable empty) (c.stage.ensures.any_moment [] still shut) in
-    laid_opened body old mid (g.D.Disk.view c.open_gate.new.disk) run (c.open_gate.ensures.any_moment [] body (c.stage.ensures.honest.0 still) (c.in_ok-stage.ensures.ready [] body is still shut))
+pub returns-clause-runs : goal.returns-clause-runs
+returns-clause-runs g c =
+    let view = g.D.Disk.view in
+    done_on g.D.Disk c.args.disk.now c.lay_gate.new.disk c.put.new.disk c.in_ok-lay_gate.ensures.runs c.in_ok-put.ensures.runs
+    (λ honest still lays puts body is durable empty. laid_put body (view c.args.disk.now) (view c.lay_gate.new.disk) (view c.put.new.disk) (lays durable empty) (puts [] body is (c.in_ok-lay_gate.ensures.shut honest)))
+    (λ honest two four. omega (arith, two, four))
 
 pub returns-clause-done : goal.returns-clause-done
-returns-clause-done g c body is honest =
-    let still = c.lay_gate.ensures.honest.0 honest in
-    let ready = c.in_ok-stage.ensures.ready [] body is still (c.in_ok-lay_gate.ensures.shut honest) in
-    c.in_ok-open_gate.ensures.opened [] body (c.stage.ensures.honest.0 still) ready
-
-pub returns-in_err-lay_gate-clause-cause : goal.returns-in_err-lay_gate-clause-cause
-returns-in_err-lay_gate-clause-cause g c =
-    let p = err_from_is_err_and c.from_residual.result c.from_residual.ensures.1 in
-    let count = g.D.Disk.failures in
-    rw (p.1, p.2) (device_told c.in_err-lay_gate.field-0.0 (count c.args.disk.now) (count c.args.disk.now) (count c.lay_gate.new.disk) refl c.in_err-lay_gate.ensures.cause)
-
-pub returns-in_err-stage-clause-cause : goal.returns-in_err-stage-clause-cause
-returns-in_err-stage-clause-cause g c =
-    let p = err_from_is_err_and c.from_residual-in_err-stage.result c.from_residual-in_err-stage.ensures.1 in
-    let count = g.D.Disk.failures in
-    rw (p.1, p.2) (device_told c.in_err-stage.field-0.0 (count c.args.disk.now) (count c.lay_gate.new.disk) (count c.stage.new.disk) c.in_ok-lay_gate.ensures.cause.ok c.in_err-stage.ensures.cause)
-
-pub returns-in_err-open_gate-clause-cause : goal.returns-in_err-open_gate-clause-cause
-returns-in_err-open_gate-clause-cause g c =
-    let p = err_from_is_err_and c.from_residual-in_err-open_gate.result c.from_residual-in_err-open_gate.ensures.1 in
-    let count = g.D.Disk.failures in
-    rw (p.1, p.2) (device_told c.in_err-open_gate.field-0.0 (count c.args.disk.now) (count c.stage.new.disk) (count c.open_gate.new.disk) (c.in_ok-stage.ensures.cause.ok ∙ c.in_ok-lay_gate.ensures.cause.ok) c.in_err-open_gate.ensures.cause)
+returns-clause-done g c body is honest = c.in_ok-put.ensures.done [] body is (c.in_ok-lay_gate.ensures.runs.honest.0 honest) (c.in_ok-lay_gate.ensures.shut honest)

@@ -1,6 +1,8 @@
 use Rattle.std.proofs.Common.{◌≡◌, ◌+◌, inl, inr, ◌++◌, length, take, refl, sym, ap, subst, ◌∙◌, arith}
 use Rattle.std.proofs.lemmas.List.{take-append-drop, length-take, length-append}
 use Rattle.linda_journal.proofs.RenewalLaws.{IsWrittenTo, pieces_counted, none_written, piece_within, piece_run, one_piece_more, all_seen}
+use Rattle.std.proofs.lemmas.Result.{err_from_is_err_and}
+use Rattle.linda_journal.proofs.CauseLaws.{fault_told}
 use Rattle.linda_journal.proofs.whole.write_pieces.Goals as goal
 
 pub loop-rest-init : goal.loop-rest-init
@@ -23,11 +25,19 @@ write_at-requires-2 g c still =
     let honest = c.loop-rest.invariant.2.1 still in
     piece_within c.args.bytes.now (g.D.Disk.view c.args.disk.now) (g.D.Disk.view c.loop-rest.disk) c.loop-rest.at c.loop-rest.rest.now (c.requires.closed honest).0 (c.loop-rest.invariant.0 honest)
 
-pub returns-in_err-write_at-clause-any_moment : goal.returns-in_err-write_at-clause-any_moment
-returns-in_err-write_at-clause-any_moment g c honest =
-    let still = c.loop-rest.invariant.2.0 honest in
-    piece_run c.args.bytes.now (g.D.Disk.view c.args.disk.now) (g.D.Disk.view c.loop-rest.disk) (g.D.Disk.view c.write_at.new.self) c.loop-rest.at c.loop-rest.rest.now c.split_at.result.0.now c.write_at.result
-    (g.met.D.Disk.timed c.loop-rest.disk still) (c.loop-rest.invariant.0 honest) (c.write_at.ensures.writes still)
+pub returns-in_err-write_at-clause-runs : goal.returns-in_err-write_at-clause-runs
+returns-in_err-write_at-clause-runs g c =
+    let l = c.loop-rest in
+    let fault = c.in_err-write_at.field-0.0 in
+    let p = err_from_is_err_and c.from_residual.result c.from_residual.ensures.1 in
+    rw (p.1, p.2) (record {
+      honest = ((λ h. c.write_at.ensures.honest.0 (l.invariant.2.0 h)), (λ h. l.invariant.2.1 (c.write_at.ensures.honest.1 h)));
+      cause = fault_told fault (g.D.Disk.failures c.args.disk.now) (g.D.Disk.failures l.disk) (g.D.Disk.failures c.write_at.new.self) l.invariant.3 c.in_err-write_at.ensures.cause;
+      any_moment = λ honest.
+          let still = l.invariant.2.0 honest in
+          piece_run c.args.bytes.now (g.D.Disk.view c.args.disk.now) (g.D.Disk.view l.disk) (g.D.Disk.view c.write_at.new.self) l.at l.rest.now c.split_at.result.0.now c.write_at.result
+          (g.met.D.Disk.timed l.disk still) (l.invariant.0 honest) (c.write_at.ensures.writes still);
+    })
 
 pub loop-rest-preserved : goal.loop-rest-preserved
 loop-rest-preserved g c =
@@ -48,11 +58,19 @@ loop-rest-preserved g c =
       inr (omega (arith, c.loop-rest-test.true, count, ap length split, length-append piece later)),
     )
 
-pub returns-in_err-write_at-2-clause-any_moment : goal.returns-in_err-write_at-2-clause-any_moment
-returns-in_err-write_at-2-clause-any_moment g c honest =
-    let still = c.loop-rest.invariant.2.0 honest in
-    piece_run c.args.bytes.now (g.D.Disk.view c.args.disk.now) (g.D.Disk.view c.loop-rest.disk) (g.D.Disk.view c.write_at-2.new.self) c.loop-rest.at c.loop-rest.rest.now c.loop-rest.rest.now c.write_at-2.result
-    (g.met.D.Disk.timed c.loop-rest.disk still) (c.loop-rest.invariant.0 honest) (c.write_at-2.ensures.writes still)
+pub returns-in_err-write_at-2-clause-runs : goal.returns-in_err-write_at-2-clause-runs
+returns-in_err-write_at-2-clause-runs g c =
+    let l = c.loop-rest in
+    let fault = c.in_err-write_at-2.field-0.0 in
+    let p = err_from_is_err_and c.from_residual-in_err-write_at-2.result c.from_residual-in_err-write_at-2.ensures.1 in
+    rw (p.1, p.2) (record {
+      honest = ((λ h. c.write_at-2.ensures.honest.0 (l.invariant.2.0 h)), (λ h. l.invariant.2.1 (c.write_at-2.ensures.honest.1 h)));
+      cause = fault_told fault (g.D.Disk.failures c.args.disk.now) (g.D.Disk.failures l.disk) (g.D.Disk.failures c.write_at-2.new.self) l.invariant.3 c.in_err-write_at-2.ensures.cause;
+      any_moment = λ honest.
+          let still = l.invariant.2.0 honest in
+          piece_run c.args.bytes.now (g.D.Disk.view c.args.disk.now) (g.D.Disk.view l.disk) (g.D.Disk.view c.write_at-2.new.self) l.at l.rest.now l.rest.now c.write_at-2.result
+          (g.met.D.Disk.timed l.disk still) (l.invariant.0 honest) (c.write_at-2.ensures.writes still);
+    })
 
 pub returns-clause-seen : goal.returns-clause-seen
 returns-clause-seen g c honest =
@@ -60,14 +78,20 @@ returns-clause-seen g c honest =
     all_seen c.args.bytes.now (g.D.Disk.view c.args.disk.now) (g.D.Disk.view c.loop-rest.disk) (g.D.Disk.view c.write_at-2.new.self) c.loop-rest.at c.loop-rest.rest.now (c.requires.closed honest).0
     (c.loop-rest.invariant.0 honest) (c.in_ok-write_at-2.ensures.writes still).seen
 
-pub returns-clause-any_moment : goal.returns-clause-any_moment
-returns-clause-any_moment g c honest =
-    let still = c.loop-rest.invariant.2.0 honest in
-    piece_run c.args.bytes.now (g.D.Disk.view c.args.disk.now) (g.D.Disk.view c.loop-rest.disk) (g.D.Disk.view c.write_at-2.new.self) c.loop-rest.at c.loop-rest.rest.now c.loop-rest.rest.now c.write_at-2.result
-    (g.met.D.Disk.timed c.loop-rest.disk still) (c.loop-rest.invariant.0 honest) (c.write_at-2.ensures.writes still)
-
-pub returns-clause-clock : goal.returns-clause-clock
-returns-clause-clock g c honest =
-    let still = c.loop-rest.invariant.2.0 honest in
-    pieces_counted (length c.args.bytes.now) (g.D.Disk.view c.args.disk.now).moment (g.D.Disk.view c.loop-rest.disk).moment (g.D.Disk.view c.write_at-2.new.self).moment c.loop-rest.at (length c.loop-rest.rest.now)
-    c.loop-rest.invariant.1 (c.loop-rest.invariant.4 honest) c.loop-rest.invariant.5 (omega (arith, c.loop-rest-test.false)) (c.in_ok-write_at-2.ensures.writes still).clock.ok
+pub returns-clause-runs : goal.returns-clause-runs
+returns-clause-runs g c =
+    let l = c.loop-rest in
+    let old = g.D.Disk.view c.args.disk.now in
+    let now = g.D.Disk.view l.disk in
+    let new = g.D.Disk.view c.write_at-2.new.self in
+    record {
+      honest = ((λ h. c.write_at-2.ensures.honest.0 (l.invariant.2.0 h)), (λ h. l.invariant.2.1 (c.write_at-2.ensures.honest.1 h)));
+      steady = c.in_ok-write_at-2.ensures.cause.ok ∙ l.invariant.3;
+      any_moment = λ honest.
+          let still = l.invariant.2.0 honest in
+          piece_run c.args.bytes.now old now new l.at l.rest.now l.rest.now c.write_at-2.result (g.met.D.Disk.timed l.disk still) (l.invariant.0 honest) (c.write_at-2.ensures.writes still);
+      clock = λ honest.
+          let still = l.invariant.2.0 honest in
+          pieces_counted (length c.args.bytes.now) old.moment now.moment new.moment l.at (length l.rest.now) l.invariant.1 (l.invariant.4 honest) l.invariant.5 (omega (arith, c.loop-rest-test.false))
+          (c.in_ok-write_at-2.ensures.writes still).clock.ok;
+    }

@@ -1,13 +1,24 @@
 -- The other disk is emptied beside the bank in use.
-use Rattle.std.proofs.Common.{sym}
-use Rattle.linda_server.proofs.SwitchLaws.{changed, emptied_beside}
+use Rattle.std.proofs.Common.{rules}
+use Rattle.linda_disk.specs.declared.fault.DiskFault.TheVariants.{Device}
+use Rattle.linda_disk.proofs.RunsLaws.{honest_of, moment_of, cause_of}
+use Rattle.linda_journal.specs.Renewal.{TakesCalls, shuts}
+use Rattle.linda_server.proofs.SwitchLaws.{changed_by}
 use Rattle.linda_server.proofs.clearing.clear.Goals as goal
 
-pub returns-clause-any_moment : goal.returns-clause-any_moment
-returns-clause-any_moment g c st are up =
-    let view = g.D.Disk.view in
-    let pair = c.in-InUse.pair in
-    let new = view c.emptied-told.result.1 in
-    changed g.met.D.Disk.timed
-    c.args.disks.now pair (sym c.in-InUse.ensures.value) st new
-    (λ used other was. emptied_beside pair.bank.form pair.bank.generation pair.bank.end (view pair.bank.disk) (view pair.other) new st was (c.emptied-told.ensures.any_moment other)) are up
+pub returns-clause-runs : goal.returns-clause-runs
+returns-clause-runs g c st =
+    let pair = c.lend-bank.result in
+    let told = c.emptied-told.result.0 in
+    let new = c.emptied-told.result.1 in
+    let honest = honest_of g.D.Disk shuts (TakesCalls 2) Device pair.other told new c.emptied-told.ensures.runs in
+    let cause = cause_of g.D.Disk shuts (TakesCalls 2) Device pair.other told new c.emptied-told.ensures.runs in
+    record {
+      any_moment = λ begun. changed_by g.met.D.Disk.timed c.args.disks.now pair c.lend-bank.ensures.lent st new (moment_of g.D.Disk shuts (TakesCalls 2) Device pair.other told new c.emptied-told.ensures.runs);
+      kept = search rules;
+      there = search rules;
+      ready = search rules;
+      limit = search rules;
+      honest = search (rules, honest);
+      cause = search (rules, cause);
+    }

@@ -1,30 +1,21 @@
--- What crashes leave while the disk is emptied, and how its failures are told.
-use Rattle.std.proofs.Common.{◌∙◌, inr, ap, sym, subst}
-use Rattle.linda_disk.specs.Run.{LeavesOnly}
+-- The gate is closed, and then what is after it is cut off.
+use Rattle.std.proofs.Common.{inr, refl, sym, subst, arith}
+use Rattle.linda_disk.specs.Runs.{IsDone, leaves, takes}
+use Rattle.linda_disk.specs.declared.fault.DiskFault.TheVariants.{Device}
 use Rattle.linda_disk.proofs.RunLaws.{joined}
-use Rattle.linda_journal.specs.Renewal.{IsNoBank, IsSameOrNone}
-use Rattle.linda_server.proofs.CauseLaws.{counts_told}
+use Rattle.linda_disk.proofs.RunsLaws.{runs_on}
+use Rattle.linda_journal.specs.Renewal.{IsNoBank, IsSameOrNone, TakesCalls, shuts}
+use Rattle.linda_journal.proofs.RenewalLaws.{then_calls}
 use Rattle.linda_server.proofs.clearing.emptied.Goals as goal
 
-pub returns-in-Err-clause-any_moment : goal.returns-in-Err-clause-any_moment
-returns-in-Err-clause-any_moment g c honest = (c.in-Err.ensures.any_moment honest).1
-
-pub returns-in-Err-clause-cause : goal.returns-in-Err-clause-cause
-returns-in-Err-clause-cause g c = c.in-Err.ensures.cause
-
-pub returns-in-Ok-clause-any_moment : goal.returns-in-Ok-clause-any_moment
-returns-in-Ok-clause-any_moment g c honest =
+pub returns-in-Ok-clause-runs : goal.returns-in-Ok-clause-runs
+returns-in-Ok-clause-runs g c =
     let view = g.D.Disk.view in
-    let old = view c.args.disk in
-    let same = sym c.into_disk-disk.ensures.same in
-    let P = IsSameOrNone old.seen in
-    joined old (view c.into_disk-disk.result) (view c.cut_behind_gate-told.new.disk) P IsNoBank P
-    (subst (λ d. LeavesOnly old (view d) P) same (c.in-Ok.ensures.any_moment honest).0)
-    (c.cut_behind_gate-told.ensures.any_moment (subst (g.D.Disk.honest) same (c.in-Ok.ensures.honest.0.0 honest)))
-    (λ image is. is) (λ image none. inr none)
-
-pub returns-in-Ok-clause-cause : goal.returns-in-Ok-clause-cause
-returns-in-Ok-clause-cause g c =
-    let count = g.D.Disk.failures in
-    counts_told c.cut_behind_gate-told.result (count c.args.disk) (count c.into_disk-disk.result) (count c.cut_behind_gate-told.new.disk)
-    (ap count c.into_disk-disk.ensures.same ∙ c.in-Ok.ensures.steady) c.cut_behind_gate-told.ensures.cause
+    let old = c.args.disk in
+    let mid = c.into_disk-disk.result in
+    let new = c.cut_behind_gate-told.new.disk in
+    let P = IsSameOrNone (view old).seen in
+    let shut = subst (λ d. IsDone g.D.Disk shuts (TakesCalls 0) old d) (sym c.into_disk-disk.ensures.same) c.in-Ok.ensures.runs in
+    runs_on g.D.Disk (leaves IsNoBank) shuts (takes 2) (TakesCalls 2) Device old mid c.cut_behind_gate-told.result new shut c.cut_behind_gate-told.ensures.runs
+    (λ honest still shuts none. joined (view old) (view mid) (view new) P IsNoBank P shuts none (λ image is. is) (λ image is. inr is))
+    (λ honest shut two. then_calls 0 2 2 (view old) (view mid) (view new) shut two refl)

@@ -1,5 +1,5 @@
 -- The next part is written, and with the last one the bank is taken into use.
-use Rattle.std.proofs.Common.{◌<◌, ◌≤◌, ◌+◌, ◌++◌, ◌∙◌, length, length-append, ap, sym, subst, arith}
+use Rattle.std.proofs.Common.{◌<◌, ◌≤◌, ◌+◌, ◌++◌, ◌∙◌, [], length, length-append, ap, sym, subst, rules, arith}
 use Rattle.linda_snap.specs.declared.entry.TheConstants.{MAX_KEPT_BYTES}
 use Rattle.linda_snap.specs.Successor.{Follows, Completes, IsNext, bytes_in}
 use Rattle.linda_server.proofs.PairLaws.{still}
@@ -7,29 +7,90 @@ use Rattle.linda_server.specs.Switch.{IsTakenOver}
 use Rattle.linda_server.proofs.SteppingLaws.{parts_of, begun_of, low_of, within_of, generation_of, fits_of, counts_of}
 use Rattle.linda_server.proofs.stepping.advance.Goals as goal
 
-pub returns-in-Err-clause-any_moment : goal.returns-in-Err-clause-any_moment
-returns-in-Err-clause-any_moment g c are up begun = still g.met.D.Disk.timed c.args.disks.now c.args.state.now are up
+pub returns-in-Err-clause-runs : goal.returns-in-Err-clause-runs
+returns-in-Err-clause-runs g c = record {
+  any_moment = λ begun are up. still g.met.D.Disk.timed c.args.disks.now c.args.state.now are up;
+  kept = search rules;
+  there = search rules;
+  ready = search rules;
+  limit = search rules;
+  honest = search rules;
+  cause = search rules;
+}
+
+pub returns-in-Ok-More-clause-runs : goal.returns-in-Ok-More-clause-runs
+returns-in-Ok-More-clause-runs g c =
+    let st = c.args.state.now in
+    let any = c.in-Ok.ensures.runs st [] in
+    record {
+      any_moment = λ begun are up.
+          let p = parts_of c.args.next c.args.disks.now st begun in
+          (c.in-Ok.ensures.runs st p.front).any_moment p.filled are up;
+      kept = λ begun kept.
+          let p = parts_of c.args.next c.args.disks.now st begun in
+          (c.in-Ok.ensures.runs st p.front).kept p.filled kept;
+      there = any.there;
+      ready = any.ready;
+      limit = any.limit;
+      honest = any.honest;
+      cause = any.cause;
+    }
+
+pub returns-clause-runs : goal.returns-clause-runs
+returns-clause-runs g c =
+    let st = c.args.state.now in
+    let any = c.in-Ok-end.ensures.runs st [] in
+    record {
+      any_moment = λ begun are up.
+          let p = parts_of c.args.next c.args.disks.now st begun in
+          (c.in-Ok-end.ensures.runs st p.front).any_moment (p.filled, subst (λ b. Completes c.next.new.self p.front b st) (sym c.deref-in-Ok-Last.ensures.value) (subst (λ part. IsNext part c.next.new.self p.front st) c.in-Ok-Last.field-0-is (c.in-Ok-Last.ensures.next p.front p.follows))) are up;
+      kept = λ begun kept.
+          let p = parts_of c.args.next c.args.disks.now st begun in
+          (c.in-Ok-end.ensures.runs st p.front).kept (p.filled, subst (λ b. Completes c.next.new.self p.front b st) (sym c.deref-in-Ok-Last.ensures.value) (subst (λ part. IsNext part c.next.new.self p.front st) c.in-Ok-Last.field-0-is (c.in-Ok-Last.ensures.next p.front p.follows))) kept;
+      there = any.there;
+      ready = any.ready;
+      limit = any.limit;
+      honest = any.honest;
+      cause = any.cause;
+    }
+
+pub returns-in-Err-write_on-clause-runs : goal.returns-in-Err-write_on-clause-runs
+returns-in-Err-write_on-clause-runs g c =
+    let st = c.args.state.now in
+    let any = c.in-Err-write_on.ensures.runs st [] in
+    record {
+      any_moment = λ begun are up.
+          let p = parts_of c.args.next c.args.disks.now st begun in
+          (c.in-Err-write_on.ensures.runs st p.front).any_moment p.filled are up;
+      kept = search rules;
+      there = any.there;
+      ready = search rules;
+      limit = search rules;
+      honest = any.honest;
+      cause = let told = any.cause in search (rules, told);
+    }
+
+pub returns-in-Err-end-clause-runs : goal.returns-in-Err-end-clause-runs
+returns-in-Err-end-clause-runs g c =
+    let st = c.args.state.now in
+    let any = c.in-Err-end.ensures.runs st [] in
+    record {
+      any_moment = λ begun are up.
+          let p = parts_of c.args.next c.args.disks.now st begun in
+          (c.in-Err-end.ensures.runs st p.front).any_moment (p.filled, subst (λ b. Completes c.next.new.self p.front b st) (sym c.deref-in-Ok-Last.ensures.value) (subst (λ part. IsNext part c.next.new.self p.front st) c.in-Ok-Last.field-0-is (c.in-Ok-Last.ensures.next p.front p.follows))) are up;
+      kept = search rules;
+      there = any.there;
+      ready = search rules;
+      limit = search rules;
+      honest = any.honest;
+      cause = any.cause;
+    }
 
 pub write_on-requires-clause-behind : goal.write_on-requires-clause-behind
 write_on-requires-clause-behind g c = low_of c.args.next c.args.disks.now c.args.state.now c.requires.begun
 
 pub write_on-requires-clause-within : goal.write_on-requires-clause-within
 write_on-requires-clause-within g c = within_of c.args.next c.args.disks.now c.args.state.now c.requires.begun
-
-pub returns-in-Err-write_on-clause-any_moment : goal.returns-in-Err-write_on-clause-any_moment
-returns-in-Err-write_on-clause-any_moment g c are up begun =
-    let p = parts_of c.args.next c.args.disks.now c.args.state.now begun in
-    c.write_on.ensures.any_moment c.args.state.now p.front are up p.filled
-
-pub returns-in-Ok-More-clause-any_moment : goal.returns-in-Ok-More-clause-any_moment
-returns-in-Ok-More-clause-any_moment g c are up begun =
-    let p = parts_of c.args.next c.args.disks.now c.args.state.now begun in
-    c.write_on.ensures.any_moment c.args.state.now p.front are up p.filled
-
-pub returns-in-Ok-More-clause-kept : goal.returns-in-Ok-More-clause-kept
-returns-in-Ok-More-clause-kept g c begun kept =
-    let p = parts_of c.args.next c.args.disks.now c.args.state.now begun in
-    c.in-Ok.ensures.kept c.args.state.now p.front p.filled kept
 
 pub returns-in-Ok-More-clause-begun : goal.returns-in-Ok-More-clause-begun
 returns-in-Ok-More-clause-begun g c begun =
@@ -38,7 +99,7 @@ returns-in-Ok-More-clause-begun g c begun =
     begun_of _ c.write_on.new.disks c.args.state.now (p.front ++ c.deref.result.now)
     (subst (λ b. Follows c.next.new.self (p.front ++ b) c.args.state.now) (sym bytes) (subst (λ part. IsNext part c.next.new.self p.front c.args.state.now) c.in-Ok-More.field-0-is (c.in-Ok-More.ensures.next p.front p.follows)))
     (omega (arith, p.place, c.in-Ok.ensures.place, length-append p.front c.deref.result.now)) (c.in-Ok.ensures.filled p.front p.filled)
-    (c.next.ensures.generation ∙ p.generation ∙ ap (λ n. n + 1) (sym c.in-Ok.ensures.generation)) (c.next.ensures.same.0 ∙ p.limit ∙ sym c.in-Ok.ensures.limit)
+    (c.next.ensures.generation ∙ p.generation ∙ ap (λ n. n + 1) (sym c.in-Ok.ensures.generation)) (c.next.ensures.same.0 ∙ p.limit ∙ sym (c.in-Ok.ensures.runs c.args.state.now p.front).limit)
 
 pub end-requires-clause-behind : goal.end-requires-clause-behind
 end-requires-clause-behind g c = low_of c.args.next c.args.disks.now c.args.state.now c.requires.begun
@@ -63,39 +124,16 @@ end-requires-clause-counted g c =
     (λ front f. subst (λ b. Completes c.next.new.self front b st) (sym c.deref-in-Ok-Last.ensures.value) (subst (λ part. IsNext part c.next.new.self front st) c.in-Ok-Last.field-0-is (c.in-Ok-Last.ensures.next front f)))
     c.requires.begun
 
-pub returns-in-Err-end-clause-any_moment : goal.returns-in-Err-end-clause-any_moment
-returns-in-Err-end-clause-any_moment g c are up begun =
-    let p = parts_of c.args.next c.args.disks.now c.args.state.now begun in
-    let st = c.args.state.now in
-    c.end.ensures.any_moment st p.front are up p.filled (subst (λ b. Completes c.next.new.self p.front b st) (sym c.deref-in-Ok-Last.ensures.value) (subst (λ part. IsNext part c.next.new.self p.front st) c.in-Ok-Last.field-0-is (c.in-Ok-Last.ensures.next p.front p.follows)))
-
-pub returns-clause-any_moment : goal.returns-clause-any_moment
-returns-clause-any_moment g c are up begun =
-    let p = parts_of c.args.next c.args.disks.now c.args.state.now begun in
-    let st = c.args.state.now in
-    c.end.ensures.any_moment st p.front are up p.filled (subst (λ b. Completes c.next.new.self p.front b st) (sym c.deref-in-Ok-Last.ensures.value) (subst (λ part. IsNext part c.next.new.self p.front st) c.in-Ok-Last.field-0-is (c.in-Ok-Last.ensures.next p.front p.follows)))
-
-pub returns-clause-kept : goal.returns-clause-kept
-returns-clause-kept g c begun kept =
-    let p = parts_of c.args.next c.args.disks.now c.args.state.now begun in
-    let st = c.args.state.now in
-    c.in-Ok-end.ensures.kept st p.front p.filled (subst (λ b. Completes c.next.new.self p.front b st) (sym c.deref-in-Ok-Last.ensures.value) (subst (λ part. IsNext part c.next.new.self p.front st) c.in-Ok-Last.field-0-is (c.in-Ok-Last.ensures.next p.front p.follows))) kept
-
-pub returns-in-Ok-More-clause-further : goal.returns-in-Ok-More-clause-further
-returns-in-Ok-More-clause-further g c =
+pub returns-in-Ok-More-clause-steps : goal.returns-in-Ok-More-clause-steps
+returns-in-Ok-More-clause-steps g c =
     let some = subst (λ part. 0 < length (bytes_in part)) c.in-Ok-More.field-0-is c.in-Ok-More.ensures.some in
-    omega (arith, c.in-Ok.ensures.place, ap length c.deref.ensures.value, some)
-
-pub returns-in-Ok-More-clause-few : goal.returns-in-Ok-More-clause-few
-returns-in-Ok-More-clause-few g c =
     let most = subst (λ part. length (bytes_in part) ≤ c.args.most + MAX_KEPT_BYTES) c.in-Ok-More.field-0-is c.in-Ok-More.ensures.most in
-    omega (arith, c.in-Ok.ensures.place, ap length c.deref.ensures.value, most)
+    let long = ap length c.deref.ensures.value in
+    (omega (arith, c.in-Ok.ensures.place, long, some), omega (arith, c.in-Ok.ensures.place, long, most), c.in-Ok.ensures.still)
 
-pub returns-clause-last : goal.returns-clause-last
-returns-clause-last g c =
-    let most = subst (λ part. length (bytes_in part) ≤ c.args.most + MAX_KEPT_BYTES) c.in-Ok-Last.field-0-is c.in-Ok-Last.ensures.most in
-    omega (arith, c.in-Ok-end.ensures.place, ap length c.deref-in-Ok-Last.ensures.value, most)
-
-pub returns-clause-switched : goal.returns-clause-switched
-returns-clause-switched g c =
-    subst (λ n. IsTakenOver n c.args.disks.now c.end.new.disks) c.next.ensures.same.1 c.in-Ok-end.ensures.switched
+pub returns-clause-steps : goal.returns-clause-steps
+returns-clause-steps g c =
+    let most = subst (λ part. length (bytes_in part) ≤ c.args.most + MAX_KEPT_BYTES) c.in-Ok-Last.field-0-is c.in-Ok-Last.ensures.most in (
+      subst (λ n. IsTakenOver n c.args.disks.now c.end.new.disks) c.next.ensures.same.1 c.in-Ok-end.ensures.switched,
+      omega (arith, c.in-Ok-end.ensures.place, ap length c.deref-in-Ok-Last.ensures.value, most),
+    )

@@ -1,12 +1,25 @@
 -- The next bank is begun beside the bank in use.
-use Rattle.std.proofs.Common.{sym}
-use Rattle.linda_server.proofs.SwitchLaws.{changed, emptied_beside}
+use Rattle.std.proofs.Common.{rules}
+use Rattle.linda_disk.specs.Runs.{anything}
+use Rattle.linda_disk.proofs.RunsLaws.{honest_of, moment_of, cause_of}
+use Rattle.linda_journal.specs.Renewal.{shuts}
+use Rattle.linda_server.specs.declared.fault.ServeFault.TheVariants as faults
+use Rattle.linda_server.proofs.SwitchLaws.{changed_by}
 use Rattle.linda_server.proofs.stepping.start.Goals as goal
 
-pub returns-clause-any_moment : goal.returns-clause-any_moment
-returns-clause-any_moment g c st are up =
-    let view = g.D.Disk.view in
-    let pair = c.in-InUse.pair in
-    let new = view c.start_on-told.result.1 in
-    changed g.met.D.Disk.timed c.args.disks.now pair (sym c.in-InUse.ensures.value) st new
-    (λ used other was. emptied_beside pair.bank.form pair.bank.generation pair.bank.end (view pair.bank.disk) (view pair.other) new st was (c.start_on-told.ensures.any_moment other)) are up
+pub returns-clause-runs : goal.returns-clause-runs
+returns-clause-runs g c =
+    let pair = c.lend-bank.result in
+    let told = c.start_on-told.result.0 in
+    let new = c.start_on-told.result.1 in
+    let honest = honest_of g.D.Disk shuts anything faults.Disk pair.other told new c.start_on-told.ensures.runs in
+    let cause = cause_of g.D.Disk shuts anything faults.Disk pair.other told new c.start_on-told.ensures.runs in
+    record {
+      any_moment = λ begun. changed_by g.met.D.Disk.timed c.args.disks.now pair c.lend-bank.ensures.lent c.args.state.now new (moment_of g.D.Disk shuts anything faults.Disk pair.other told new c.start_on-told.ensures.runs);
+      kept = search rules;
+      there = search rules;
+      ready = search rules;
+      limit = search rules;
+      honest = search (rules, honest);
+      cause = search (rules, cause);
+    }

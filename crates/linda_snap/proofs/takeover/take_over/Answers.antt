@@ -3,6 +3,8 @@ use Rattle.std.proofs.Common.{◌+◌, ◌∙◌, sym, subst, arith}
 use Rattle.std.proofs.Math.Nat.{min-eq_left}
 use Rattle.linda_store_state.specs.DeedFormat.{written}
 use Rattle.linda_disk.specs.Run.{LeavesOnly}
+use Rattle.linda_disk.specs.declared.fault.DiskFault.TheVariants.{Device}
+use Rattle.linda_disk.proofs.RunsLaws.{done_by, broken_by}
 use Rattle.linda_journal.specs.Bank.{IsSettled}
 use Rattle.linda_journal.specs.Renewal.{IsLast, IsNoneOrNewWith}
 use Rattle.linda_snap.specs.Snapshot.{spell_state}
@@ -10,29 +12,28 @@ use Rattle.linda_snap.specs.Stands.{IsStored, IsUp}
 use Rattle.linda_snap.proofs.StandsLaws.{taking_over, taken_over}
 use Rattle.linda_snap.proofs.takeover.take_over.Goals as goal
 
-pub returns-in-Ok-clause-any_moment : goal.returns-in-Ok-clause-any_moment
-returns-in-Ok-clause-any_moment g c front st used honest up filled whole =
+pub returns-in-Ok-clause-runs : goal.returns-in-Ok-clause-runs
+returns-in-Ok-clause-runs g c =
     let now = c.args.current in
-    let body = spell_state written whole.begun in
-    let new = g.D.Disk.view c.in-Ok.bank.disk in
-    let is = c.generation.ensures ∙ c.requires in
-    let last = subst (λ n. IsLast n body whole.records front c.args.bytes.now) (sym c.generation.ensures) whole.last in (
-      taking_over now.form now.generation now.end (g.D.Disk.view now.disk) (g.D.Disk.view c.args.filling.disk) st up whole.begun whole.records whole.ranges whole.fits whole.done new
-          (subst (λ n. LeavesOnly (g.D.Disk.view c.args.filling.disk) new (IsNoneOrNewWith written n body whole.records)) is (c.in-Ok.ensures.any_moment front body whole.records honest filled last).0),
-      tt,
-    )
+    let old = c.args.filling.disk in
+    let new = c.in-Ok.bank.disk in
+    done_by g.D.Disk old new c.in-Ok.ensures.runs
+    (λ honest finishes front st used up filled whole.
+    let last = subst (λ n. IsLast n (spell_state written whole.begun) whole.records front c.args.bytes.now) (sym c.generation.ensures) whole.last in
+    taking_over now.form now.generation now.end (g.D.Disk.view now.disk) (g.D.Disk.view old) st up whole.begun whole.records whole.ranges whole.fits whole.done (g.D.Disk.view new)
+    (subst (λ n. LeavesOnly (g.D.Disk.view old) (g.D.Disk.view new) (IsNoneOrNewWith written n (spell_state written whole.begun) whole.records)) (c.generation.ensures ∙ c.requires) (finishes front (spell_state written whole.begun) whole.records filled last)))
+    (λ honest four. four)
 
-pub returns-in-Err-clause-any_moment : goal.returns-in-Err-clause-any_moment
-returns-in-Err-clause-any_moment g c front st used honest up filled whole =
+pub returns-in-Err-clause-runs : goal.returns-in-Err-clause-runs
+returns-in-Err-clause-runs g c =
     let now = c.args.current in
-    let body = spell_state written whole.begun in
-    let new = g.D.Disk.view c.in-Err.other in
-    let is = c.generation.ensures ∙ c.requires in
-    let last = subst (λ n. IsLast n body whole.records front c.args.bytes.now) (sym c.generation.ensures) whole.last in (
-      tt,
-      taking_over now.form now.generation now.end (g.D.Disk.view now.disk) (g.D.Disk.view c.args.filling.disk) st up whole.begun whole.records whole.ranges whole.fits whole.done new
-          (subst (λ n. LeavesOnly (g.D.Disk.view c.args.filling.disk) new (IsNoneOrNewWith written n body whole.records)) is (c.in-Err.ensures.any_moment front body whole.records honest filled last).1),
-    )
+    let old = c.args.filling.disk in
+    let new = c.in-Err.other in
+    broken_by g.D.Disk Device c.in-Err.fault Device c.in-Err.fault old new c.in-Err.ensures.runs ((λ is. is), (λ is. is))
+    (λ honest finishes front st used up filled whole.
+    let last = subst (λ n. IsLast n (spell_state written whole.begun) whole.records front c.args.bytes.now) (sym c.generation.ensures) whole.last in
+    taking_over now.form now.generation now.end (g.D.Disk.view now.disk) (g.D.Disk.view old) st up whole.begun whole.records whole.ranges whole.fits whole.done (g.D.Disk.view new)
+    (subst (λ n. LeavesOnly (g.D.Disk.view old) (g.D.Disk.view new) (IsNoneOrNewWith written n (spell_state written whole.begun) whole.records)) (c.generation.ensures ∙ c.requires) (finishes front (spell_state written whole.begun) whole.records filled last)))
 
 pub returns-in-Ok-clause-done : goal.returns-in-Ok-clause-done
 returns-in-Ok-clause-done g c front st used honest up filled whole =
@@ -52,7 +53,7 @@ pub returns-in-Ok-clause-stored : goal.returns-in-Ok-clause-stored
 returns-in-Ok-clause-stored g c front st filled whole honest =
     let bank = c.in-Ok.bank in
     let body = spell_state written whole.begun in
-    let was = c.in-Ok.ensures.honest.0.1 honest in
+    let was = c.in-Ok.ensures.runs.honest.1 honest in
     let last = subst (λ n. IsLast n body whole.records front c.args.bytes.now) (sym c.generation.ensures) whole.last in
     let settled = subst (λ n. IsSettled written n body whole.records bank.end (g.D.Disk.view bank.disk)) (sym c.in-Ok.ensures.new.1) (c.in-Ok.ensures.done front body whole.records was (filled was) last) in
     subst (λ f. IsStored f bank.generation bank.end (g.D.Disk.view bank.disk) st) (sym c.in-Ok.ensures.new.0)

@@ -1,16 +1,12 @@
--- The next bank goes on, for the state that stands, or is taken into use.
-use Rattle.std.proofs.Common.{◌≡◌, ◌<◌, ◌≤◌, ◌+◌, false, refl, sym, subst, ◌∙◌, true≢false}
-use Rattle.std.specs.Prelude.{IfSome, IfNone}
-use Rattle.linda_snap.specs.declared.entry.TheConstants.{MAX_KEPT_BYTES}
-use Rattle.linda_store_state.specs.State.{IsState}
-use Rattle.linda_server.specs.Pairs.{PairsNow}
-use Rattle.linda_server.specs.Calls.{StandsFor, IsWithOrWithout}
-use Rattle.linda_server.specs.Next.{IsBegunOn, IsNextFor}
-use Rattle.linda_server.specs.Server.{both_of, end_in_use, IsBankStill}
-use Rattle.linda_server.specs.Switch.{IsTakenOver}
-use Rattle.linda_server.proofs.CallLaws.{now_since, stands_so, still_so}
-use Rattle.linda_server.proofs.SwitchLaws.{with_none}
-use Rattle.linda_server.proofs.SteppingLaws.{steps_since, steps_kept, steps_begun}
+-- The next bank goes on, for the state of the server, or is taken into use.
+use Rattle.std.proofs.Common.{◌≡◌, false, Ok, refl, sym, subst, ◌∙◌, true≢false}
+use Rattle.std.specs.Prelude.{IfSome}
+use Rattle.linda_server.specs.Next.{IsBegunOn, IsNextFor, StepsOn}
+use Rattle.linda_server.specs.declared.fault.ServeFault.{ServeFault}
+use Rattle.linda_server.specs.declared.fault.ServeFault.TheVariants.{Disk}
+use Rattle.linda_server.proofs.CallLaws.{stands_so, still_so}
+use Rattle.linda_server.proofs.SteppingLaws.{steps_begun}
+use Rattle.linda_server.proofs.RewritesLaws.{runs_kept, rewrites_done, rewrites_fault, fell}
 use Rattle.linda_server.proofs.durable.Durable.advance.Goals as goal
 
 pub invariant_of-self-in-Ok-Some : goal.invariant_of-self-in-Ok-Some
@@ -19,17 +15,18 @@ invariant_of-self-in-Ok-Some g c =
     let next = c.in-Some.next in
     let now = c.state.result.now in
     let same = c.state.ensures.state in
-    let begun = λ (up : s.down ≡ false). subst (λ o. ∥ IsNextFor o s.disks s.store.state ∥₁) (sym c.in-Some.ensures.value) (s.begun up) in
+    let there = subst (λ o. ∥ IsNextFor o s.disks s.store.state ∥₁) (sym c.in-Some.ensures.value) (s.begun c.if-self.false) in
+    let begun = subst (λ st. ∥ IsBegunOn next s.disks st ∥₁) (sym same) there in
     record {
-      there = c.advance.ensures.there;
+      there = c.in-Ok-Some.ensures.runs.there;
       bounded = s.bounded;
       live = s.live;
-      ready = λ up. c.in-Ok-Some.ensures.ready;
-      limited = λ up. c.in-Ok-Some.ensures.limit ∙ s.limited up;
+      ready = λ up. c.in-Ok-Some.ensures.runs.ready;
+      limited = λ up. c.in-Ok-Some.ensures.runs.limit ∙ s.limited up;
       none_lost = s.none_lost;
-      kept = λ up. steps_kept g.met.D.Disk.timed next s.disks c.advance.new.disks s.store.state now same (s.kept up) (begun up) c.in-Ok-Some.ensures.kept;
+      kept = λ up. runs_kept g.met.D.Disk.timed Disk (IsBegunOn next s.disks now) now begun s same c.if-self.false _ c.advance.new.disks c.in-Ok-Some.ensures.runs;
       begun = λ up.
-          steps_begun g.met.D.Disk.timed next c.in-Ok-Some.next s.disks c.advance.new.disks s.store.state now same (begun up)
+          steps_begun g.met.D.Disk.timed next c.in-Ok-Some.next s.disks c.advance.new.disks s.store.state now same there
           (λ b. subst (λ o. IfSome o (λ n. IsBegunOn n c.advance.new.disks now)) c.in-Ok-Some.field-0-is (c.in-Ok-Some.ensures.begun b));
       fallen = λ down. absurd (true≢false (sym down ∙ c.if-self.false));
     }
@@ -40,15 +37,16 @@ invariant_of-self-in-Ok-None g c =
     let next = c.in-Some.next in
     let now = c.state.result.now in
     let same = c.state.ensures.state in
-    let begun = λ (up : s.down ≡ false). subst (λ o. ∥ IsNextFor o s.disks s.store.state ∥₁) (sym c.in-Some.ensures.value) (s.begun up) in
+    let there = subst (λ o. ∥ IsNextFor o s.disks s.store.state ∥₁) (sym c.in-Some.ensures.value) (s.begun c.if-self.false) in
+    let begun = subst (λ st. ∥ IsBegunOn next s.disks st ∥₁) (sym same) there in
     record {
-      there = c.advance.ensures.there;
+      there = c.in-Ok-None.ensures.runs.there;
       bounded = s.bounded;
       live = s.live;
-      ready = λ up. c.in-Ok-None.ensures.ready;
-      limited = λ up. c.in-Ok-None.ensures.limit ∙ s.limited up;
+      ready = λ up. c.in-Ok-None.ensures.runs.ready;
+      limited = λ up. c.in-Ok-None.ensures.runs.limit ∙ s.limited up;
       none_lost = s.none_lost;
-      kept = λ up. steps_kept g.met.D.Disk.timed next s.disks c.advance.new.disks s.store.state now same (s.kept up) (begun up) c.in-Ok-None.ensures.kept;
+      kept = λ up. runs_kept g.met.D.Disk.timed Disk (IsBegunOn next s.disks now) now begun s same c.if-self.false _ c.advance.new.disks c.in-Ok-None.ensures.runs;
       begun = λ up. subst (λ o. ∥ IsNextFor o c.advance.new.disks s.store.state ∥₁) (sym c.in-Some.ensures.after) ∣ tt ∣₁;
       fallen = λ down. absurd (true≢false (sym down ∙ c.if-self.false));
     }
@@ -59,10 +57,10 @@ invariant_of-self-in-Err g c =
     let next = c.in-Some.next in
     let now = c.state.result.now in
     let same = c.state.ensures.state in
-    let begun = subst (λ o. ∥ IsNextFor o s.disks s.store.state ∥₁) (sym c.in-Some.ensures.value) (s.begun c.if-self.false) in
-    let before = c.of.ensures ∙ c.state-in-Err.ensures.state in
+    let there = subst (λ o. ∥ IsNextFor o s.disks s.store.state ∥₁) (sym c.in-Some.ensures.value) (s.begun c.if-self.false) in
+    let begun = subst (λ st. ∥ IsBegunOn next s.disks st ∥₁) (sym same) there in
     record {
-      there = c.advance.ensures.there;
+      there = c.in-Err.ensures.runs.there;
       bounded = s.bounded;
       live = λ up. absurd (true≢false up);
       ready = λ up. absurd (true≢false up);
@@ -71,10 +69,7 @@ invariant_of-self-in-Err g c =
       kept = λ up. absurd (true≢false up);
       begun = λ up. absurd (true≢false up);
       fallen = λ down are.
-          let since = steps_since g.met.D.Disk.timed next s.disks c.advance.new.disks s.store.state now same (c.advance.ensures.honest.1 are) (s.kept c.if-self.false) begun c.advance.ensures.any_moment in
-          subst (λ st. PairsNow (both_of c.advance.new.disks) (IsWithOrWithout st s.lost.items)) (sym before)
-          (now_since g.met.D.Disk.timed s.disks c.advance.new.disks (StandsFor s.store.state) (IsWithOrWithout s.store.state s.lost.items) are since
-          (with_none s.store.state s.lost.items (s.none_lost c.if-self.false) (subst IsState c.state.ensures.state c.state.ensures.ranges)));
+          fell g.met.D.Disk.timed Disk (IsBegunOn next s.disks now) now begun s same c.if-self.false c.in-Err.fault c.advance.new.disks _ c.in-Err.ensures.runs (c.of.ensures ∙ c.state-in-Err.ensures.state) c.state.ensures.ranges are;
     }
 
 pub returns-in-None-clause-rewrites : goal.returns-in-None-clause-rewrites
@@ -95,17 +90,9 @@ returns-in-Ok-Some-clause-rewrites g c =
     let next = c.in-Some.next in
     let now = c.state.result.now in
     let same = c.state.ensures.state in
-    let begun = λ (up : s.down ≡ false). subst (λ o. ∥ IsNextFor o s.disks s.store.state ∥₁) (sym c.in-Some.ensures.value) (s.begun up) in
-    record {
-      any_moment = λ is_up are. steps_since g.met.D.Disk.timed next s.disks c.advance.new.disks s.store.state now same are (s.kept is_up) (begun is_up) c.advance.ensures.any_moment;
-      now = λ are.
-          stands_so g.met.D.Disk.timed c.advance.new.disks s.store.state are
-          (steps_kept g.met.D.Disk.timed next s.disks c.advance.new.disks s.store.state now same (s.kept c.if-self.false) (begun c.if-self.false) c.in-Ok-Some.ensures.kept);
-      same = (refl, refl);
-      up = (c.if-self.false, c.if-self.false);
-      lost = λ up down. absurd (true≢false (sym down ∙ up));
-      honest = c.advance.ensures.honest;
-    }
+    let there = subst (λ o. ∥ IsNextFor o s.disks s.store.state ∥₁) (sym c.in-Some.ensures.value) (s.begun c.if-self.false) in
+    let begun = subst (λ st. ∥ IsBegunOn next s.disks st ∥₁) (sym same) there in
+    rewrites_done g.met.D.Disk.timed Disk (IsBegunOn next s.disks now) now begun s same c.if-self.false _ _ _ c.in-Ok-Some.ensures.runs refl refl c.if-self.false
 
 pub returns-in-Ok-None-clause-rewrites : goal.returns-in-Ok-None-clause-rewrites
 returns-in-Ok-None-clause-rewrites g c =
@@ -113,17 +100,9 @@ returns-in-Ok-None-clause-rewrites g c =
     let next = c.in-Some.next in
     let now = c.state.result.now in
     let same = c.state.ensures.state in
-    let begun = λ (up : s.down ≡ false). subst (λ o. ∥ IsNextFor o s.disks s.store.state ∥₁) (sym c.in-Some.ensures.value) (s.begun up) in
-    record {
-      any_moment = λ is_up are. steps_since g.met.D.Disk.timed next s.disks c.advance.new.disks s.store.state now same are (s.kept is_up) (begun is_up) c.advance.ensures.any_moment;
-      now = λ are.
-          stands_so g.met.D.Disk.timed c.advance.new.disks s.store.state are
-          (steps_kept g.met.D.Disk.timed next s.disks c.advance.new.disks s.store.state now same (s.kept c.if-self.false) (begun c.if-self.false) c.in-Ok-None.ensures.kept);
-      same = (refl, refl);
-      up = (c.if-self.false, c.if-self.false);
-      lost = λ up down. absurd (true≢false (sym down ∙ up));
-      honest = c.advance.ensures.honest;
-    }
+    let there = subst (λ o. ∥ IsNextFor o s.disks s.store.state ∥₁) (sym c.in-Some.ensures.value) (s.begun c.if-self.false) in
+    let begun = subst (λ st. ∥ IsBegunOn next s.disks st ∥₁) (sym same) there in
+    rewrites_done g.met.D.Disk.timed Disk (IsBegunOn next s.disks now) now begun s same c.if-self.false _ _ _ c.in-Ok-None.ensures.runs refl refl c.if-self.false
 
 pub returns-in-Err-clause-rewrites : goal.returns-in-Err-clause-rewrites
 returns-in-Err-clause-rewrites g c =
@@ -131,34 +110,17 @@ returns-in-Err-clause-rewrites g c =
     let next = c.in-Some.next in
     let now = c.state.result.now in
     let same = c.state.ensures.state in
-    let begun = λ (up : s.down ≡ false). subst (λ o. ∥ IsNextFor o s.disks s.store.state ∥₁) (sym c.in-Some.ensures.value) (s.begun up) in
-    record {
-      any_moment = λ is_up are. steps_since g.met.D.Disk.timed next s.disks c.advance.new.disks s.store.state now same are (s.kept is_up) (begun is_up) c.advance.ensures.any_moment;
-      now = tt;
-      same = (refl, refl);
-      up = tt;
-      lost = λ up down. (c.of.ensures ∙ c.state-in-Err.ensures.state, s.none_lost up);
-      honest = c.advance.ensures.honest;
-    }
+    let there = subst (λ o. ∥ IsNextFor o s.disks s.store.state ∥₁) (sym c.in-Some.ensures.value) (s.begun c.if-self.false) in
+    let begun = subst (λ st. ∥ IsBegunOn next s.disks st ∥₁) (sym same) there in
+    rewrites_fault g.met.D.Disk.timed Disk (IsBegunOn next s.disks now) now begun s same c.if-self.false c.in-Err.fault c.in-Err.fault _ c.in-Err.ensures.runs refl refl
+    (λ down. (c.of.ensures ∙ c.state-in-Err.ensures.state, s.none_lost c.if-self.false))
 
 pub returns-in-Ok-Some-clause-came : goal.returns-in-Ok-Some-clause-came
-returns-in-Ok-Some-clause-came g c = (
-  record {
-    was = c.in-Some.next;
-    now = c.in-Ok-Some.next;
-    were = sym c.in-Some.ensures.value;
-    are = refl;
-    more = subst (λ o. IfSome o (λ n. c.in-Some.next.at < n.at)) c.in-Ok-Some.field-0-is c.in-Ok-Some.ensures.further;
-    few = subst (λ o. IfSome o (λ n. n.at ≤ c.in-Some.next.at + (c.args.most + MAX_KEPT_BYTES))) c.in-Ok-Some.field-0-is c.in-Ok-Some.ensures.few;
-  },
-  subst (λ o. IfSome o (λ n. IsBankStill c.args.self.now.disks c.advance.new.disks)) c.in-Ok-Some.field-0-is c.in-Ok-Some.ensures.still,
-)
+returns-in-Ok-Some-clause-came g c =
+    let steps = subst (λ o. StepsOn {E = ServeFault} c.args.most c.in-Some.next c.args.self.now.disks (Ok o) c.advance.new.disks) c.in-Ok-Some.field-0-is c.in-Ok-Some.ensures.steps in
+    (record { was = c.in-Some.next; now = c.in-Ok-Some.next; were = sym c.in-Some.ensures.value; are = refl; more = steps.0; few = steps.1 }, steps.2)
 
 pub returns-in-Ok-None-clause-came : goal.returns-in-Ok-None-clause-came
-returns-in-Ok-None-clause-came g c = record {
-  was = c.in-Some.next;
-  were = sym c.in-Some.ensures.value;
-  none = c.in-Some.ensures.after;
-  taken = subst (λ o. IfNone o (IsTakenOver c.in-Some.next.successor.records c.args.self.now.disks c.advance.new.disks)) c.in-Ok-None.field-0-is c.in-Ok-None.ensures.switched;
-  few = subst (λ o. IfNone o (end_in_use c.advance.new.disks < c.in-Some.next.at + (c.args.most + MAX_KEPT_BYTES))) c.in-Ok-None.field-0-is c.in-Ok-None.ensures.last;
-}
+returns-in-Ok-None-clause-came g c =
+    let steps = subst (λ o. StepsOn {E = ServeFault} c.args.most c.in-Some.next c.args.self.now.disks (Ok o) c.advance.new.disks) c.in-Ok-None.field-0-is c.in-Ok-None.ensures.steps in
+    record { was = c.in-Some.next; were = sym c.in-Some.ensures.value; none = c.in-Some.ensures.after; taken = steps.0; few = steps.1 }

@@ -5,6 +5,7 @@ use Rattle.std.proofs.lemmas.Result.{err_from_is_err_and}
 use Rattle.linda_store_state.specs.DeedFormat.{payload}
 use Rattle.linda_store_state.proofs.DoneLaws.{on_ok}
 use Rattle.linda_store_step.specs.declared.size.TheConstants.{MAX_GROUP}
+use Rattle.linda_store_step.specs.declared.size.Need.{Need}
 use Rattle.linda_store_step.specs.Store.{Store}
 use Rattle.linda_store_step.specs.History.{comings, history_of}
 use Rattle.linda_server.specs.declared.served.Served.{Served}
@@ -14,7 +15,7 @@ use Rattle.linda_server.specs.Server.{both_of, form_in_use, end_in_use, IsPutOn}
 use Rattle.linda_server.specs.Calls.{LeadTo, IsBeforeOrAfter, room_for}
 use Rattle.linda_server.specs.Node.{shown}
 use Rattle.linda_server.proofs.ServedLaws.{served_happens}
-use Rattle.linda_server.proofs.CallLaws.{leads_to, few, some_bytes, room_of, suit_of, too_much, not_too_much, still_before, served_since, stands_so, none_remains, all_remains_up, at_fault, each_share, told_so, room_less}
+use Rattle.linda_server.proofs.CallLaws.{leads_to, few, room_of, suit_of, too_much, not_too_much, still_before, served_since, stands_so, none_remains, all_remains_up, at_fault, each_share, told_so}
 use Rattle.linda_store_state.specs.State.{State}
 use Rattle.linda_server.specs.Next.{IsNextFor, IsSafeIn}
 use Rattle.linda_server.proofs.NextLaws.{next_up, served_safe, if_kept}
@@ -24,12 +25,8 @@ use Rattle.linda_server.specs.Lives.{GoesOn}
 use Rattle.linda_server.proofs.LivesLaws.{cut_at_work, goes_on_still, serves_on}
 use Rattle.linda_server.proofs.durable.Durable.serve_batch.Goals as goal
 
--- What is admitted, for so many messages.
-admitted_for : (size : Option ℕ) (end limit count most : ℕ) → count ≡ most → IfSome size (λ b. 0 < b → end + room_for count b ≤ limit) → IfSome size (λ b. 0 < b → end + room_for most b ≤ limit)
-admitted_for size end limit count most same = subst (λ n. IfSome size (λ b. 0 < b → end + room_for n b ≤ limit)) same
-
-within : (end limit more less new_end new_limit : ℕ) → end + more ≤ limit → less ≤ more → new_end ≡ end → new_limit ≡ limit → new_end + less ≤ new_limit
-within end limit more less new_end new_limit fits fewer end_is limit_is = omega (arith, fits, fewer, end_is, limit_is)
+within : (end limit more new_end new_limit : ℕ) → end + more ≤ limit → new_end ≡ end → new_limit ≡ limit → new_end + more ≤ new_limit
+within end limit more new_end new_limit fits end_is limit_is = omega (arith, fits, end_is, limit_is)
 
 pub settle-requires-clause-begun : goal.settle-requires-clause-begun
 settle-requires-clause-begun g c =
@@ -67,7 +64,7 @@ settle-requires-clause-leads g c =
     let served = c.in-Ok.served in
     let after = c.serve.new.store in
     subst (λ st. LeadTo st served.deeds.items after.state) (sym c.begin.ensures.before)
-    (leads_to s.state s.soft ms served after.state after.soft c.size_of-size.ensures.orderly (subst (λ (st : Store). IsServed st.state st.soft ms c.in-Ok.served c.serve.new.store.state c.serve.new.store.soft) c.begin.ensures.same.0 c.in-Ok.ensures.ok))
+    (leads_to s.state s.soft ms served after.state after.soft c.need_of-need.ensures.orderly (subst (λ (st : Store). IsServed st.state st.soft ms c.in-Ok.served c.serve.new.store.state c.serve.new.store.soft) c.begin.ensures.same.0 c.in-Ok.ensures.ok))
 
 pub settle-requires-clause-room : goal.settle-requires-clause-room
 settle-requires-clause-room g c some =
@@ -80,14 +77,13 @@ settle-requires-clause-room g c some =
     let disks = c.begin.ensures.same.1 in
     let form = form_in_use c.begin.new.self.disks in
     let is_form = ap (form_in_use) (sym disks) in
-    let there = some_bytes form served.deeds.items some in
     let limited = c.begin.ensures.same.2 in
     let end = ap (end_in_use) disks in
+    let now = c.args.self.now in
     let fits =
-    room_of (form_in_use c.args.self.now.disks) form is_form (end_in_use c.args.self.now.disks) c.args.self.now.limit (length ms) c.size_of-size.result served.deeds.items
-    (c.size_of-size.ensures.bytes all happens) (admitted_for c.size_of-size.result (end_in_use c.args.self.now.disks) c.args.self.now.limit _ _ c.count_of-count.ensures c.in_ok-admit.ensures.room) c.in_ok-admit.ensures.spelled there in
-    let count = few s.state s.soft ms served after.state after.soft (length ms) (omega arith) (subst (λ (st : Store). IsServed st.state st.soft ms served after.state after.soft) c.begin.ensures.same.0 c.in-Ok.ensures.ok) in
-    within _ _ _ _ _ _ fits (room_less (length served.deeds.items) (length ms) (length (payload form served.deeds.items)) count) end limited
+    room_of (form_in_use now.disks) form is_form (end_in_use now.disks) now.limit c.need_of-need.result served.deeds.items
+    (c.need_of-need.ensures.need all happens) c.in_ok-admit.ensures.room c.in_ok-admit.ensures.spelled some in
+    within _ _ _ _ _ fits end limited
 
 pub settle-requires-clause-suit : goal.settle-requires-clause-suit
 settle-requires-clause-suit g c =
@@ -98,27 +94,26 @@ settle-requires-clause-suit g c =
     let all = history_of after.state after.soft served.deeds.items served.sends.items in
     let happens = served_happens s.state s.soft ms served after.state after.soft (subst (λ (st : Store). IsServed st.state st.soft ms c.in-Ok.served c.serve.new.store.state c.serve.new.store.soft) c.begin.ensures.same.0 c.in-Ok.ensures.ok) in
     suit_of (form_in_use c.args.self.now.disks) (form_in_use c.begin.new.self.disks) (ap (form_in_use) (sym c.begin.ensures.same.1))
-    (end_in_use c.args.self.now.disks) c.args.self.now.limit (length ms) c.size_of-size.result served.deeds.items
-    (c.size_of-size.ensures.suit all happens) c.in_ok-admit.ensures.spelled
+    (end_in_use c.args.self.now.disks) c.args.self.now.limit c.need_of-need.result served.deeds.items
+    (c.need_of-need.ensures.need all happens) c.in_ok-admit.ensures.spelled
 
 pub returns-in_err-admit : goal.returns-in_err-admit
 returns-in_err-admit g c =
     let s = c.args.self.now in
     let ms = messages_of c.args.batch in
     record {
-      orderly = c.size_of-size.ensures.orderly;
+      orderly = c.need_of-need.ensures.orderly;
       any_moment = λ is_up are. still_before g.met.D.Disk.timed s.disks s.store (comings ms) are (s.kept is_up);
       done = search rules;
       each = search rules;
       now = search rules;
       up = search rules;
       full = λ full.
-          let past : IfSome c.size_of-size.result (λ b. (0 < b) × (s.limit < end_in_use s.disks + room_for c.count_of-count.result b)) = search (rules, full) in (
+          let past : IfSome c.need_of-need.result (λ (n : Need). (0 < n.deeds) × (s.limit < end_in_use s.disks + room_for n.deeds n.bytes)) = search (rules, full) in (
             refl,
             λ all happens.
-                too_much (form_in_use s.disks) (form_in_use s.disks) refl (end_in_use s.disks) s.limit (length ms) c.size_of-size.result all.deeds
-                (c.size_of-size.ensures.bytes all happens) (c.size_of-size.ensures.none all happens)
-                (subst (λ n. IfSome c.size_of-size.result (λ b. (0 < b) × (s.limit < end_in_use s.disks + room_for n b))) c.count_of-count.ensures past),
+                too_much (form_in_use s.disks) (form_in_use s.disks) refl (end_in_use s.disks) s.limit c.need_of-need.result all.deeds
+                (c.need_of-need.ensures.need all happens) past,
           );
       room = search rules;
       was_down = search rules;
@@ -144,7 +139,7 @@ returns-in_default g c =
     let ms = messages_of c.args.batch in
     let was_up : s.down ≡ false = search rules in
     record {
-      orderly = c.size_of-size.ensures.orderly;
+      orderly = c.need_of-need.ensures.orderly;
       any_moment = λ is_up are.
           subst (λ d. PairsSince (both_of s.disks) (both_of d) (IsBeforeOrAfter s.store (comings ms))) (sym c.begin.ensures.same.1)
           (still_before g.met.D.Disk.timed s.disks s.store (comings ms) are (s.kept is_up));
@@ -185,7 +180,7 @@ returns g c =
     let was_up : s.down ≡ false = search rules in
     let done : IfOk c.settle.result (λ (told : Served). IsServed old.state old.soft ms told new.store.state new.store.soft) = search rules in
     record {
-      orderly = c.size_of-size.ensures.orderly;
+      orderly = c.need_of-need.ensures.orderly;
       any_moment = λ is_up are.
           served_since g.met.D.Disk.timed s.disks c.begin.new.self.disks new.disks old after ms served c.begin.new.self.before.value
           c.begin.ensures.same.1 c.begin.ensures.before is_served are c.settle.ensures.any_moment;
@@ -199,9 +194,8 @@ returns g c =
       full = λ full. search (rules, full);
       room =
           on_ok _ _ c.settle.result (λ is_up full.
-          not_too_much (form_in_use s.disks) (form_in_use s.disks) refl (end_in_use s.disks) s.limit (length ms) c.size_of-size.result served.deeds.items
-          (c.size_of-size.ensures.bytes all happens) (c.size_of-size.ensures.suit all happens)
-          (admitted_for c.size_of-size.result (end_in_use s.disks) s.limit _ _ c.count_of-count.ensures c.in_ok-admit.ensures.room) c.in_ok-admit.ensures.spelled (full all happens)) c.settle.ensures.up;
+          not_too_much (form_in_use s.disks) (form_in_use s.disks) refl (end_in_use s.disks) s.limit c.need_of-need.result served.deeds.items
+          (c.need_of-need.ensures.need all happens) c.in_ok-admit.ensures.room c.in_ok-admit.ensures.spelled (full all happens)) c.settle.ensures.up;
       was_down = search rules;
       stays_down = search rules;
       goes_down = search rules;

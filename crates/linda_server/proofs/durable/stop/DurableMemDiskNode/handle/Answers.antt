@@ -11,7 +11,7 @@ returns c =
     let old = c.args.self.now in
     let new = c.handle.new.self in
     works old.before.value new.before.value old.store new.store old.down new.down old.lost.items new.lost.items
-    (form_in_use old.disks) (end_in_use old.disks) old.limit 1 (says c.args.client c.args.message.now ∷ []) c.handle.result
+    (form_in_use old.disks) (end_in_use old.disks) old.limit (says c.args.client c.args.message.now ∷ []) c.handle.result
     c.handle.ensures.done c.handle.ensures.up (λ e. ap (λ (s : _). shown s.before.value s.store s.down s.lost.items) (c.handle.ensures.full e).0)
     (λ e all happens. (c.handle.ensures.full e).1 all happens) c.handle.ensures.down
     (λ d. let same = c.handle.ensures.stays_down d in (same.0, ap (λ (s : _). shown s.before.value s.store s.down s.lost.items) same.1))

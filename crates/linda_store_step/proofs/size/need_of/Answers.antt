@@ -3,9 +3,10 @@ use Rattle.std.proofs.Common.{ℕ, Option, IfNone, ◌≡◌, ◌+◌, ◌==◌,
 use Rattle.std.proofs.lemmas.List.{take_more_set}
 use Rattle.std.specs.FinMap.{get}
 use Rattle.linda_store_state.specs.State.{State}
-use Rattle.linda_store_step.specs.Size.{bytes_from, numbers_of, last_behind, latest_in, AllSuit}
-use Rattle.linda_store_step.proofs.SizeLaws.{numbers_behind, first_of, as_number, clients_few, next_low, counted_on, suit_on, suit_back, suit_first, passed_on, suit_passed, suit_before}
-use Rattle.linda_store_step.proofs.size.bytes_of.Goals as goal
+use Rattle.linda_store_step.specs.declared.size.Need.{Need}
+use Rattle.linda_store_step.specs.Size.{bytes_from, count_from, numbers_of, last_behind, latest_in, AllSuit}
+use Rattle.linda_store_step.proofs.SizeLaws.{numbers_behind, first_of, as_number, clients_few, next_low, counted_on, one_more, suit_on, suit_back, suit_first, passed_on, count_passed, suit_passed, suit_before}
+use Rattle.linda_store_step.proofs.size.need_of.Goals as goal
 
 pub loop-client-preserved : goal.loop-client-preserved
 loop-client-preserved g c =
@@ -28,6 +29,9 @@ loop-client-preserved g c =
     let all = l.invariant.all ∙ ap (λ xs. l.bytes + bytes_from form here xs) rest in
     record {
       all = counted_on form st _ _ m.0 m.1 _ l.clients l.next _ _ l.bytes _ d (drop (i + 1) ms) last_is c.in-Some.ensures fs_is k_is x_is c.in_ok-size.size c.in_ok-size.ensures.exact all;
+      counted =
+          one_more form st _ _ m.0 m.1 _ l.clients l.next _ _ l.bytes 0 d (drop (i + 1) ms) last_is c.in-Some.ensures fs_is k_is x_is l.count _
+          (l.invariant.counted ∙ ap (λ xs. l.count + count_from here xs) rest);
       suit = (
         λ every. (suit_on form st _ _ m.0 m.1 _ l.clients l.next _ _ l.bytes 0 d (drop (i + 1) ms) last_is c.in-Some.ensures fs_is k_is x_is (subst (AllSuit form here) rest (l.invariant.suit.0 every))).1,
         λ later. l.invariant.suit.1 (subst (AllSuit form here) (sym rest) (suit_back form st _ _ m.0 m.1 _ l.clients l.next _ _ l.bytes 0 d (drop (i + 1) ms) last_is c.in-Some.ensures fs_is k_is x_is c.in_ok-size.ensures.suits later)),
@@ -57,6 +61,7 @@ loop-client-preserved-in_default g c =
     let undone = sym c.in_default.is ∙ c.done_of.ensures in
     record {
       all = passed_on form st es m.0 m.1 _ l.clients l.next (drop (i + 1) ms) last_is undone l.bytes _ (l.invariant.all ∙ ap (λ xs. l.bytes + bytes_from form here xs) rest);
+      counted = count_passed form st es m.0 m.1 _ l.clients l.next (drop (i + 1) ms) last_is undone l.count _ (l.invariant.counted ∙ ap (λ xs. l.count + count_from here xs) rest);
       suit = (
         λ every. suit_passed form st es m.0 m.1 _ l.clients l.next (drop (i + 1) ms) last_is undone (subst (AllSuit form here) rest (l.invariant.suit.0 every)),
         λ later. l.invariant.suit.1 (subst (AllSuit form here) (sym rest) (suit_before form st es m.0 m.1 _ l.clients l.next (drop (i + 1) ms) last_is undone later)),
@@ -81,5 +86,5 @@ returns-in_err-size-clause-none g c =
     ∙ ap (λ n. last_behind es m.0 n) ((λ i. (c.standing.ensures.last i, c.standing.ensures.left i)) ∙ ap (λ (s : State). latest_in (get s.book m.0)) c.state.view_is)
     in
     let rest : drop l.client-index ms ≡ m ∷ drop (l.client-index + 1) ms = first_of ms l.client-index m c.loop-client-test.true c.loop-client-item.is in
-    subst (λ (o : Option ℕ). IfNone o (AllSuit form (numbers_of st) ms → ⊥)) (sym c.from_residual.ensures)
+    subst (λ (o : Option Need). IfNone o (AllSuit form (numbers_of st) ms → ⊥)) (sym c.from_residual.ensures)
     (λ every. c.in_err-size.ensures.none (suit_first form st es m.0 m.1 _ l.clients l.next c.in-Some.done (drop (l.client-index + 1) ms) last_is c.in-Some.ensures (subst (AllSuit form (numbers_behind st es l.clients l.next)) rest (l.invariant.suit.0 every))))
