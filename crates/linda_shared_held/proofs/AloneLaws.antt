@@ -1,5 +1,5 @@
 -- Messages that go one by one.
-use Rattle.std.proofs.Common.{◌≡◌, ℕ, ◌+◌, ◌≤◌, Bool, true, false, true≢false, cond, List, [], ◌∷◌, ◌++◌, map, length, Option, Some, None, option_to_list, refl, sym, ap, ◌∙◌, subst, append-nil, append_assoc, length-append, arith, rules, ◌<◌, ◌^◌, ◌⊎◌, inl, inr, Result, Ok, Err}
+use Rattle.std.proofs.Common.{◌≡◌, ℕ, ◌+◌, ◌≤◌, Bool, true, false, true≢false, cond, List, [], ◌∷◌, ◌++◌, map, length, Option, Some, None, option_to_list, refl, sym, ap, ◌∙◌, subst, append-nil, append_assoc, length-append, arith, rules, ◌<◌, ◌^◌, ◌⊎◌, inl, inr, Ok, Err}
 use Rattle.std.proofs.lemmas.List.{map-append}
 use Rattle.std.proofs.lemmas.List.Elements.{All-nil, All-cons}
 use Rattle.linda_wire.specs.declared.message.Message.{Message}

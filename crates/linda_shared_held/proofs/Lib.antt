@@ -7,5 +7,6 @@ pub mod LostLaws
 pub mod AloneLaws
 pub mod GreetLaws
 pub mod AccountsLaws
+pub mod FloorLaws
 pub mod ParkedLaws
 pub mod KeptLaws

@@ -1,7 +1,7 @@
 -- Seats that come back for their clients' next sessions.
-use Rattle.std.proofs.Common.{◌≡◌, sym, ap, subst, ◌∙◌, false}
+use Rattle.std.proofs.Common.{◌≡◌, ℕ, sym, ap, subst, ◌∙◌, false}
 use Rattle.linda_shared_accounts.specs.Account.{Account, account_of}
-use Rattle.linda_shared_accounts.specs.Ring.{IsCut}
+use Rattle.linda_shared_accounts.specs.Ring.{IsCut, KeepsAbove, IsAbove}
 use Rattle.linda_shared_accounts.specs.Accounts.{Accounts, accounts_of, with_place, place_for, ComesBack}
 use Rattle.linda_shared_held.specs.Parked.{IsParked}
 
@@ -9,12 +9,14 @@ use Rattle.linda_shared_held.specs.Parked.{IsParked}
 comes_too : (old : Accounts) (a left : Account) → left ≡ account_of a.client a.deeds a.asked left.ring → ComesBack old.places a → ComesBack old.places left
 comes_too old a left same comes = subst (ComesBack old.places) (sym same) (record { out = comes.out; all_here = comes.all_here })
 
-pub parks : (old new : Accounts) (a left : Account) → left ≡ account_of a.client a.deeds a.asked left.ring → IsCut a.ring left.ring
+pub parks : (floor : ℕ) (old new : Accounts) (a left : Account) → left ≡ account_of a.client a.deeds a.asked left.ring → IsCut a.ring left.ring → KeepsAbove floor a.ring left.ring → IsAbove floor left.ring
     → (ComesBack old.places left → new ≡ accounts_of old.total (with_place old.places left.client (place_for left false)))
-    → ComesBack old.places a → IsParked old a new
-parks old new a left same cut parked comes = record {
+    → ComesBack old.places a → IsParked floor old a new
+parks floor old new a left same cut kept gone parked comes = record {
   ring = left.ring;
   cut = cut;
+  kept = kept;
+  gone = gone;
   is = parked (comes_too old a left same comes) ∙ ap (λ (b : Account). accounts_of old.total (with_place old.places b.client (place_for b false))) same;
 }
 

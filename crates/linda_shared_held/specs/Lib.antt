@@ -4,6 +4,7 @@ pub mod Covered
 pub mod Kept
 pub mod Greeting
 pub mod Pace
+pub mod Recall
 pub mod Parked
 pub mod Closing
 pub mod Snapshot

@@ -28,6 +28,7 @@ ghost use Rattle.linda_shared_held.specs.Order.{known, IsInOrder};
 ghost use Rattle.linda_shared_held.specs.Covered.{BoxesCovered};
 ghost use Rattle.linda_shared_held.specs.Kept.{kept, Asks, Fails};
 ghost use Rattle.linda_shared_held.specs.Pace.{pace_from};
+ghost use Rattle.linda_shared_held.specs.Recall.{Remembers};
 ghost use Rattle.linda_shared_held.specs.Posted.{IsHandled, WentSome};
 ghost use Rattle.linda_shared_outbox.specs.Waiting.{waits_for};
 ghost use Rattle.linda_server.specs.Server.{end_in_use};
@@ -69,6 +70,8 @@ pub struct Held<D: Disk, L: Ledger> {
     boxes: Outboxes,
     pace: Pace,
     recall: Recall,
+    // What is remembered for a client was kept for it at the base.
+    ghost remembers: { ∥ Remembers base.value recall ∥₁ },
     ghost counted: { accounts.total ≡ count },
     ghost covered: { ∥ BoxesCovered (known server.before.value server.store server.down)
         (waits_for boxes) ∥₁ },

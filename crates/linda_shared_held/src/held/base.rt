@@ -13,6 +13,7 @@ ghost use Rattle.linda_shared_held.specs.Order.{known, IsReplayed, CountsDeeds, 
 ghost use Rattle.linda_shared_outbox.specs.Waiting.{waits_for};
 ghost use Rattle.linda_shared_accounts.specs.Accounts.{AreShortened};
 ghost use Rattle.linda_shared_held.specs.Pace.{is_due, pace_from, put_off_at, tried_at};
+ghost use Rattle.linda_shared_held.specs.Recall.{Remembers};
 ghost use Rattle.linda_store_state.specs.Numbers.{kept_sum};
 ghost use Rattle.linda_shared_held.specs.Covered.{BoxesCovered};
 ghost use Rattle.linda_shared_held.specs.Snapshot.{TakesSnapshot};
@@ -54,6 +55,9 @@ impl<D: Disk, L: Ledger> Held<D, L> {
         ensures kept { result ≡ false → ∥ kept_sum self.now.server.store.state
             ≡ kept_sum self.now.opening.value + self.now.count ∥₁ }
         ensures total { self.now.accounts.total ≡ self.now.count }
+        // What is remembered for a client is its last number at the base: so the receipts above it
+        // are those that are younger.
+        ensures remembers { ∥ Remembers self.now.base.value self.now.recall ∥₁ }
         // What is posted is kept, until the client's next number is.
         ensures covered { ∥ BoxesCovered
             (known self.now.server.before.value self.now.server.store self.now.server.down)

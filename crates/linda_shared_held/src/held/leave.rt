@@ -2,6 +2,7 @@
 
 ghost use Rattle.std.specs.Prelude.{◌≡◌};
 ghost use Rattle.linda_shared_held.specs.Closing.{Closes, ClosesAndPosts, Departs};
+ghost use Rattle.linda_shared_held.specs.Recall.{IsTaken};
 ghost use Rattle.linda_shared_held.specs.Parked.{ComesToPark, IsBack};
 
 use super::Held;
@@ -37,7 +38,8 @@ impl<D: Disk, L: Ledger> Held<D, L> {
     /// The client's seat comes back, for its next session: with the receipts that are younger than
     /// the base, and its last one.
     pub fn park(&mut self, account: Account<L>)
-        ensures back { ComesToPark self.old.accounts account self.new.accounts }
+        ensures back { ComesToPark self.old.recall self.old.accounts account self.new.accounts }
+        ensures taken { IsTaken self.old.recall account.client self.new.recall }
         ensures same { (self.new.opening.value ≡ self.old.opening.value)
             × (self.new.base.value ≡ self.old.base.value)
             × (self.new.receipts.items ≡ self.old.receipts.items)
@@ -71,7 +73,8 @@ impl<D: Disk, L: Ledger> Held<D, L> {
         ensures departs { Departs self.old.server self.old.boxes account.client result
             self.new.server self.new.boxes }
         // Whatever it reports, its seat is back.
-        ensures back { ComesToPark self.old.accounts account self.new.accounts }
+        ensures back { ComesToPark self.old.recall self.old.accounts account self.new.accounts }
+        ensures taken { IsTaken self.old.recall account.client self.new.recall }
         ensures same { (self.new.opening.value ≡ self.old.opening.value)
             × (self.new.base.value ≡ self.old.base.value)
             × (self.new.receipts.items ≡ self.old.receipts.items)
@@ -99,7 +102,8 @@ fn depart<D: Disk, L: Ledger>(
     account: Account<L>,
 ) -> Result<(), SharedFault>
     ensures departs { Departs server.old boxes.old account.client result server.new boxes.new }
-    ensures back { ComesToPark accounts.old account accounts.new }
+    ensures back { ComesToPark recall.old accounts.old account accounts.new }
+    ensures taken { IsTaken recall.old account.client recall.new }
     ensures total { accounts.new.total ≡ accounts.old.total }
 {
     let client = account.client();

@@ -7,7 +7,10 @@
 //! one before keep only their last receipt.
 
 ghost use Rattle.std.specs.Prelude.{◌≡◌};
+ghost use Rattle.std.specs.FinMap as map;
 ghost use Rattle.linda_shared_accounts.specs.Accounts.{AreShortened};
+ghost use Rattle.linda_shared_accounts.specs.Recall.{AreKept};
+ghost use Rattle.linda_shared_held.specs.Recall.{floor_of, floors_of, IsTaken, Remembers};
 ghost use Rattle.linda_shared_held.specs.Parked.{ComesToPark};
 
 use linda_bag::IndexBag;
@@ -27,7 +30,9 @@ pub(super) struct Recall {
 
 impl Recall {
     /// Nothing is remembered.
-    pub(super) fn new(alloc: Global) -> Recall {
+    pub(super) fn new(alloc: Global) -> Recall
+        ensures { floors_of result ≡ map.empty }
+    {
         Recall {
             floors: BTreeMap::new(alloc),
             long: BTreeSet::new(alloc),
@@ -36,7 +41,10 @@ impl Recall {
 
     // The number that was kept for the client at the last snapshot, if its seat was out then and
     // did not come back since, else 0. It is remembered no more.
-    fn take_floor(&mut self, client: u32) -> u64 {
+    fn take_floor(&mut self, client: u32) -> u64
+        ensures floor { result ≡ floor_of self.old client }
+        ensures taken { IsTaken self.old client self.new }
+    {
         match self.floors.remove(&client) {
             Some(number) => number,
             None => 0,
@@ -45,7 +53,9 @@ impl Recall {
 
     // The client's seat comes back with so many receipts. Where there is no memory to remember it,
     // its ring is cut when it comes back the next time.
-    fn note(&mut self, client: u32, receipts: usize) {
+    fn note(&mut self, client: u32, receipts: usize)
+        ensures { floors_of self.new ≡ floors_of self.old }
+    {
         if receipts > 1 {
             let _ = self.long.insert(client);
         }
@@ -59,7 +69,8 @@ pub(super) fn put_back<L: Ledger>(
     recall: &mut Recall,
     account: Account<L>,
 )
-    ensures back { ComesToPark accounts.old account accounts.new }
+    ensures back { ComesToPark recall.old accounts.old account accounts.new }
+    ensures taken { IsTaken recall.old account.client recall.new }
     ensures total { accounts.new.total ≡ accounts.old.total }
 {
     let mut account = account;
@@ -79,12 +90,24 @@ pub(super) fn begin_anew<L: Ledger>(
 )
     ensures total { accounts.new.total ≡ accounts.old.total }
     ensures shortened { AreShortened accounts.old.places accounts.new.places }
+    ensures remembers { Remembers state.now recall.new }
 {
-    recall.floors = match accounts.numbers_out(alloc, state) {
-        Ok(floors) => floors,
-        Err(_) => BTreeMap::new(alloc),
-    };
+    recall.floors = numbers_kept(accounts, alloc, state);
     shorten_all(accounts, &mut recall.long);
+}
+
+// For clients whose seat is out the numbers that are kept for them; for none if there is no memory.
+fn numbers_kept<L: Ledger>(
+    accounts: &Accounts<L>,
+    alloc: Global,
+    state: &State<IndexBag>,
+) -> BTreeMap<u32, u64>
+    ensures { AreKept state.now result }
+{
+    match accounts.numbers_out(alloc, state) {
+        Ok(numbers) => numbers,
+        Err(_) => BTreeMap::new(alloc),
+    }
 }
 
 // The rings of these clients keep their last receipts alone.

@@ -11,6 +11,7 @@ invariant_of-self g c =
     let still = still_taken h.server s c.begin_steps.result c.begin_steps.ensures.takes.still c.begin_steps.ensures.takes.up c.begin_steps.ensures.takes.store in
     record {
       in_order = ∥∥₁_map h.in_order (still_order h.server s still);
+      remembers = h.remembers;
       counted = h.counted;
       covered = ∥∥₁_map h.covered (still_covered h.server s h.boxes h.boxes still (λ st covered. covered));
     }

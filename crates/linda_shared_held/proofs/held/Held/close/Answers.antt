@@ -9,6 +9,7 @@ invariant_of-self g c =
     let still = c.close_and_post.ensures.still in
     record {
       in_order = ∥∥₁_map h.in_order (still_order h.server new.server still);
+      remembers = h.remembers;
       counted = h.counted;
       covered = ∥∥₁_map h.covered (still_covered h.server new.server h.boxes new.boxes still c.close_and_post.ensures.covered);
     }

@@ -7,6 +7,7 @@ invariant_of-self g c =
     let h = c.args.self.now in
     record {
       in_order = h.in_order;
+      remembers = h.remembers;
       counted = h.counted;
       covered = ∥∥₁_map h.covered (λ covered. c.drain_some.ensures.covered (known h.server.before.value h.server.store h.server.down) covered);
     }

@@ -8,6 +8,7 @@ invariant_of-self g c =
     let still = c.fall.ensures.still in
     record {
       in_order = ∥∥₁_map h.in_order (still_order h.server c.fall.new.server still);
+      remembers = h.remembers;
       counted = h.counted;
       covered = ∥∥₁_map h.covered (still_covered h.server c.fall.new.server h.boxes h.boxes still (λ st covered. covered));
     }

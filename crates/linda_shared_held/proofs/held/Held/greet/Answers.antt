@@ -10,6 +10,7 @@ invariant_of-self g c =
     let still = c.admit.ensures.admits.still in
     record {
       in_order = ∥∥₁_map h.in_order (still_order h.server new.server still);
+      remembers = h.remembers;
       counted = c.admit.ensures.total ∙ h.counted;
       covered = ∥∥₁_map h.covered (still_covered h.server new.server h.boxes new.boxes still c.admit.ensures.covered);
     }

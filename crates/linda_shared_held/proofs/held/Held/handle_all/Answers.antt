@@ -13,6 +13,7 @@ invariant_of-self g c =
     let keeps = c.in-Ok.ensures.takes.keeps in
     record {
       in_order = ∥∥₁_map h.in_order (λ so. subst (λ n. InOrder h.opening.value h.base.value n new) (sym c.settle_all.ensures.count) (keeps.ok_order h.opening.value h.base.value h.count so));
+      remembers = h.remembers;
       counted = ap (λ (t : Accounts). t.total) c.settle_all.ensures.accounts ∙ (ap (λ n. n + more) h.counted ∙ sym c.settle_all.ensures.count);
       covered = ∥∥₁_map₂ h.in_order h.covered (λ so covered. keeps.covered h.opening.value h.base.value h.count so covered);
     }
@@ -23,6 +24,7 @@ invariant_of-self-in-Err g c =
     let keeps = c.in-Err.ensures.takes.keeps in
     record {
       in_order = ∥∥₁_map h.in_order (λ so. keeps.err_order h.opening.value h.base.value h.count so);
+      remembers = h.remembers;
       counted = ap (λ (t : Accounts). t.total) c.fail_all.ensures.accounts ∙ h.counted;
       covered = ∥∥₁_map₂ h.in_order h.covered (λ so covered. keeps.covered h.opening.value h.base.value h.count so covered);
     }

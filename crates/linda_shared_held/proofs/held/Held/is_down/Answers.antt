@@ -31,6 +31,9 @@ returns-clause-down g c is honest left right l r =
     (is_known_down h.opening.value h.base.value h.receipts.items h.count h.server.down h.server.before.value h.server.store down these.0)
     (is_covered_down waits h.server.down h.server.before.value h.server.store down these.1) around)
 
+pub returns-clause-remembers : goal.returns-clause-remembers
+returns-clause-remembers g c = c.args.self.now.remembers
+
 pub returns-clause-covered : goal.returns-clause-covered
 returns-clause-covered g c = c.args.self.now.covered
 

@@ -22,6 +22,7 @@ invariant_of-self g c =
     record {
       in_order = ∥∥₁_map h.in_order (λ so.
           stays_so h.opening.value h.base.value h.receipts.items h.count h.server.down s.down (known h.server.before.value h.server.store h.server.down) (known s.before.value s.store s.down) still (λ up. sym c.set_second.ensures.down.0 ∙ up) so);
+      remembers = h.remembers;
       counted = h.counted;
       covered = ∥∥₁_map h.covered (λ covered. subst (λ st. BoxesCovered st (waits_for c.set_second-2.new.self)) (sym still)
           (subst (λ (w : ℕ → Option (List Reply)). BoxesCovered (known h.server.before.value h.server.store h.server.down) w) (sym c.set_second-2.ensures) covered));

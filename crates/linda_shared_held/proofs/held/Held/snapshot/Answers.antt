@@ -11,6 +11,7 @@ invariant_of-self g c =
     let still = still_taken h.server s c.take_snapshot.result c.take_snapshot.ensures.still c.take_snapshot.ensures.up c.take_snapshot.ensures.store in
     record {
       in_order = ∥∥₁_map h.in_order (still_order h.server s still);
+      remembers = h.remembers;
       counted = h.counted;
       covered = ∥∥₁_map h.covered (still_covered h.server s h.boxes h.boxes still (λ st covered. covered));
     }

@@ -1,0 +1,2 @@
+mod OnlyLaws
+mod SnapshotLaws
