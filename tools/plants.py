@@ -124,7 +124,7 @@ PLANTS = [
          "        let Ok(bytes) = spell_all(alloc, self.form, deeds, len) else {\n            return Ok(());\n        };\n"),
     edit("a server goes on after a snapshot that could not begin", "refused growths, tests", f"{REFUSED} durable", "gives_the_next_bank_up_or_loses_nothing: growth",
          "crates/linda_server/src/durable/steps.rt", "                if fault == ServeFault::Full {\n", "                if fault != ServeFault::Disk {\n"),
-    edit("a server goes on after a step that failed", "refused growths, tests", f"{REFUSED} sessions", "a_snapshot_in_steps_ends_or_is_given_up: growth",
+    edit("a server goes on after a step that failed", "refused growths, tests", f"{REFUSED} sessions snapshots", "a_snapshot_in_steps_ends_or_is_given_up: growth",
          "crates/linda_server/src/durable/steps.rt", "                Ok(None) => Ok(Progress::Done),\n                Err(fault) => {\n"
          "                    self.before = Moment::of(self.store.state());\n                    self.down = true;\n",
          "                Ok(None) => Ok(Progress::Done),\n                Err(fault) => {\n                    self.before = Moment::of(self.store.state());\n"),
@@ -132,7 +132,7 @@ PLANTS = [
          "crates/linda_server/src/durable/steps.rt", "                Ok(None) => Ok(Progress::Done),\n                Err(fault) => {\n"
          "                    self.before = Moment::of(self.store.state());\n                    self.down = true;\n",
          "                Ok(None) => Ok(Progress::Done),\n                Err(fault) => {\n                    self.before = Moment::of(self.store.state());\n", build="two"),
-    edit("a group is not served, and the server goes on with its deeds", "refused growths, tests", f"{REFUSED} sessions",
+    edit("a group is not served, and the server goes on with its deeds", "refused growths, tests", f"{REFUSED} sessions groups",
          "a_group_is_served_or_not_or_the_server_is_down: growth", "crates/linda_shared_held/src/held/serve.rt",
          "    let Ok((told, sends)) = receipts_of(alloc, served) else {\n        server.give_up();\n        return Err(SharedFault::Down);\n",
          "    let Ok((told, sends)) = receipts_of(alloc, served) else {\n        return Err(SharedFault::Memory);\n"),

@@ -66,6 +66,8 @@ const ROWS: &[Row] = &[
         Told::State(4, 3, 3, 0),
     ),
     (Do::Standing(8), AWAY, Told::State(4, 3, 3, 0)),
+    // (no snapshot comes after this one, so its record has to be there)
+    (Do::Put(9, 2, 6), Told::Replies(1), Told::State(5, 4, 3, 0)),
 ];
 
 /// Where a client stands that left by its first message.
