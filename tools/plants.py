@@ -2,7 +2,7 @@
 
 It is no tool by itself. A plant is changed text of files, or calls of the system that are preloaded into the program. Plants of changed sources that have
 the same `build` are built together, unproved, since each is seen by another check, or in other words. `part` is the part of tools/check that has to
-fail, `command` what of it sees this plant, and `says` what it prints then. Plants of time and of processor time may be missed on a busy machine: there
+fail, or `rt ci`, which plays the tests; `command` is what of it sees this plant, and `says` what it prints then. Plants of time and of processor time may be missed on a busy machine: there
 a busy loop gets few processors, and ten thousand tries take seconds.
 """
 
@@ -26,6 +26,10 @@ PYTHON, NODE, C = "clients/python", "clients/node", "clients/c"
 SOCKETS, COUNTS, RATIOS, SIMULATE = "tools/sockets", "tools/counts", "tools/ratios", "tools/simulate 150"
 ALL = "for key in 0..self.connections.capacity() {\n            if let Some(connection) = self.connections.get_mut(key) {\n                "
 SOME = ALL.replace("capacity()", "len()")
+# What plays tests that it builds: of files as disks, and of servers and sessions with each allocation refused.
+FILES, REFUSED = "tools/tests linda_test_code_libraries disk::file", "tools/refused-growth quick"
+FILE_DISK, DEVICE = "crates/linda_disk/src/file_disk.rt", "tools/device"
+KNOWN = FILE_DISK.replace("file_disk", "known")
 
 
 class Plant(NamedTuple):
@@ -37,6 +41,10 @@ class Plant(NamedTuple):
     says: str
     edits: tuple[tuple[str, str, str], ...] | str
     build: str = ""
+
+    def is_dear(self) -> bool:
+        """Whether something is built for it, which takes a minute or more."""
+        return bool(self.build) or self.command.startswith(("tools/tests", REFUSED))
 
 
 def edit(name: str, part: str, command: str, says: str, *edits: str, build: str = "") -> Plant:
@@ -79,6 +87,55 @@ PLANTS = [
     edit("the room of a snapshot that was cut off is not given back", "counts", f"{COUNTS} lengths_after_a_cut_snapshot", "after a kill in a snapshot",
          f"{SERVE}/start.rt", "    let mut server = server;\n    give_back(&mut server)?;\n    Ok(Begun {\n        server,\n        course: Course {\n            base,\n"
          "            put_off: Some", "    Ok(Begun {\n        server,\n        course: Course {\n            base,\n            put_off: Some", build="one"),
+    # ---- a file as a disk: no contract says what its calls of the system do
+    edit("nothing is ever synced", "device", f"{DEVICE} what_is_answered_is_synced", "something is not synced", FILE_DISK,
+         "        match self.file.sync_data() {\n            Ok(()) => {\n                self.known.sync();\n                Ok(())\n            }\n"
+         "            Err(error) => Err(self.failed(FileCall::Sync, error)),\n        }\n", "        self.known.sync();\n        Ok(())\n", build="two"),
+    edit("a sync that failed is taken for one that worked", "device", f"{DEVICE} each_call_that_fails_is_reported", r"fails \(sync\), and it ends|has not ended", FILE_DISK,
+         "            Err(error) => Err(self.failed(FileCall::Sync, error)),\n", "            Err(_) => Ok(()),\n", build="one"),
+    edit("a write that failed is taken for one that worked", "rt ci", FILES, "a_file_for_reading_only_takes_no_write ... FAILED", FILE_DISK,
+         "            Err(error) => Err(self.failed(FileCall::Write, error)),\n", "            Err(_) => Ok(()),\n"),
+    edit("a cut that failed is taken for one that worked", "rt ci", FILES, "a_file_for_reading_only_takes_no_write ... FAILED", FILE_DISK,
+         "            Err(error) => Err(self.failed(FileCall::Cut, error)),\n", "            Err(_) => Ok(()),\n"),
+    edit("a file is never cut", "rt ci", FILES, "a_file_has_what_was_written_when_it_is_opened_again ... FAILED", FILE_DISK,
+         "        match self.file.set_len(len as u64) {\n            Ok(()) => Ok(()),\n            Err(error) => Err(self.failed(FileCall::Cut, error)),\n        }\n",
+         "        Ok(())\n"),
+    edit("nothing is written", "rt ci", FILES, "a_file_has_what_was_written_when_it_is_opened_again ... FAILED", FILE_DISK,
+         "        match self.file.write_all_at(bytes, at as u64) {\n            Ok(()) => Ok(()),\n"
+         "            Err(error) => Err(self.failed(FileCall::Write, error)),\n        }\n", "        Ok(())\n"),
+    edit("the last failed call is named, not the first", "rt ci", FILES, "a_file_for_reading_only_takes_no_write ... FAILED", FILE_DISK,
+         "if self.trouble.is_none() {", "if self.failures > 0 {"),
+    edit("no failed call is named", "rt ci", FILES, "a_file_for_reading_only_takes_no_write ... FAILED", FILE_DISK,
+         "if self.trouble.is_none() {", "if self.trouble.is_some() {"),
+    edit("a file is opened without a sync", "device", f"{DEVICE} what_a_kill_left_is_synced", "it is ready, and something is not synced", KNOWN,
+         "    if file.sync_data().is_err() {\n        return Err(DiskFault::Device);\n    }\n", "", build="one"),
+    edit("a file that cannot be synced is opened", "rt ci", FILES, "a_device_that_cannot_be_synced_is_no_disk ... FAILED", KNOWN,
+         "    if file.sync_data().is_err() {\n        return Err(DiskFault::Device);\n    }\n", "    let _ = file.sync_data().is_err();\n"),
+    edit("nothing is read of a file", "rt ci", FILES, "a_file_has_what_was_written_when_it_is_opened_again ... FAILED", KNOWN,
+         "    match file.read_exact_at(&mut piece, at as u64) {\n        Ok(()) => Ok(piece),\n        Err(_) => Err(DiskFault::Device),\n    }\n", "    let _ = (file, at);\n    Ok(piece)\n"),
+    # ---- memory that is refused
+    edit("a tuple that could not be put aside is taken", "refused growths, tests", f"{REFUSED} durable", "gives_the_next_bank_up_or_loses_nothing: growth",
+         "crates/linda_snap/src/draft.rt", "        let copy = tuple.try_clone(alloc)?;\n        self.aside.insert(id, copy)?;\n        Ok(())\n",
+         "        if let Ok(copy) = tuple.try_clone(alloc) {\n            let _ = self.aside.insert(id, copy).is_ok();\n        }\n        Ok(())\n"),
+    edit("deeds that could not be noted are taken for noted", "refused growths, tests", f"{REFUSED} durable", "gives_the_next_bank_up_or_loses_nothing: growth",
+         "crates/linda_snap/src/successor.rt", "        self.since.extend(&bytes)?;\n", "        let _ = self.since.extend(&bytes).is_ok();\n"),
+    edit("records that could not be spelled are taken for written", "refused growths, tests", f"{REFUSED} durable", "want_of_memory_.*: growth",
+         "crates/linda_journal/src/bank.rt", "        let bytes = spell_all(alloc, self.form, deeds, len)?;\n",
+         "        let Ok(bytes) = spell_all(alloc, self.form, deeds, len) else {\n            return Ok(());\n        };\n"),
+    edit("a server goes on after a snapshot that could not begin", "refused growths, tests", f"{REFUSED} durable", "gives_the_next_bank_up_or_loses_nothing: growth",
+         "crates/linda_server/src/durable/steps.rt", "                if fault == ServeFault::Full {\n", "                if fault != ServeFault::Disk {\n"),
+    edit("a server goes on after a step that failed", "refused growths, tests", f"{REFUSED} sessions snapshots", "a_snapshot_in_steps_ends_or_is_given_up: growth",
+         "crates/linda_server/src/durable/steps.rt", "                Ok(None) => Ok(Progress::Done),\n                Err(fault) => {\n"
+         "                    self.before = Moment::of(self.store.state());\n                    self.down = true;\n",
+         "                Ok(None) => Ok(Progress::Done),\n                Err(fault) => {\n                    self.before = Moment::of(self.store.state());\n"),
+    edit("a server that serves goes on after a step that failed", "refused growths, large", "tools/refused-growth serve large 1", "^growth .* refused:",
+         "crates/linda_server/src/durable/steps.rt", "                Ok(None) => Ok(Progress::Done),\n                Err(fault) => {\n"
+         "                    self.before = Moment::of(self.store.state());\n                    self.down = true;\n",
+         "                Ok(None) => Ok(Progress::Done),\n                Err(fault) => {\n                    self.before = Moment::of(self.store.state());\n", build="two"),
+    edit("a group is not served, and the server goes on with its deeds", "refused growths, tests", f"{REFUSED} sessions groups",
+         "a_group_is_served_or_not_or_the_server_is_down: growth", "crates/linda_shared_held/src/held/serve.rt",
+         "    let Ok((told, sends)) = receipts_of(alloc, served) else {\n        server.give_up();\n        return Err(SharedFault::Down);\n",
+         "    let Ok((told, sends)) = receipts_of(alloc, served) else {\n        return Err(SharedFault::Memory);\n"),
     edit("a copy is not made anew", "sockets", f"{SOCKETS} a_copy_while_banks_change", "FAILED", "examples/backup.sh", '[ "$(heads "$1")" != "$before" ]', "false"),
     # ---- what is left open, busy or in memory
     Plant("a connection over a unix socket leaves a descriptor", "counts", f"{COUNTS} files_of_a_server", "over a unix socket",
@@ -95,6 +152,8 @@ PLANTS = [
          "crates/linda_net_session/src/outgoing.rt", "if left == 0 && self.out", "if self.gone > 0 && self.out", build="one"),
     edit("the bank that was read stays in memory", "counts", f"{COUNTS} memory_after_a_start", "after a start over",
          "crates/linda_disk/src/known.rt", "        self.front.truncate(most);\n        self.front.shrink_to_fit();\n", "        let _ = most;\n", build="one"),
+    edit("the other bank stays in memory too", "counts", f"{COUNTS} memory_after_a_start", "after a start over",
+         f"{SERVE}/store.rt", "        Ok(FileDisk::with_front(alloc, file)?)\n", "        Ok(FileDisk::new(alloc, file)?)\n", build="two"),
     edit("receipts are never forgotten", "counts", f"{COUNTS} memory_over_many_puts", "each taken, leave",
          f"{NET}_watch/src/looking.rt", "        shared.forget(rt);\n", "", build="one"),
     # ---- the two loops
@@ -105,13 +164,27 @@ PLANTS = [
          f"{NET}_loops/src/sessions.rt", f"{ALL}let holds_any", f"{SOME}let holds_any", build="one"),
     edit("a server that is down ends as many keys as there are connections", "sockets", f"{SOCKETS} connections_of_a_failed_device", "FAILED",
          f"{NET}_loops/src/sessions.rt", f"{ALL}connection.end_with", f"{SOME}connection.end_with", build="one"),
+    edit("a server that is down closes as many keys as there are connections", "sockets", f"{SOCKETS} a_failed_device_beside_a_peer_that_never_reads", "FAILED",
+         f"{NET}_loops/src/sessions.rt", f"{ALL}connection.fail", f"{SOME}connection.fail", build="two"),
+    edit("connections are given up of as many keys as there are connections", "sockets", f"{SOCKETS} connections_that_are_given_up", "FAILED",
+         f"{NET}_loops/src/sessions.rt", f"{ALL}if connection.gives_up", f"{SOME}if connection.gives_up", build="two"),
     # ---- numbers
+    edit("who was late in all is told of each minute", "sockets", f"{SOCKETS} logs_of_refusals", "late 0",
+         f"{SERVE}/log.rt", 'self.number("late", more.late)', 'self.number("late", tally.late)', build="two"),
+    edit("a snapshot for which there is no room is logged as taken", "sockets", f"{SOCKETS} logs_of_a_bank_without_room", "result taken",
+         f"{NET}_watch/src/watching.rt", "Err(SharedFault::Full) => Some(Notice::NoSnapshot(millis)),", "Err(SharedFault::Full) => Some(Notice::Snapshot(millis)),", build="two"),
     edit("greetings and malformed change places in the status", "status", "tools/status numbers_that_follow", "FAILED",
          "crates/linda_status/src/figure.rt", "Greetings => tally.turned.greetings", "Greetings => tally.turned.malformed",
          "crates/linda_status/src/figure.rt", "Malformed => tally.turned.malformed", "Malformed => tally.turned.greetings", build="one"),
     edit("full and toomany change places in the status", "status", "tools/status refusals_that_differ", "FAILED",
          "crates/linda_status/src/figure.rt", "Full => tally.refused", "Full => tally.turned.clients",
          "crates/linda_status/src/figure.rt", "TooMany => tally.turned.clients", "TooMany => tally.refused", build="one"),
+    edit("ages of holds and of waits change places in the status", "status", "tools/status ages_that_follow", "FAILED",
+         "crates/linda_status/src/figure.rt", "OldestWait => gauge.oldest_wait", "OldestWait => gauge.oldest_hold",
+         "crates/linda_status/src/figure.rt", "OldestHold => gauge.oldest_hold", "OldestHold => gauge.oldest_wait", build="one"),
+    edit("groups and their messages change places in the status", "status", "tools/status messages_in_groups", "FAILED",
+         "crates/linda_status/src/figure.rt", "Groups => tally.groups", "Groups => tally.messages",
+         "crates/linda_status/src/figure.rt", "Messages => tally.messages", "Messages => tally.groups", build="two"),
     edit("deeds and records change places in the status", "status", "tools/status numbers_that_follow", "FAILED",
          "crates/linda_status/src/figure.rt", "Deeds => gauge.deeds", "Deeds => gauge.records as u64",
          "crates/linda_status/src/figure.rt", "Records => gauge.records as u64", "Records => gauge.deeds", build="two"),
@@ -127,6 +200,8 @@ PLANTS = [
     Plant("each sync waits for 20 ms before", "ratios", f"{RATIOS} puts_against_syncs", "FAILED",
           "int fdatasync(int file) { usleep(20000); return NEXT(fdatasync)(file); }"),
     edit("no snapshot is in steps", "ratios", f"{RATIOS} replies_during_a_snapshot", "FAILED", f"{NET}_watch/src/snapshots.rt", ".used < STEP {", ".used > 0 {", build="two"),
+    edit("nobody has the server between two steps of a snapshot", "ratios", f"{RATIOS} replies_during_a_snapshot", "FAILED", f"{NET}_watch/src/snapshots.rt",
+         "Ok(Progress::Going) => thread::sleep(rt, pause()),", "Ok(Progress::Going) => {}", build="one"),
     edit("alarms of a call come up to 50 ms late", "ratios", f"{RATIOS} alarms_of_a_call", "FAILED",
          "crates/linda_net_proxy/src/inbox.rt", "Duration::from_millis(1),", "Duration::from_millis(50),", build="two"),
     edit("each put is spelled a hundred times", "instructions", "bench/instructions", "instructions a put",
@@ -174,6 +249,11 @@ PLANTS = [
     edit("a code of the header is another", "c frames", f"{C}/test_frames 1", "error", f"{C}/linda.h", "LINDA_CODE_NO_HELLO = 12", "LINDA_CODE_NO_HELLO = 13"),
     edit("texts are compared up to their first zero", "c frames", f"{C}/test_frames 1", "texts with zeros", f"{C}/linda.h",
          "memcmp(value->text, pattern->text, value->size) == 0", "strncmp((const char *)value->text, (const char *)pattern->text, value->size) == 0"),
+    # ---- tools/check itself
+    edit("a part without its command passes in CI", "itself", "tools/check --itself", "without a compiler it ends with", "tools/check",
+         "    results += [Result(part, False, 0, f\"there is no {', '.join(words)}\") for part, words in lacking.items() if is_ci]\n", ""),
+    edit("a part that has not ended in time passes", "itself", "tools/check --itself", "is well: True", "tools/check",
+         "        return Result(part, status == 0, seconds,", "        return Result(part, not status, seconds,"),
     # ---- pages and packages
     # (the parts of the old texts are apart here, so that each is in this file once)
     edit("a plant of a file that moved", "links", "tools/links", "has its old text 0 times", "tools/plants.py", '"crates/linda_disk/' 'src/known.rt"', '"crates/linda_disk/src/once.rt"'),
@@ -293,7 +373,7 @@ def seen(plant: Plant, program: Path, folder: Path) -> tuple[bool, str]:
 
 def play(program: Path, parts: list[str], is_long: bool, jobs: int) -> int:
     """Plants each of these parts, or of all; without `is_long` only those for which no program is built. How many were not seen."""
-    chosen = [it for it in PLANTS if (is_long or not it.build) and (not parts or it.part in parts)]
+    chosen = [it for it in PLANTS if (is_long or not it.is_dear()) and (not parts or it.part in parts)]
     missed = 0
     with tempfile.TemporaryDirectory(prefix="plants-") as name, ThreadPoolExecutor(jobs) as lanes:
         folder = Path(name)
@@ -306,7 +386,7 @@ def play(program: Path, parts: list[str], is_long: bool, jobs: int) -> int:
             return f"{plant.part}: {'seen' if is_seen else 'NOT SEEN'} in {time.monotonic() - began:.0f} s: {plant.name}: {words}"
 
         # (those of programs that are still to be built come last)
-        for line in lanes.map(one, sorted(chosen, key=lambda it: bool(it.build))):
+        for line in lanes.map(one, sorted(chosen, key=lambda it: (it.is_dear(), bool(it.build)))):
             missed += "NOT SEEN" in line
             print(line, flush=True)
     print(f"{len(chosen) - missed} plants seen, {missed} not")

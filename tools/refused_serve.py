@@ -1,6 +1,8 @@
 """`linda serve` under two clients, with one growth of memory refused after another: `tools/refused-growth serve` runs it.
 
-    python3 tools/refused_serve.py MALLOC [FROM] [STEP]     MALLOC: the library that refuses growths; FROM: the first one (1), STEP: to the next (1)
+    python3 tools/refused_serve.py MALLOC [FROM] [STEP] [large]     MALLOC: the library that refuses growths; FROM: the first one (1), STEP: to the next (1);
+                                                                    large: over a large bank, of which a snapshot in steps is taken meanwhile; FROM counts
+                                                                    from the first growth of a program that is ready
 
 The clients put, take, wait for each other's tuple, send 64 messages at once, greet again, and leave. At each growth that is refused a request gets its answer,
 or a refusal (Busy, Down), or its connection ends, or the program ends with status 3 and `memory` or `store: down`; whoever waits ten seconds for
@@ -10,7 +12,8 @@ again over the same folder, with no growth refused; where it ended before it was
 - the server's last number of each client is that of its last answered message, or of the one that was unanswered;
 - the last answered message gets the same reply again;
 - at the end the tuples and their ids are those of the run in which nothing was refused, and so are all replies, but for the Gones of Accepts whose hold
-  was given up when a connection or the program ended, and the numbers behind them.
+  was given up when a connection or the program ended, and the numbers behind them;
+- the snapshot of a large bank is taken in the end, and has all of its tuples.
 
 The sweep ends where three runs in a row had no growth left to refuse. The first difference is printed, and ends it with 1.
 """
@@ -23,6 +26,7 @@ import tempfile
 import time
 from pathlib import Path
 
+import banks
 from served import TOP, Frame, Peer, frames, listing
 
 # The program itself: ./linda is a shell script, whose growths would count too.
@@ -32,8 +36,12 @@ TRIES = 200
 BUSY, DOWN = 3, 8
 LAST_WORDS = ("memory\n", "store: down\n")
 LOOKERS = 100
+# No start over a large bank makes so many growths.
+MOST_GROWTHS = 100_000
 # So many tuples are left at the end of the day.
 LEFT = 64
+# A large bank has so many tuples that nobody asks for, each with so many letters, in more than 256 KiB, which a client put.
+PADS, LETTERS, PADDER = 1_200, 250, 9
 
 
 class Difference(Exception):
@@ -272,31 +280,83 @@ def are_alike(came: list, wanted: list) -> bool:
     return len(came) == len(wanted) and all(one is None or one == other for one, other in zip(came, wanted))
 
 
-def run(malloc: str, growth: int) -> tuple[tuple[list, dict[int, tuple]], bool, int, int]:
+def fill(folder: Path) -> None:
+    """A large bank of so many records that a snapshot is taken as soon as the program serves, in steps."""
+    data = banks.spell_bank(1, banks.State())[:-1]
+    for number in range(1, PADS + 1):
+        deed = b"\1" + frames.spell_number(PADDER, 4) + frames.spell_number(number) + frames.spell_items("pad", (number, "p" * LETTERS))
+        data += b"\1" + frames.spell_number(len(deed), 4) + deed
+    data += b"\0"
+    if len(data) < 262_144:
+        raise ValueError(f"a bank of {len(data)} bytes is written at once")
+    (folder / "left.bank").write_bytes(data)
+    (folder / "right.bank").write_bytes(b"\0")
+
+
+def check_pads(program: Program) -> None:
+    """The snapshot is taken, at the latest by a program that was started again, and all that was in the bank is there."""
+    until = time.monotonic() + PATIENCE
+    while (found := banks.verdict(*banks.folder_bytes(program.folder / "store"))).generation < 2:
+        if time.monotonic() > until:
+            raise Difference("no snapshot was taken")
+        if program.process and program.has_ended():
+            program.end()
+        program.start()
+        time.sleep(0.005)
+    here = sum(1 for number in range(1, PADS + 1) if found.state and number in found.state.bag)
+    if here != PADS:
+        raise Difference(f"{here} of {PADS} tuples of the bank are there")
+
+
+def run(malloc: str, growth: int, is_large: bool) -> tuple[tuple[list, dict[int, tuple]], bool, int, int]:
     """One day with this growth refused: what came of it, whether there was such a growth, how often the program was started, and the refusals."""
     folder = Path(tempfile.mkdtemp())
     (folder / "store").mkdir()
+    if is_large:
+        fill(folder / "store")
     program = Program(folder, malloc, growth)
     try:
         replies, tuples, busy = play(program)
+        if is_large:
+            check_pads(program)
         return (replies, tuples), program.mark.exists(), program.starts, busy
     finally:
         program.kill()
         shutil.rmtree(folder)
 
 
+def first_when_ready(malloc: str) -> int:
+    """The first growth of a program that is ready, over a large bank: about so many are made before."""
+    low, high = 1, MOST_GROWTHS
+    while low < high:
+        middle, folder = (low + high) // 2, Path(tempfile.mkdtemp())
+        (folder / "store").mkdir()
+        fill(folder / "store")
+        program = Program(folder, malloc, middle)
+        try:
+            program.start()
+            low, high = (low, middle) if program.starts == 1 else (middle + 1, high)
+        finally:
+            program.kill()
+            shutil.rmtree(folder)
+    return low
+
+
 def main() -> None:
-    if not 2 <= len(sys.argv) <= 4:
+    words, is_large = [word for word in sys.argv[1:] if word != "large"], "large" in sys.argv
+    if not 1 <= len(words) <= 3:
         sys.exit(__doc__)
-    malloc = sys.argv[1]
-    growth, step = (int(word) for word in [*sys.argv[2:], *["1", "1"][len(sys.argv) - 2:]])
-    wanted, _, starts, _ = run(malloc, 0)
+    malloc = words[0]
+    growth, step = (int(word) for word in [*words[1:], *["1", "1"][len(words) - 1:]])
+    if is_large:
+        growth += first_when_ready(malloc) - 1
+    wanted, _, starts, _ = run(malloc, 0, is_large)
     if starts != 1 or len(wanted[0]) != 3 + 1 + 1 + 64 + 1 + 1 + 1 + 2 or len(wanted[1]) != LEFT:
         sys.exit(f"with nothing refused: {wanted}, {starts} starts")
     refused = ended = turned_away = none_left = 0
     while none_left < 3:
         try:
-            came, was_refused, starts, busy = run(malloc, growth)
+            came, was_refused, starts, busy = run(malloc, growth, is_large)
             if came[1] != wanted[1] or not are_alike(came[0], wanted[0]):
                 raise Difference(f"{came}\nis not\n{wanted}")
         except Exception as fault:  # noqa: BLE001
@@ -308,7 +368,7 @@ def main() -> None:
         growth += step
     if not refused:
         sys.exit("no growth was refused, so nothing was tried: the program has a malloc of its own")
-    print(f"serve under two clients: each of {refused} growths refused, as it must be; {ended} times the program ended and was started again,"
+    print(f"serve under two clients{', over a large bank' if is_large else ''}: each of {refused} growths refused, as it must be; {ended} times the program ended and was started again,"
           f" {turned_away} times a connection was refused")
 
 

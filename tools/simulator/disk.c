@@ -11,7 +11,8 @@
    The file `plan` there names calls that are to go wrong, a line each: WHICH NUMBER ACTION PART. WHICH is `change`
    (writes, cuts and syncs of both banks, syncs of the folder, counted from 1) or `read`; ACTION is `die` (the process
    is killed when PART thousandths of the call are done), `eio` or `enospc` (the call fails when so many are done).
-   `slow 0 MICROSECONDS 0` makes each sync take so long. A call that went wrong is written to the file `fired`.
+   `slow 0 MICROSECONDS 0` makes each sync take so long. A call that went wrong is written to the file `fired`, with the
+   side of its bank (`none` of the folder) and its name.
 
    Bugs of a server are planted by the lines `change 0 lie N`, each sync whose number N divides reports success and
    syncs nothing; `change 0 retry 0`, a sync that fails is tried again, and reports success then; `change 0 early 0`, no
@@ -77,13 +78,16 @@ static void read_plan(void) {
     }
 }
 
-static void fire(const struct plan *it) {
-    char line[80];
-    int size = snprintf(line, sizeof line, "%c %ld %s %ld\n", it->which, it->number, it->action, it->part);
-    int file = open_in("fired", O_CREAT | O_WRONLY | O_APPEND);
-    if (file < 0) return;
-    syscall(SYS_write, file, line, size);
-    syscall(SYS_close, file);
+static int side_at(int file) { return file >= 0 && file < MOST_FILES ? side_of[file] : 0; }
+
+static void fire(const struct plan *it, int file, const char *call) {
+    char line[120];
+    const char *side = side_at(file) == 'l' ? "left" : side_at(file) ? "right" : "none";
+    int size = snprintf(line, sizeof line, "%c %ld %s %ld %s %s\n", it->which, it->number, it->action, it->part, side, call);
+    int log = open_in("fired", O_CREAT | O_WRONLY | O_APPEND);
+    if (log < 0) return;
+    syscall(SYS_write, log, line, size);
+    syscall(SYS_close, log);
 }
 
 static int is(const struct plan *it, const char *action) { return it && strcmp(it->action, action) == 0; }
@@ -102,12 +106,12 @@ static int lies(int file) {
 }
 
 /* What is planned for the call that begins now. */
-static const struct plan *planned(char which) {
+static const struct plan *planned(char which, int file, const char *call) {
     read_plan();
     long number = which == 'c' ? ++changes : ++reads;
     for (int at = 0; at < plan_count; at++)
         if (plans[at].which == which && plans[at].number == number) {
-            fire(&plans[at]);
+            fire(&plans[at], file, call);
             return &plans[at];
         }
     return NULL;
@@ -120,7 +124,6 @@ static int go_wrong(const struct plan *it) {
     return -1;
 }
 
-static int side_at(int file) { return file >= 0 && file < MOST_FILES ? side_of[file] : 0; }
 static const char *undo_of(char side) { return side == 'l' ? "left.undo" : "right.undo"; }
 static const char *new_of(char side) { return side == 'l' ? "left.new" : "right.new"; }
 static const char *lost_of(char side) { return side == 'l' ? "left.lost" : "right.lost"; }
@@ -222,7 +225,7 @@ int close(int file) {
 ssize_t pwrite(int file, const void *bytes, size_t size, off_t at) {
     if (!side_at(file)) return syscall(SYS_pwrite64, file, bytes, size, at);
     pthread_mutex_lock(&lock);
-    const struct plan *it = planned('c');
+    const struct plan *it = planned('c', file, "write");
     size_t some = it ? size * it->part / 1000 : size;
     ssize_t done = 0;
     keep_undo(file, at, bytes, size, 0);
@@ -237,7 +240,7 @@ ssize_t pwrite64(int, const void *, size_t, off_t) __attribute__((alias("pwrite"
 int ftruncate(int file, off_t size) {
     if (!side_at(file)) return (int)syscall(SYS_ftruncate, file, size);
     pthread_mutex_lock(&lock);
-    const struct plan *it = planned('c');
+    const struct plan *it = planned('c', file, "cut");
     int done = 0;
     keep_undo(file, size, NULL, 0, 1);
     if (!it || it->part >= 500) done = (int)syscall(SYS_ftruncate, file, size);
@@ -251,7 +254,7 @@ int fdatasync(int file) {
     if (!side_at(file)) return (int)syscall(SYS_fdatasync, file);
     if (slow) usleep(slow);
     pthread_mutex_lock(&lock);
-    const struct plan *it = planned('c');
+    const struct plan *it = planned('c', file, "sync");
     int done = 0;
     if (it ? is(it, "die") && it->part >= 500 : !lies(file)) forget_undo(file);
     if (it && !is(it, "die")) lose_undo(file);
@@ -267,7 +270,7 @@ int fsync(int file) {
     if (syscall(SYS_newfstatat, file, "", &now, AT_EMPTY_PATH) != 0 || !S_ISDIR(now.st_mode))
         return (int)syscall(SYS_fsync, file);
     pthread_mutex_lock(&lock);
-    const struct plan *it = planned('c');
+    const struct plan *it = planned('c', -1, "folder");
     char path[4096];
     int done = 0;
     if (!it || (is(it, "die") && it->part >= 500))
@@ -281,7 +284,7 @@ int fsync(int file) {
 ssize_t pread(int file, void *bytes, size_t size, off_t at) {
     if (!side_at(file)) return syscall(SYS_pread64, file, bytes, size, at);
     pthread_mutex_lock(&lock);
-    const struct plan *it = planned('r');
+    const struct plan *it = planned('r', file, "read");
     pthread_mutex_unlock(&lock);
     return it ? go_wrong(it) : syscall(SYS_pread64, file, bytes, size, at);
 }

@@ -2,7 +2,7 @@
 //! same state, and later deeds go there.
 
 use super::script::Sessions;
-use super::steps::{Step, done_as_said};
+use super::steps::{AsFarAsMemoryGoes, Step, done_as_said};
 use linda_test_server::{Banks, Host, Kept, ROOMY, Scene, banks_on, play};
 use std::alloc::{AllocError, Global};
 use std::process::Abort;
@@ -120,4 +120,51 @@ fn a_snapshot_is_the_next_bank_on_the_other_disk(rt: HostRuntime) -> Result<(), 
         play(&rt, rt.alloc(), ROOMY, standing)?;
     }
     Ok(())
+}
+
+/// A snapshot in steps of a tuple that is taken beside it, while another is put.
+const IN_STEPS: &[Step] = &[
+    ("greet hello 2 7 fresh", "> 7 welcome 0\n", NEW),
+    (
+        "7 out 1 (\"a\", 3)",
+        "> 7 did 1\n> 7 stored 1 1\n",
+        (2, 1, 1),
+    ),
+    (
+        "7 in 1 (\"a\", ?i)",
+        "> 7 offer 1 1 (\"a\", 3)\n",
+        (2, 1, 1),
+    ),
+    ("begin", "", (2, 1, 1)),
+    (
+        "all 7 accept 2 1 1; 7 out 3 (\"a\", 4)",
+        "> 7 did 2\n> 7 did 3\n> 7 taken 2 1 (\"a\", 3)\n> 7 stored 3 2\n",
+        (3, 1, 1),
+    ),
+    ("step", "> going\n", (3, 1, 1)),
+    (
+        "7 out 4 (\"a\", 5)",
+        "> 7 did 4\n> 7 stored 4 3\n",
+        (4, 2, 1),
+    ),
+    ("step", "> going\n", (4, 2, 1)),
+    ("step", "> done\n", (4, 2, 1)),
+    (
+        "7 out 5 (\"a\", 6)",
+        "> 7 did 5\n> 7 stored 5 4\n",
+        (5, 3, 1),
+    ),
+    ("finish 7", "> 5 deeds, 4 ids\n", (5, 3, 1)),
+];
+
+#[test]
+fn without_memory_a_snapshot_in_steps_ends_or_is_given_up(
+    rt: HostRuntime,
+) -> Result<(), AllocError> {
+    let scene = AsFarAsMemoryGoes {
+        limit: ROOMY.limit,
+        steps: IN_STEPS,
+        cut_short: None,
+    };
+    play(&rt, rt.alloc(), ROOMY, &scene)
 }

@@ -21,7 +21,7 @@ pub(super) struct Strictly {
 /// out, and done again it gives what it does else; or the server is down, and what it keeps on its
 /// disks is what it kept before the step, or after it. A batch that goes one by one may be cut
 /// short after its first message, which is kept: what it led to is beside `down` then, and nothing
-/// else ever does.
+/// else ever does. A snapshot in steps may be given up: from then on its steps are idle.
 #[derive(Clone, Copy)]
 pub(super) struct AsFarAsMemoryGoes {
     pub(super) limit: usize,
@@ -116,7 +116,7 @@ fn step_taken<S: Drop, O: Drop, H: Host<S, O>, R: Wait + Abort>(
 ) -> Result<Went, AllocError> {
     let (said, told, _) = step;
     let came = done(rt, alloc, sessions, said)?;
-    if is(&came, told) {
+    if is(&came, told) || (said == "step" && is(&came, "> idle\n")) {
         return Ok(Went::Whole);
     }
     if is(&came, "> memory\n") {

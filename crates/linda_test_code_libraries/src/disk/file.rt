@@ -82,6 +82,14 @@ fn has_failed(rt: &impl Abort, disk: &FileDisk, times: u64) {
     assert_eq!(rt; disk.failures(), times);
 }
 
+/// The first call that failed has this name.
+fn failed_first(rt: &impl Abort, disk: &FileDisk, name: &str) {
+    match disk.trouble() {
+        Some(trouble) => assert_eq!(rt; trouble.call.name(), name),
+        None => panic!(rt; "{name}"),
+    }
+}
+
 /// The file of this path as a disk; a fault of the disk is that of a file which is none.
 fn opened<F: Files<File = File>>(rt: &F, alloc: Global, path: &str) -> io::Result<FileDisk> {
     let file = OpenOptions::new().read(true).write(true).open(rt, path)?;
@@ -282,5 +290,6 @@ fn is_read_only(rt: &impl Abort, alloc: Global, disk: &mut FileDisk) -> Result<(
     is_failure(rt, disk.write_at(0, b"x"));
     is_failure(rt, disk.cut(0));
     has_failed(rt, disk, 2);
+    failed_first(rt, disk, "write");
     Ok(())
 }

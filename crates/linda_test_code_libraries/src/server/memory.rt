@@ -66,6 +66,8 @@ const ROWS: &[Row] = &[
         Told::State(4, 3, 3, 0),
     ),
     (Do::Standing(8), AWAY, Told::State(4, 3, 3, 0)),
+    // (no snapshot comes after this one, so its record has to be there)
+    (Do::Put(9, 2, 6), Told::Replies(1), Told::State(5, 4, 3, 0)),
 ];
 
 /// Where a client stands that left by its first message.
@@ -172,6 +174,93 @@ fn rewritten(rt: &impl Abort, alloc: Global, stand: &mut Stand) -> Result<(), Al
     let kept = opened(rt, alloc, stand)?;
     assert_eq!(rt; kept, WITH_ONE);
     Ok(())
+}
+
+/// A snapshot in steps of two tuples, of which one is taken before it is written; beside it another
+/// is put, and a client leaves.
+const STEPS: &[Row] = &[
+    (Do::Put(7, 1, 3), Told::Replies(1), WITH_ONE),
+    (Do::Put(9, 1, 5), Told::Replies(1), Told::State(3, 2, 2, 0)),
+    (Do::Begin, Told::Done, Told::State(3, 2, 2, 0)),
+    (Do::Take(1), Told::Replies(1), Told::State(3, 1, 3, 0)),
+    (Do::Step, Told::Going, Told::State(3, 1, 3, 0)),
+    (Do::Put(7, 2, 4), Told::Replies(1), Told::State(4, 2, 3, 0)),
+    (Do::Step, Told::Going, Told::State(4, 2, 3, 0)),
+    (Do::Leave(9, 2), Told::Replies(1), Told::State(4, 2, 3, 0)),
+    (Do::Step, Told::Going, Told::State(4, 2, 3, 0)),
+    (Do::Step, Told::Done, Told::State(4, 2, 3, 0)),
+];
+
+/// Does a step of these. As `borne`, but that the next bank may be given up, for which memory was
+/// refused, or with a server that went down: from then on a step is idle. Whether it is there.
+fn stepped(
+    rt: &impl Abort,
+    alloc: Global,
+    stand: &mut Stand,
+    before: Told,
+    row: Row,
+    is_there: bool,
+) -> Result<bool, AllocError> {
+    let (what, want, after) = row;
+    let told = surely(alloc, stand, what)?;
+    if told == Told::Idle {
+        assert!(rt; matches!(what, Do::Step));
+        return Ok(false);
+    }
+    if told == want {
+        return Ok(is_there || matches!(what, Do::Begin));
+    }
+    assert_eq!(rt; told, Told::Down, "{what:?}");
+    let kept = kept_by_a_server_that_is_down(rt, alloc, stand)?;
+    assert!(rt; kept == before || kept == after, "{what:?} {kept:?}");
+    again(rt, alloc, stand, what, want)
+}
+
+/// Does a step again at a server that was opened anew: whether its next bank is there.
+fn again(
+    rt: &impl Abort,
+    alloc: Global,
+    stand: &mut Stand,
+    what: Do,
+    want: Told,
+) -> Result<bool, AllocError> {
+    let is_step = matches!(what, Do::Step);
+    expect(
+        rt,
+        alloc,
+        stand,
+        what,
+        if is_step { Told::Idle } else { want },
+    )?;
+    Ok(matches!(what, Do::Begin))
+}
+
+/// Does all steps of a snapshot in steps. At the end its bank is in use if it was there to the end,
+/// and a server opens with all that was done.
+fn all_stepped(rt: &impl Abort, alloc: Global, stand: &mut Stand) -> Result<(), AllocError> {
+    if !made(rt, alloc, stand)? {
+        return Ok(());
+    }
+    let mut before = EMPTY;
+    let mut is_there = false;
+    for row in STEPS {
+        is_there = stepped(rt, alloc, stand, before, *row, is_there)?;
+        let (_, _, after) = *row;
+        before = after;
+    }
+    expect(rt, alloc, stand, Do::Shut, Told::Done)?;
+    assert_eq!(rt; right_bytes(stand).first() == Some(&1), is_there);
+    let kept = opened(rt, alloc, stand)?;
+    assert_eq!(rt; kept, before);
+    Ok(())
+}
+
+#[test]
+fn want_of_memory_gives_the_next_bank_up_or_loses_nothing(
+    rt: HostRuntime,
+) -> Result<(), AllocError> {
+    let mut stand = empty_stand(rt.alloc());
+    all_stepped(&rt, rt.alloc(), &mut stand)
 }
 
 #[test]

@@ -3,11 +3,11 @@
 ghost use Rattle.std.specs.Prelude.{◌≤◌, length};
 ghost use Rattle.linda_store_step.specs.declared.size.TheConstants.{MAX_BATCH};
 
-use super::words::{put_both, take_any};
+use super::words::{accept, put_both, take_any};
 use crate::messages::put;
 use linda_bag::Bag;
 use linda_disk::{MemDisk, Torn};
-use linda_server::{Durable, OpenFault};
+use linda_server::{Durable, OpenFault, Progress};
 use linda_store::{Node, NodeFault, Work};
 use linda_store_state::Deed;
 use linda_store_step::MAX_BATCH;
@@ -30,7 +30,14 @@ pub(super) enum Do {
     PutBoth,
     /// Client 8 asks for any tuple ("a", _), which is to be held.
     Ask,
+    /// Client 8 takes the tuple of this id by its message 1, after it asked for any; then its
+    /// connection ends.
+    Take(u64),
     Snapshot,
+    /// A snapshot in steps is begun.
+    Begin,
+    /// The next step of it, which writes some 40 bytes.
+    Step,
     Trim,
     /// The client's connection ends.
     Close(u32),
@@ -55,6 +62,10 @@ pub(super) enum Told {
     Deeds(usize),
     /// The client's last number, and whether it left by that.
     Standing(u64, bool),
+    /// A snapshot in steps goes on.
+    Going,
+    /// No snapshot in steps is begun.
+    Idle,
     Full,
     Down,
     Refused(OpenFault),
@@ -100,6 +111,15 @@ fn of_nothing(told: Result<(), NodeFault>) -> Told {
     }
 }
 
+fn of_progress(told: Result<Progress, NodeFault>) -> Told {
+    match told {
+        Ok(Progress::Done) => Told::Done,
+        Ok(Progress::Going) => Told::Going,
+        Ok(Progress::Idle) => Told::Idle,
+        Err(fault) => of_fault(fault),
+    }
+}
+
 fn of_stop(told: Result<Vec<Deed>, NodeFault>) -> Told {
     match told {
         Ok(deeds) => Told::Deeds(deeds.len()),
@@ -128,12 +148,32 @@ fn send_all(
     Ok(of_answer(server.handle_all(alloc, messages)))
 }
 
+/// Client 8 takes the tuple of this id, and its connection ends. What comes of the first call that
+/// fails, or of the Accept.
+fn take(alloc: Global, server: &mut Durable<MemDisk>, id: u64) -> Result<Told, AllocError> {
+    let asked = send(alloc, server, 8, &take_any(alloc)?);
+    if asked != Told::Replies(1) {
+        return Ok(asked);
+    }
+    let told = send(alloc, server, 8, &accept(id));
+    if told != Told::Replies(1) {
+        return Ok(told);
+    }
+    match of_answer(server.close(alloc, 8)) {
+        Told::Down => Ok(Told::Down),
+        _ => Ok(told),
+    }
+}
+
 /// A step of the server.
 fn ask(alloc: Global, server: &mut Durable<MemDisk>, what: Do) -> Result<Told, AllocError> {
     match what {
         Do::Put(client, n, number) => Ok(send(alloc, server, client, &put(alloc, n, number)?)),
         Do::PutBoth => send_all(alloc, server, &put_both(alloc)?),
         Do::Ask => Ok(send(alloc, server, 8, &take_any(alloc)?)),
+        Do::Take(id) => take(alloc, server, id),
+        Do::Begin => Ok(of_nothing(server.begin_steps(alloc))),
+        Do::Step => Ok(of_progress(server.step(alloc, 40))),
         Do::Leave(client, n) => Ok(send(alloc, server, client, &Message::Leave { n })),
         Do::Standing(client) => {
             let (last, left) = server.state().book.standing(client);

@@ -23,3 +23,12 @@ pub(super) fn put_both(alloc: Global) -> Result<Vec<(u32, Message)>, AllocError>
 pub(super) fn take_any(alloc: Global) -> Result<Message, AllocError> {
     ask(alloc, 1, true, Pattern::Any)
 }
+
+/// The Accept, as message 1, of what was offered under ticket 1.
+pub(super) fn accept(id: u64) -> Message {
+    Message::Accept {
+        n: 1,
+        ticket: 1,
+        id,
+    }
+}
