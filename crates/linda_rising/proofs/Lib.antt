@@ -1,0 +1,5 @@
+mod IdLaws
+mod RowLaws
+mod BlockLaws
+mod MapLaws
+mod RunLaws
