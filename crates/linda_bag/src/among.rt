@@ -115,8 +115,8 @@ fn least_free<S: Stored, P: IdSet>(
 {
     let mut at = from;
     let mut looks: usize = 0;
-    while let Some(run) = ids.run_from(at) {
-        let found = least_in(tuples, template, passed, run.rows);
+    while let Some(part) = ids.run_from(at) {
+        let found = least_in(tuples, template, passed, part.rows);
         looks = looks.saturating_add(found.passed);
         if let Some(id) = found.id {
             return Found {
@@ -124,7 +124,7 @@ fn least_free<S: Stored, P: IdSet>(
                 passed: looks,
             };
         }
-        let Some(next) = run.next else {
+        let Some(next) = part.next else {
             return Found {
                 id: None,
                 passed: looks,

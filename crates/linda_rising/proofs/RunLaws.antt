@@ -7,7 +7,7 @@ use Rattle.linda_rising.proofs.IdLaws.{falls_never}
 use Rattle.linda_rising.proofs.RowLaws.{row_there, none_there, id_there}
 use Rattle.linda_rising.proofs.BlockLaws.{located, from_at, block_before, block_begins, block_filled, froms_rise, none_or, some_id, some_rows}
 
-under_lower : (k q : ℕ) (next : Option ℕ) → k ≤ q → IsUnder q next → IsUnder k next
+pub under_lower : (k q : ℕ) (next : Option ℕ) → k ≤ q → IsUnder q next → IsUnder k next
 under_lower k q None le under = tt
 under_lower k q (Some n) le under = omega (arith, under)
 
@@ -15,7 +15,7 @@ module _ {T : Type 0} where
   some_none : (o : Option T) → IsSome o → o ≡ None → ⊥
   some_none o some none = true≢false (sym some ∙ ap is_some none)
 
-  id_at : (rows : List (ℕ × T)) (i : ℕ) → Rises (ids_of rows) → i < length rows → IsSome (at rows (get_or (ids_of rows) i 0))
+  pub id_at : (rows : List (ℕ × T)) (i : ℕ) → Rises (ids_of rows) → i < length rows → IsSome (at rows (get_or (ids_of rows) i 0))
   id_at [] i rises within = absurd (omega arith)
   id_at (row ∷ rows) i rises within =
       let all = row ∷ rows in

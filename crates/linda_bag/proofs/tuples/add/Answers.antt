@@ -1,5 +1,4 @@
 use Rattle.std.proofs.Common.{◌≡◌, None, Some, is_some, sym, ap, subst, ◌∙◌, true≢false}
-use Rattle.std.specs.Option.{option_copied}
 use Rattle.std.specs.FinMap as map
 use Rattle.linda_maps.proofs.MapLaws.{get_same, undone}
 use Rattle.linda_bag.specs.Filing.{Refiles}

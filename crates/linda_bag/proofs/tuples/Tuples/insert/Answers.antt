@@ -1,4 +1,4 @@
-use Rattle.std.proofs.Common.{◌≡◌, Result, Ok, Err, None, Some, OnErr, sym, ap, subst, ◌∙◌}
+use Rattle.std.proofs.Common.{Result, Ok, Err, Some, OnErr, sym, ap, subst, ◌∙◌}
 use Rattle.std.specs.FinMap as map
 use Rattle.linda_bag.specs.Bytes.{bytes_at}
 use Rattle.linda_bag.specs.Filing.{Refiles}
