@@ -1,0 +1,5 @@
+pub mod IdLaws
+pub mod RowLaws
+pub mod BlockLaws
+pub mod MapLaws
+pub mod RunLaws
