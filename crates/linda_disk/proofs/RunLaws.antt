@@ -63,25 +63,6 @@ one_step step old new durable follows image left =
     let from = follows image left in
     subst (λ (before : List ℕ). step before image) (durable from.0 from.1) from.2
 
--- One write to a durable disk, whether or not it reports a failure.
-pub wrote : {T : Type 0} (at : ℕ) (bytes : List ℕ) (result : Result T DiskFault) (old new : View)
-    (P : List ℕ → Type 0)
-    → Writes at bytes result old new → IsTimed old → IsDurable old → P old.seen
-    → ((image : List ℕ) → TornWrite at (length bytes) old.seen image → P image) → LeavesOnly old new P
-wrote at bytes result old new P writes timed durable was torn =
-    let before = started old P timed (λ image left. subst P (sym (durable image left)) was) in
-    let step = one_step (TornWrite at (length bytes)) old new durable writes.crash in
-    goes_on old old new P before writes.time (λ image left. torn image (step image left))
-
--- One cut of a durable disk.
-pub was_cut : {T : Type 0} (n : ℕ) (result : Result T DiskFault) (old new : View) (P : List ℕ → Type 0)
-    → Cuts n result old new → IsTimed old → IsDurable old → P old.seen
-    → ((image : List ℕ) → TornCut n old.seen image → P image) → LeavesOnly old new P
-was_cut n result old new P cuts timed durable was torn =
-    let before = started old P timed (λ image left. subst P (sym (durable image left)) was) in
-    let step = one_step (TornCut n) old new durable cuts.crash in
-    goes_on old old new P before cuts.time (λ image left. torn image (step image left))
-
 -- A write or a cut more, whose step keeps what the images have: so go several of them with no sync between.
 pub goes_on_by : (step : List ℕ → List ℕ → Type 0) (old mid new : View) (P : List ℕ → Type 0)
     → LeavesOnly old mid P → IsTimed mid → Follows step mid new → Elapses mid new

@@ -23,20 +23,13 @@ device_told Device old mid new same counts = record {
 }
 device_told Memory old mid new same counts = record { cause = λ is. cc; others = λ _. counts.memory refl ∙ same }
 
--- What tells of a count goes on from one that stayed.
-pub tells_on : {F : Type 0} (device told : F) (old mid new : ℕ) → mid ≡ old → TellsFailures device told mid new → TellsFailures device told old new
-tells_on device told old mid new same tells = subst (λ n. TellsFailures device told n new) same tells
-
 -- A fault of no device tells that the count stayed.
 pub none_told : (told : BankFault) (old new : ℕ) → told ≢ banks.Disk → new ≡ old → TellsFailures banks.Disk told old new
 none_told told old new not same = record { cause = λ is. absurd (not is); others = λ _. same }
 
--- Want of memory is no fault of the device, a full bank is none, and the two are not the same.
+-- That memory ran out is no fault of the device, and a full bank is another fault.
 pub memory_fails_none : banks.Memory ≢ banks.Disk
 memory_fails_none is = cc
-
-pub full_fails_none : banks.Full ≢ banks.Disk
-full_fails_none is = cc
 
 pub memory_is_not_full : banks.Memory ≢ banks.Full
 memory_is_not_full is = cc

@@ -9,10 +9,6 @@ use Rattle.linda_server.specs.declared.fault.OpenFault.{OpenFault}
 use Rattle.linda_server.specs.declared.fault.OpenFault.TheVariants as faults
 use Rattle.linda_server.specs.Opening.{fault_of_choice}
 
--- A count that goes on from one that stayed is a count from the beginning.
-pub counts_on : {T : Type 0} (r : Result T DiskFault) (old mid new : ℕ) → mid ≡ old → CountsFailure r mid new → CountsFailure r old new
-counts_on r old mid new same counts = subst (λ n. CountsFailure r n new) same counts
-
 -- A fault that is Device exactly where the disk's fault is tells of the count.
 pub counted : {T F : Type 0} (device told : F) (fault : DiskFault) (r : Result T DiskFault) (old new : ℕ) → r ≡ Err fault → (told ≡ device) ↔ (fault ≡ Device) → CountsFailure r old new
     → TellsFailures device told old new
@@ -56,11 +52,6 @@ memory_fails_none is = cc
 
 pub range_fails_none : faults.LimitRange ≢ faults.Disk
 range_fails_none is = cc
-
--- What a count says of a call's fault, it tells of that fault.
-pub counts_told : {T : Type 0} (r : Result T DiskFault) (old mid new : ℕ) → mid ≡ old → CountsFailure r mid new → IfErr r (λ fault. TellsFailures Device fault old new)
-counts_told (Ok x) old mid new same counts = tt
-counts_told (Err fault) old mid new same counts = counted Device fault fault (Err fault) old new refl ((λ is. is), (λ is. is)) (counts_on (Err fault) old mid new same counts)
 
 -- What a fault of two disks tells, another one tells that is the device's exactly where that one is.
 pub two_renamed : {F G : Type 0} (device told : F) (failed fault : G) (left right left_new right_new : ℕ) → (told ≡ device) ↔ (fault ≡ failed) → TellsFailuresOfTwo failed fault left right left_new right_new

@@ -5,7 +5,7 @@ use Rattle.linda_snap.proofs.ChoiceLaws.{up_left, up_right, used_here, chosen_fa
 use Rattle.linda_journal.specs.declared.fault.BankFault.TheVariants as banks
 use Rattle.linda_snap.specs.declared.choice.ChoiceFault.TheVariants as choices
 use Rattle.linda_disk.proofs.CauseLaws.{renamed}
-use Rattle.linda_journal.proofs.CauseLaws.{tells_on}
+use Rattle.linda_disk.proofs.CauseLaws.{tells_on}
 use Rattle.linda_snap.proofs.CauseLaws.{left_told, right_told, side_failed}
 use Rattle.linda_snap.proofs.choice.choose_bank.Goals as goal
 
