@@ -99,14 +99,13 @@ pub record IsStanding (lists : Lists) (limit : ℕ) (left right : List ℕ) (one
   pub right_one : Bool
   pub form : Form
   pub generation : ℕ
-  pub records : ℕ
   pub used : ℕ
   pub st : State
   pub stands : Stands left right st
   pub bank : IsBankFor (chosen right_one left right) form generation used st
   pub is : text ≡ json_files one (length left) two (length right)
       ++ json_standing right_one (is_bank one && is_bank two)
-      ++ json_bank form generation records used limit ++ json_state lists st
+      ++ json_bank form generation (length bank.records) used limit ++ json_state lists st
 
 -- The text is the object of two files: both are empty, or a state stands on them.
 pub record IsObject (lists : Lists) (limit : ℕ) (left right : List ℕ) (text : List ℕ)

@@ -1,7 +1,7 @@
 -- Which of two banks is chosen, and that bytes are one choice.
 use Rattle.std.proofs.Common.{◌≡◌, ◌≢◌, ℕ, ◌<◌, ◌≤◌, ◌⊎◌, inl, inr, Bool, true, false, ltb, cond, List, ◌++◌, Result, Ok, Err, length, take, drop, refl, sym, ap, subst, ◌∙◌, eq-eqb, ne_eqb, arith}
 use Rattle.std.proofs.lemmas.Bool.{cases_lt, lt-ltb, le-ltb}
-use Rattle.std.proofs.lemmas.List.{take-append-drop, length-take}
+use Rattle.std.proofs.lemmas.List.{take-append-drop, length-take, length-map}
 use Rattle.linda_tuple.specs.declared.form.Form.{Form}
 use Rattle.linda_journal.specs.declared.heading.Heading.{Heading}
 use Rattle.linda_journal.specs.declared.heading.Heading.TheVariants.{NoBank, Foreign, Bank}
@@ -29,7 +29,7 @@ use Rattle.linda_snap.specs.declared.choice.ChoiceFault.{ChoiceFault}
 use Rattle.linda_snap.specs.declared.choice.ChoiceFault.TheVariants.{NoStore, Damaged, Disk, Memory}
 use Rattle.linda_snap.specs.Snapshot.{spell_state, IsSnapshot}
 use Rattle.linda_snap.specs.Replay.{joined, IsReplayFault}
-use Rattle.linda_snap.specs.Stands.{deeds_in, StandsOn, IsLesser, IsInUse, Stands, IsStored, IsUp}
+use Rattle.linda_snap.specs.Stands.{deeds_in, StandsOn, IsLesser, IsInUse, Stands, IsStored, IsCounted, IsUp}
 use Rattle.linda_snap.specs.Choice.{choice, IsChoice, IsRecovered, IsUnrecovered, IsFaultOfFile, IsFaultOfBoth, LeavesNothingNew, chosen, fault_on, fault_of_replay}
 use Rattle.linda_snap.proofs.SnapshotLaws.{one_snapshot}
 use Rattle.linda_snap.proofs.ReplayLaws.{none_improper}
@@ -61,6 +61,14 @@ stored_there form generation end body records v st settled recovered = record {
   records = deeds_of records;
   settled = subst (λ b. IsSettled form generation b (deeds_of records) end v) recovered.snapshot.parts settled;
   done = recovered.done;
+}
+
+-- It counts the records that were read.
+pub counted_there : (form : Form) (generation end : ℕ) (body : List ℕ) (records : List Record) (count : ℕ) (v : View) (st : State) → IsSettled form generation body (deeds_of records) end v → IsRecovered form body records st → count ≡ length records → IsCounted form generation end count v st
+unfolding stored_there
+counted_there form generation end body records count v st settled recovered is = record {
+  stored = stored_there form generation end body records v st settled recovered;
+  count_is = is ∙ sym (length-map records (λ (r : Record). r.deeds.items));
 }
 
 pub fault_there : (form : Form) (file : List ℕ) (generation : ℕ) (body : List ℕ) (records : List Record) (fault : BankFault) → IsBank form file generation body (deeds_of records) → IsUnrecovered form body records fault → IsFaultOfFile file fault

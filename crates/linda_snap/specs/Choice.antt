@@ -29,7 +29,7 @@ use Rattle.linda_snap.specs.declared.replay.ReplayFault.TheVariants as replays
 use Rattle.linda_snap.specs.Snapshot.{IsSnapshot}
 use Rattle.linda_snap.specs.Reading.{IsNoSnapshot}
 use Rattle.linda_snap.specs.Replay.{joined, IsImproper}
-use Rattle.linda_snap.specs.Stands.{IsStored, IsUp, Stands}
+use Rattle.linda_snap.specs.Stands.{IsStored, IsCounted, IsUp, Stands}
 
 -- Which of two is chosen by what they begin with: true is the right one. The left one is looked at
 -- first. Generations are compared whatever the forms are.
@@ -190,6 +190,10 @@ module _ {B D : Type 0} {g : Ghosts D} where
     pub stored : IfOk result (λ c. g.honest c.bank.disk
         → IsStored c.bank.form c.bank.generation c.bank.end (g.view c.bank.disk) c.state)
     pub durable : IfOk result (λ c. g.honest c.other → IsDurable (g.view c.other))
+    -- That bank counts the records of its journal.
+    pub counted : IfOk result (λ c. g.honest c.bank.disk
+        → IsCounted c.bank.form c.bank.generation c.bank.end c.bank.records (g.view c.bank.disk)
+        c.state)
     pub honest : IfOk result
         (λ c. (g.honest left × g.honest right) ↔ (g.honest c.bank.disk × g.honest c.other))
         × IfErr result (λ e. (g.honest left × g.honest right) ↔ (g.honest e.1 × g.honest e.2))

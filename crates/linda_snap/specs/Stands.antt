@@ -1,5 +1,5 @@
 -- State of two banks, and which of the banks is in use.
-use Rattle.std.specs.Prelude.{ℕ, ◌<◌, ◌⊎◌, List}
+use Rattle.std.specs.Prelude.{◌≡◌, ℕ, ◌<◌, ◌⊎◌, List, length}
 use Rattle.linda_tuple.specs.declared.form.Form.{Form}
 use Rattle.linda_store_state.specs.declared.deed.Deed.{Deed}
 use Rattle.linda_store_state.specs.State.{State, IsState}
@@ -48,6 +48,12 @@ pub record IsStored (form : Form) (generation end : ℕ) (v : View) (st : State)
   pub records : List (List Deed)
   pub settled : IsSettled form generation (spell_state form opening) records end v
   pub done : AreDone opening (deeds_in records) st
+
+-- So it is, and the bank counts so many records: as many as its journal has.
+pub record IsCounted (form : Form) (generation end count : ℕ) (v : View) (st : State)
+    : Type 0 where
+  pub stored : IsStored form generation end v st
+  pub count_is : count ≡ length stored.records
 
 -- So it is of the one of two disks that is in use; and the other one holds a lesser bank or none,
 -- and a crash leaves it so.

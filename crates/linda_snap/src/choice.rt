@@ -7,7 +7,7 @@ ghost use Rattle.linda_disk.specs.View.{IsDurable};
 ghost use Rattle.linda_disk.specs.Disk.{CountsFailure, TellsFailures, TellsFailuresOfTwo};
 ghost use Rattle.linda_disk.specs.Run.{LeavesOnly};
 ghost use Rattle.linda_journal.specs.Heading.{IsHeading};
-ghost use Rattle.linda_snap.specs.Stands.{IsStored};
+ghost use Rattle.linda_snap.specs.Stands.{IsStored, IsCounted};
 ghost use Rattle.linda_snap.specs.Choice.{choice, IsChoice, Chooses, IsRecovered, IsUnrecovered};
 ghost use Rattle.linda_snap.specs.Choice.{IsFaultOfFile, fault_on, fault_of_device};
 ghost use Rattle.linda_snap.specs.Choice.{fault_of_replay};
@@ -163,6 +163,8 @@ fn open_file<B: Bag, D: Disk>(
     requires { D.honest disk → IsDurable (D.view disk) }
     ensures found { D.honest disk → IfOk result (λ x.
         IsStored x.1.form x.1.generation x.1.end (D.view x.1.disk) x.0) }
+    ensures counted { D.honest disk → IfOk result (λ x.
+        IsCounted x.1.form x.1.generation x.1.end x.1.records (D.view x.1.disk) x.0) }
     ensures seen { D.honest disk
         → IfOk result (λ x. (D.view x.1.disk).seen ≡ (D.view disk).seen) }
     ensures fault { D.honest disk → IfErr result (λ e. e.0 ≢ BankFault.Disk

@@ -24,8 +24,9 @@ returns-in_ok-write_standing-in-Ok-clause-object g c =
     let more : c.len-2.result ≡ length c.args.right.items = search rules in
     let begun = c.in_ok-head.ensures ∙ ap₂ (λ n m. json_files one n two m) bytes more in
     let kept = json_state c.args.lists found.state in
-    let bank = λ (most : ℕ). json_bank found.bank.form found.bank.generation found.bank.records found.bank.end most in (
-      c.in_ok-head.head.items ++ json_standing found.is_right c.are_banks-are_two.result ++ bank found.bank.limit ++ kept,
+    let counted = c.in-Ok.ensures.counted tt in
+    let bank = λ (records most : ℕ). json_bank found.bank.form found.bank.generation records found.bank.end most in (
+      c.in_ok-head.head.items ++ json_standing found.is_right c.are_banks-are_two.result ++ bank found.bank.records found.bank.limit ++ kept,
       record {
         one = one;
         two = two;
@@ -35,13 +36,12 @@ returns-in_ok-write_standing-in-Ok-clause-object g c =
           right_one = found.is_right;
           form = found.bank.form;
           generation = found.bank.generation;
-          records = found.bank.records;
           used = found.bank.end;
           st = found.state;
           stands = stands_as _ _ _ _ found.state left right (c.in-Ok.ensures.found tt tt);
-          bank = bank_for _ found.bank.form found.bank.generation found.bank.end (view found.bank.disk) found.state (c.in-Ok.ensures.stored tt)
+          bank = bank_for _ found.bank.form found.bank.generation found.bank.end (view found.bank.disk) found.state counted.stored
               (sides.0 ∙ ap₂ (chosen found.is_right) left right);
-          is = λ i. begun i ++ json_standing found.is_right (c.are_banks-are_two.ensures i) ++ bank (c.in-Ok.ensures.new.0 i) ++ kept;
+          is = λ i. begun i ++ json_standing found.is_right (c.are_banks-are_two.ensures i) ++ bank (counted.count_is i) (c.in-Ok.ensures.new.0 i) ++ kept;
         });
       },
       c.in_ok-write_standing-in-Ok.ensures,
