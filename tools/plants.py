@@ -107,7 +107,7 @@ PLANTS = [
          "if self.trouble.is_none() {", "if self.failures > 0 {"),
     edit("no failed call is named", "rt ci", FILES, "a_file_for_reading_only_takes_no_write ... FAILED", FILE_DISK,
          "if self.trouble.is_none() {", "if self.trouble.is_some() {"),
-    edit("a file is opened without a sync", "device", f"{DEVICE} what_a_kill_left_is_synced", "it is ready, and something is not synced", KNOWN,
+    edit("a file is opened without a sync", "device", f"{DEVICE} what_a_kill_left_is_synced", "it reads what is not synced", KNOWN,
          "    if file.sync_data().is_err() {\n        return Err(DiskFault::Device);\n    }\n", "", build="one"),
     edit("a file that cannot be synced is opened", "rt ci", FILES, "a_device_that_cannot_be_synced_is_no_disk ... FAILED", KNOWN,
          "    if file.sync_data().is_err() {\n        return Err(DiskFault::Device);\n    }\n", "    let _ = file.sync_data().is_err();\n"),

@@ -12,7 +12,8 @@
    (writes, cuts and syncs of both banks, syncs of the folder, counted from 1) or `read`; ACTION is `die` (the process
    is killed when PART thousandths of the call are done), `eio` or `enospc` (the call fails when so many are done).
    `slow 0 MICROSECONDS 0` makes each sync take so long. A call that went wrong is written to the file `fired`, with the
-   side of its bank (`none` of the folder) and its name.
+   side of its bank (`none` of the folder) and its name. SIDE.early is there if a bank was last read while its log was
+   not empty: what was read then may be gone after a power cut.
 
    Bugs of a server are planted by the lines `change 0 lie N`, each sync whose number N divides reports success and
    syncs nothing; `change 0 retry 0`, a sync that fails is tried again, and reports success then; `change 0 early 0`, no
@@ -281,9 +282,24 @@ int fsync(int file) {
     return done;
 }
 
+/* A bank is read: marks it if it is not synced. */
+static void mark_read(int file) {
+    struct stat now;
+    char log[4096], early[4096];
+    int is_left = side_at(file) == 'l';
+    if (!path_of(log, sizeof log, undo_of(side_at(file))) || !path_of(early, sizeof early, is_left ? "left.early" : "right.early")) return;
+    if (syscall(SYS_newfstatat, AT_FDCWD, log, &now, 0) != 0 || now.st_size == 0) {
+        syscall(SYS_unlink, early);
+        return;
+    }
+    int mark = open_in(is_left ? "left.early" : "right.early", O_CREAT | O_WRONLY);
+    if (mark >= 0) syscall(SYS_close, mark);
+}
+
 ssize_t pread(int file, void *bytes, size_t size, off_t at) {
     if (!side_at(file)) return syscall(SYS_pread64, file, bytes, size, at);
     pthread_mutex_lock(&lock);
+    mark_read(file);
     const struct plan *it = planned('r', file, "read");
     pthread_mutex_unlock(&lock);
     return it ? go_wrong(it) : syscall(SYS_pread64, file, bytes, size, at);

@@ -95,12 +95,17 @@ class Disk:
     def plan(self, lines: list[str]) -> None:
         """What goes wrong in the next life."""
         (self.side / "plan").write_text("".join(f"{line}\n" for line in lines))
-        (self.side / "fired").unlink(missing_ok=True)
+        for name in ("fired", *(f"{side}.early" for side in banks.SIDES)):
+            (self.side / name).unlink(missing_ok=True)
 
     def fired(self) -> list[str]:
         """The calls that went wrong in this life."""
         file = self.side / "fired"
         return file.read_text().splitlines() if file.exists() else []
+
+    def has_read_unsynced(self) -> bool:
+        """Whether this life last read a bank while some of that was not synced."""
+        return any(self.side.glob("*.early"))
 
     def has_unsynced(self) -> bool:
         """Whether the banks have what a power cut may take."""
