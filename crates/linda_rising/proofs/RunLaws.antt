@@ -62,14 +62,14 @@ module _ {T : Type 0} where
       some = some;
       below = λ j inside. all_under (i + 1) (get_or (ids_of rows) j 0) next from (ap is_some (sym (same (get_or (ids_of rows) j 0) (run.above j inside))) ∙ id_at rows j run.rises inside);
       all = λ q le under. elim (cases_lt q first) [
-          | inl lower ↦
+        | inl lower ↦
             located bs q i rising (record { within = is.within; begins = λ later. omega (arith, is.begins later); above = under_all i q (Some first) (within, refl) lower })
             ∙ none q le
             ∙ sym (same q le ∙ none_or (at (get_or bs (i + 1) (0, [])).1 q) (λ there. omega (arith, lower, block_begins bs (i + 1) q rising within there)))
-          | inr above ↦
+        | inr above ↦
             located bs q (i + 1) rising (record { within = within; begins = λ _. above; above = under_all (i + 1) q next from under })
             ∙ sym (same q le)
-        ];
+      ];
       later = low_under next from;
     }
       where
