@@ -1,5 +1,6 @@
--- A run of device calls on one disk, as the function that makes them says it: whether the disk stays
--- honest, which fault it reports, how many calls it made, and what a crash at any moment leaves.
+-- Runs of device calls on one disk, as the functions that make them say it: the disk stays honest,
+-- the fault is that of the device or another, so many calls were made, and a crash at any moment
+-- leaves only this.
 use Rattle.std.specs.Prelude.{◌≡◌, ◌↔◌, ℕ, ◌+◌, List, length, Result, Ok, Err, OnOk}
 use Rattle.linda_disk.specs.declared.disk.Disk.{Ghosts}
 use Rattle.linda_disk.specs.declared.fault.DiskFault.{DiskFault}
@@ -8,7 +9,7 @@ use Rattle.linda_disk.specs.Image.{overlay, TornWrite}
 use Rattle.linda_disk.specs.Disk.{TellsFailures}
 use Rattle.linda_disk.specs.Run.{LeavesOnly}
 
--- What holds of the disk before and after, at each moment of a run and after one that is done.
+-- What is said of the disk at the beginning of a run and at its end.
 abbrev pub Law : Type 1
 Law = View → View → Type 0
 
@@ -29,7 +30,8 @@ abbrev pub stays : Law
 stays old new = LeavesOnly old new (λ image. image ≡ old.seen)
 
 module _ {D : Type 0} (g : Ghosts D) where
-  -- A run that is done.
+  -- A run that is done: `law` says what a crash at any moment of it left, `count` how many calls it
+  -- made.
   pub record IsDone (law count : Law) (old new : D) : Type 0 where
     pub honest : g.honest old ↔ g.honest new
     pub steady : g.failures new ≡ g.failures old

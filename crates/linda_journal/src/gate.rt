@@ -2,6 +2,7 @@
 //! gate that is closed, and only once it is there the gate is opened.
 
 ghost use Rattle.std.specs.Prelude.{◌≡◌, ◌∷◌, [], ◌++◌, ◌<◌, ◌+◌, ◌^◌, ℕ, List, length, OnOk};
+ghost use Rattle.linda_disk.specs.Disk.{CountsFailure};
 ghost use Rattle.linda_disk.specs.Runs.{Runs, takes};
 ghost use Rattle.linda_journal.specs.declared.kinds.TheConstants.{OPEN, CLOSED};
 ghost use Rattle.linda_journal.specs.Gate.{IsShut, IsReady, stays_shut, opens, puts, lays};
@@ -70,6 +71,7 @@ pub(crate) fn open_gate<D: Disk>(disk: &mut D, gate: usize) -> Result<(), DiskFa
 pub fn lay_gate<D: Disk>(disk: &mut D) -> Result<(), DiskFault>
     ensures shut { D.honest disk.old → OnOk result (IsShut [] 0 (D.view disk.new)) }
     ensures long { D.honest disk.old → OnOk result (0 < length (D.view disk.new).seen) }
+    ensures cause { CountsFailure result (D.failures disk.old) (D.failures disk.new) }
     ensures runs { Runs D.Disk lays (takes 2) DiskFault.Device disk.old result disk.new }
 {
     write_synced(disk, 0, &[CLOSED])
