@@ -303,9 +303,10 @@ def check_pads(program: Program) -> None:
             program.end()
         program.start()
         time.sleep(0.005)
-    here = sum(1 for number in range(1, PADS + 1) if found.state and number in found.state.bag)
-    if here != PADS:
-        raise Difference(f"{here} of {PADS} tuples of the bank are there")
+    bag = found.state.bag if found.state else {}
+    here = sum(1 for number in range(1, PADS + 1) if number in bag)
+    if (here, len(bag)) != (PADS, PADS + LEFT):
+        raise Difference(f"{here} of {PADS} tuples of the bank are there, and {len(bag) - here} of {LEFT} that were put since")
 
 
 def run(malloc: str, growth: int, is_large: bool) -> tuple[tuple[list, dict[int, tuple]], bool, int, int]:
