@@ -1,12 +1,10 @@
 -- What is said of a tuple in a bag, said of the bag; and that each tuple that a template matches is one of its candidates.
-use Rattle.std.proofs.Common.{◌≡◌, ℕ, Bool, true, false, cond, ◌↔◌, IsTrue, List, [], ◌∷◌, Option, Some, None, is_some, length, unwrap_or, Box, refl, sym, ap, subst, ◌∙◌, nat_cmp, true≢false}
+use Rattle.std.proofs.Common.{◌≡◌, ℕ, Bool, true, false, cond, ◌↔◌, IsTrue, List, [], ◌∷◌, Option, Some, None, is_some, length, unwrap_or, refl, sym, ap, subst, ◌∙◌, nat_cmp, true≢false}
 use Rattle.std.specs.declared.cmp.Ordering.{Ordering}
-use Rattle.std.specs.declared.alloc.Global.{Global}
 use Rattle.std.specs.Ordering.{is_eq}
 use Rattle.std.specs.List.{AllZip}
 use Rattle.std.proofs.lemmas.Slice.Zip.{AllZip-long}
 use Rattle.std.specs.FinMap.{FinMap, get}
-use Rattle.std.specs.BTreeSet.{BTreeSet, contains}
 use Rattle.linda_tuple.specs.declared.atom.Atom.{Atom}
 use Rattle.linda_tuple.specs.declared.pattern.Pattern.{Pattern}
 use Rattle.linda_tuple.specs.declared.pattern.Pattern.TheVariants as patterns
@@ -89,9 +87,6 @@ module _ (shape : Template) (rows : Rows Tuple) (m : FinMap nat_cmp Tuple) (pass
 
     pub one_free : (only : ℕ) → found ≡ ids.One only → (k : ℕ) → IsFreeMatch m shape passed k → k ≡ only
     one_free only is k free = (id_told k only).0 (sym (ap (λ s. has_id s k) is) ∙ has_free k free)
-
-    pub many_free : (many : Box (BTreeSet ℕ) Global) → found ≡ ids.Many many → (k : ℕ) → IsFreeMatch m shape passed k → contains nat_cmp many.value k ≡ true
-    many_free many is k free = sym (ap (λ s. has_id s k) is) ∙ has_free k free
 
 -- What is found for a template has each id that it may be answered with.
 pub among_found : (shape : Template) (rows : Rows Tuple) (m : FinMap nat_cmp Tuple) (passed : ℕ → Bool) → ((k : ℕ) → rows k ≡ get m k) → (found : Option Ids) → IsShelved IsOf found (candidates shape rows) → (k : ℕ) → IsFreeMatch m shape passed k → has_any found k ≡ true

@@ -4,6 +4,7 @@ pub mod TuplesLaws
 pub mod FilingLaws
 pub mod HeadLaws
 pub mod OrderLaws
+pub mod SetLaws
 pub mod BareLaws
 pub mod NotedLaws
 pub mod PlaceLaws

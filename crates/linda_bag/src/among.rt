@@ -1,10 +1,10 @@
 //! The least free match among ids that an index has.
 
 ghost use Rattle.std.specs.Prelude.{◌≡◌, ◌≤◌, ◌<◌, ◌↔◌, ℕ, None, true, IsTrue, IfSome, IfNone};
+ghost use Rattle.std.specs.Prelude.{IsSome};
 ghost use Rattle.std.specs.Option.{option_copied};
-ghost use Rattle.std.specs.Ordering.{nat_cmp};
-ghost use Rattle.std.specs.BTreeSet.{contains};
 ghost use Rattle.std.specs.FinMap as map;
+ghost use Rattle.linda_rising.specs.Rows.{at, ids_of, Rises};
 ghost use Rattle.linda_bag.specs.FreeMatch.{Bagged, IsFreeMatch};
 ghost use Rattle.linda_bag.specs.Ids.{has_any};
 
@@ -13,8 +13,8 @@ use crate::free_match::is_free_match;
 use crate::id_set::IdSet;
 use crate::ids::Ids;
 use crate::tuples::Tuples;
+use linda_rising::RisingMap;
 use linda_tuple::{Template, Tuple};
-use std::collections::BTreeSet;
 
 /// Where tuples are found by their ids.
 pub(crate) trait Stored {
@@ -101,23 +101,64 @@ fn least_free<S: Stored, P: IdSet>(
     tuples: &S,
     template: &Template,
     passed: &P,
-    ids: &BTreeSet<u64>,
+    ids: &RisingMap<()>,
     from: u64,
 ) -> Found
     ensures found { IfSome result.id
         (IsFreeMatch (S.rows tuples.now) template.now (P.has passed.now)) }
     ensures above { IfSome result.id (λ id. from ≤ id) }
     ensures least { IfSome result.id
-        (λ id. (k : ℕ) → from ≤ k → k < id → contains nat_cmp ids.now k ≡ true
+        (λ id. (k : ℕ) → from ≤ k → k < id → map.contains_key ids.now k ≡ true
         → IsFreeMatch (S.rows tuples.now) template.now (P.has passed.now) k → ⊥) }
-    ensures none { IfNone result.id ((k : ℕ) → from ≤ k → contains nat_cmp ids.now k ≡ true
+    ensures none { IfNone result.id ((k : ℕ) → from ≤ k → map.contains_key ids.now k ≡ true
+        → IsFreeMatch (S.rows tuples.now) template.now (P.has passed.now) k → ⊥) }
+{
+    let mut at = from;
+    let mut looks: usize = 0;
+    while let Some(part) = ids.run_from(at) {
+        let found = least_in(tuples, template, passed, part.rows);
+        looks = looks.saturating_add(found.passed);
+        if let Some(id) = found.id {
+            return Found {
+                id: Some(id),
+                passed: looks,
+            };
+        }
+        let Some(next) = part.next else {
+            return Found {
+                id: None,
+                passed: looks,
+            };
+        };
+        at = next;
+    }
+    Found {
+        id: None,
+        passed: looks,
+    }
+}
+
+// The least of these ids whose tuple may answer the template.
+fn least_in<S: Stored, P: IdSet>(
+    tuples: &S,
+    template: &Template,
+    passed: &P,
+    rows: &[(u64, ())],
+) -> Found
+    requires { Rises (ids_of rows.now) }
+    ensures found { IfSome result.id
+        (IsFreeMatch (S.rows tuples.now) template.now (P.has passed.now)) }
+    ensures there { IfSome result.id (λ id. IsSome (at rows.now id)) }
+    ensures least { IfSome result.id (λ id. (k : ℕ) → IsSome (at rows.now k) → k < id
+        → IsFreeMatch (S.rows tuples.now) template.now (P.has passed.now) k → ⊥) }
+    ensures none { IfNone result.id ((k : ℕ) → IsSome (at rows.now k)
         → IsFreeMatch (S.rows tuples.now) template.now (P.has passed.now) k → ⊥) }
 {
     let mut looks: usize = 0;
-    for id in ids.range(from..) {
-        if is_free(tuples, template, passed, *id) {
+    for row in rows {
+        if is_free(tuples, template, passed, row.0) {
             return Found {
-                id: Some(*id),
+                id: Some(row.0),
                 passed: looks,
             };
         }

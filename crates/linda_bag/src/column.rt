@@ -239,10 +239,7 @@ fn least_of(ids: Option<&Ids>) -> Option<u64>
     match ids? {
         Ids::Nothing => None,
         Ids::One(id) => Some(*id),
-        Ids::Many(ids) => {
-            let id = ids.first()?;
-            Some(*id)
-        }
+        Ids::Many(ids) => ids.next_from(0),
     }
 }
 

@@ -1,15 +1,13 @@
 //! Ids of rows, often of a single one, which then takes no memory of its own: one tuple is under a
 //! key of a queue of jobs or of a request.
 
-ghost use Rattle.std.specs.Prelude.{◌≡◌, ℕ, true, IfOk};
-ghost use Rattle.std.specs.Ordering.{nat_cmp};
-ghost use Rattle.std.specs.BTreeSet.{contains};
+ghost use Rattle.std.specs.Prelude.{◌≡◌, ◌≢◌, ℕ, true, false, IfOk, OnOk, OnErr};
 ghost use Rattle.linda_bag.specs.Filing.{Rows};
-ghost use Rattle.linda_bag.specs.Ids.{IsOf, IsCount, HasPair};
+ghost use Rattle.linda_bag.specs.Ids.{IsOf, IsCount, HasPair, SetsId};
 
 use crate::shelf::Shelf;
+use linda_rising::RisingMap;
 use std::alloc::{AllocError, Global};
-use std::collections::BTreeSet;
 
 /// A set of ids. It is as small as it can be, since one stands under each key: so several are
 /// behind a box.
@@ -17,7 +15,7 @@ use std::collections::BTreeSet;
 pub enum Ids {
     Nothing,
     One(u64),
-    Many(Box<BTreeSet<u64>>),
+    Many(Box<RisingMap<()>>),
 }
 
 impl Ids {
@@ -62,10 +60,7 @@ impl<T> Shelf<T> for Ids {
                 *self = Ids::Many(both);
                 Ok(())
             }
-            Ids::Many(ids) => {
-                ids.insert(id)?;
-                Ok(())
-            }
+            Ids::Many(ids) => add(&mut **ids, id),
         }
     }
 
@@ -77,9 +72,7 @@ impl<T> Shelf<T> for Ids {
                     *self = Ids::Nothing;
                 }
             }
-            Ids::Many(ids) => {
-                ids.remove(&id);
-            }
+            Ids::Many(ids) => take(&mut **ids, id),
         }
     }
 
@@ -87,17 +80,36 @@ impl<T> Shelf<T> for Ids {
         match self {
             Ids::Nothing => true,
             Ids::One(_) => false,
-            Ids::Many(ids) => ids.is_empty(),
+            Ids::Many(ids) => ids.len() == 0,
         }
     }
 }
 
 // The set of both ids.
-fn pair(alloc: Global, one: u64, other: u64) -> Result<Box<BTreeSet<u64>>, AllocError>
+fn pair(alloc: Global, one: u64, other: u64) -> Result<Box<RisingMap<()>>, AllocError>
+    requires { one ≢ other }
     ensures { IfOk result (λ both. HasPair one other both.value) }
 {
-    let mut both = BTreeSet::new(alloc);
-    both.insert(one)?;
-    both.insert(other)?;
+    let mut both = RisingMap::new(alloc);
+    both.insert(one, ())?;
+    both.insert(other, ())?;
     Ok(Box::new(alloc, both)?)
+}
+
+// Puts the id into the set, if it is not there.
+fn add(ids: &mut RisingMap<()>, id: u64) -> Result<(), AllocError>
+    ensures ok { OnOk result (SetsId ids.old ids.new id true) }
+    ensures err { OnErr result (ids.new ≡ ids.old) }
+{
+    if ids.contains(id) {
+        return Ok(());
+    }
+    ids.insert(id, ())
+}
+
+// Takes the id out of the set, if it is there.
+fn take(ids: &mut RisingMap<()>, id: u64)
+    ensures { SetsId ids.old ids.new id false }
+{
+    ids.remove(id);
 }

@@ -7,19 +7,17 @@ ghost use Rattle.std.specs.FinMap as map;
 ghost use Rattle.linda_bag.specs.Bytes.{tuple_bytes, bytes_at};
 ghost use Rattle.linda_bag.specs.Filing.{Refiles};
 
-use crate::free_match::{next_entry, next_id};
 use crate::shelf::Shelf;
 use linda_codec::tuple_len;
+use linda_rising::RisingMap;
 use linda_tuple::{Form, Tuple};
 use std::alloc::{AllocError, Global};
-use std::collections::BTreeMap;
-use std::collections::btree_map::Entry;
 use std::marker::Model;
 
 /// The tuples of a bag. Contracts see the finite map from their ids.
 #[derive(Drop)]
 pub(crate) struct Tuples {
-    by_id: BTreeMap<u64, Box<Tuple>>,
+    by_id: RisingMap<Box<Tuple>>,
 }
 
 impl Model for Tuples {
@@ -34,7 +32,7 @@ impl Model for Tuples {
 
     ghost coded = { map.code coded_ℕ tuple_code };
 
-    ghost view = { λ t. map.from_entries (unboxed t.by_id.entries) };
+    ghost view = { λ t. map.from_entries (unboxed (map.entries t.by_id)) };
 }
 
 impl Tuples {
@@ -43,7 +41,7 @@ impl Tuples {
         ensures { result ≡ map.empty }
     {
         Tuples {
-            by_id: BTreeMap::new(alloc),
+            by_id: RisingMap::new(alloc),
         }
     }
 
@@ -69,19 +67,17 @@ impl Tuples {
         ensures unfiled { OnErr result (Refiles (S.has shelf.old) (S.has shelf.new)
             id (map.get self.old id) (map.get self.old id)) }
     {
-        match self.by_id.entry(id) {
-            Ok(Entry::Vacant(place)) => {
-                let kept = place.insert(tuple);
-                match shelf.put(alloc, id, None, &**kept) {
-                    Ok(()) => Ok(0),
-                    Err(error) => {
-                        self.by_id.remove(&id);
-                        Err(error)
-                    }
-                }
+        match self.by_id.get(id) {
+            Some(old) => {
+                shelf.put(alloc, id, Some(&**old), &*tuple)?;
+                let freed = tuple_len(Form::Two, &**old);
+                self.by_id.replace(id, tuple);
+                Ok(freed)
             }
-            Ok(Entry::Occupied(place)) => replace(place.into_mut(), shelf, alloc, id, tuple),
-            Err(_) => Err(AllocError),
+            None => {
+                add(&mut self.by_id, shelf, alloc, id, tuple)?;
+                Ok(0)
+            }
         }
     }
 
@@ -90,7 +86,7 @@ impl Tuples {
         ensures value { result ≡ map.get self.old id }
         ensures removed { self.new ≡ map.remove self.old id }
     {
-        let tuple = self.by_id.remove(&id)?;
+        let tuple = self.by_id.remove(id)?;
         Some(Box::into_inner(tuple))
     }
 
@@ -98,7 +94,7 @@ impl Tuples {
     pub(crate) fn get(&self, id: u64) -> Option<&Tuple>
         ensures { option_copied result ≡ map.get self.now id }
     {
-        let tuple = self.by_id.get(&id)?;
+        let tuple = self.by_id.get(id)?;
         Some(&**tuple)
     }
 
@@ -117,7 +113,7 @@ impl Tuples {
             → map.get self.now k ≡ None) }
         ensures none { IfNone result ((k : ℕ) → id ≤ k → map.get self.now k ≡ None) }
     {
-        next_id(&self.by_id, id)
+        self.by_id.next_from(id)
     }
 
     /// The tuple of the least id that is not below `id`, with that id; nothing only if there is
@@ -129,30 +125,36 @@ impl Tuples {
             → map.get self.now k ≡ None) }
         ensures none { IfNone result ((k : ℕ) → id ≤ k → map.get self.now k ≡ None) }
     {
-        let (next, tuple) = next_entry(&self.by_id, id)?;
+        let (next, tuple) = self.by_id.entry_from(id)?;
         Some((next, &**tuple))
     }
 }
 
-// Puts the tuple in the place of the one that is kept, and files the id by it; where memory runs
-// out all stays as it is. Returns how many bytes that one spelled.
-fn replace<S: Shelf<Tuple>>(
-    kept: &mut Box<Tuple>,
+// Puts the tuple under an id that has none, and files the id by it; if memory runs out all stays as
+// it is.
+fn add<S: Shelf<Tuple>>(
+    by_id: &mut RisingMap<Box<Tuple>>,
     shelf: &mut S,
     alloc: Global,
     id: u64,
     tuple: Box<Tuple>,
-) -> Result<usize, AllocError>
-    ensures freed { IfOk result (λ freed. freed ≡ tuple_bytes kept.old.value) }
-    ensures ok { OnOk result (kept.new.value ≡ tuple.value) }
-    ensures filed { OnOk result (Refiles (S.has shelf.old) (S.has shelf.new)
-        id (Some kept.old.value) (Some tuple.value)) }
-    ensures err { OnErr result (kept.new.value ≡ kept.old.value) }
-    ensures unfiled { OnErr result (Refiles (S.has shelf.old) (S.has shelf.new)
-        id (Some kept.old.value) (Some kept.old.value)) }
+) -> Result<(), AllocError>
+    requires { map.get by_id.old id ≡ None }
+    ensures ok { OnOk result (by_id.new ≡ map.insert by_id.old id tuple) }
+    ensures filed { OnOk result
+        (Refiles (S.has shelf.old) (S.has shelf.new) id None (Some tuple.value)) }
+    ensures err { OnErr result (by_id.new ≡ by_id.old) }
+    ensures unfiled { OnErr result (Refiles (S.has shelf.old) (S.has shelf.new) id None None) }
 {
-    shelf.put(alloc, id, Some(&**kept), &*tuple)?;
-    let freed = tuple_len(Form::Two, &**kept);
-    *kept = tuple;
-    Ok(freed)
+    by_id.insert(id, tuple)?;
+    let Some(kept) = by_id.get(id) else {
+        return Ok(());
+    };
+    match shelf.put(alloc, id, None, &**kept) {
+        Ok(()) => Ok(()),
+        Err(error) => {
+            by_id.remove(id);
+            Err(error)
+        }
+    }
 }

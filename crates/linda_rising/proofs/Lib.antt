@@ -1,5 +1,5 @@
-mod IdLaws
-mod RowLaws
-mod BlockLaws
-mod MapLaws
-mod RunLaws
+pub mod IdLaws
+pub mod RowLaws
+pub mod BlockLaws
+pub mod MapLaws
+pub mod RunLaws

@@ -1,5 +1,7 @@
 -- Rows under ids that rise, in a list, and in blocks.
-use Rattle.std.specs.Prelude.{◌≡◌, ℕ, ◌<◌, ◌≤◌, ◌-◌, ◌==◌, List, [], ◌∷◌, ◌++◌, map, length, slice_index, slice_index_or, Option, None, Some, IsSome, if◌then◌else◌}
+use Rattle.std.specs.Prelude.{◌≡◌, ℕ, ◌<◌, ◌≤◌, ◌==◌, List, [], ◌∷◌, ◌++◌, map, length}
+use Rattle.std.specs.Prelude.{slice_index, slice_index_or, Option, None, Some, IsSome}
+use Rattle.std.specs.Prelude.{if◌then◌else◌}
 
 -- Each id is below those after it.
 abbrev pub Rises : List ℕ → Type 0
@@ -10,6 +12,11 @@ pub record IsPlace (ids : List ℕ) (id i : ℕ) : Type 0 where
   pub bound : i ≤ length ids
   pub below : (j : ℕ) → j < i → slice_index ids j < id
   pub above : (j : ℕ) → i ≤ j → j < length ids → id ≤ slice_index ids j
+
+-- The id is below the bound, if there is one.
+abbrev pub IsUnder : ℕ → Option ℕ → Type 0
+IsUnder q None = Unit {0}
+IsUnder q (Some bound) = q < bound
 
 module _ {T : Type 0} where
   -- the ids of the rows
@@ -30,15 +37,15 @@ module _ {T : Type 0} where
     pub rises : Rises (ids_of run)
     pub above : (j : ℕ) → j < length run → from ≤ slice_index (ids_of run) j
 
-  -- the id of the last row
-  abbrev pub last_id : List (ℕ × T) → ℕ
-  last_id run = slice_index (ids_of run) (length run - 1)
-
-  -- There are such rows, and from this id to the last of theirs there is no other row.
-  pub record Begins (row_at : ℕ → Option T) (from : ℕ) (run : List (ℕ × T)) : Type 0 where
-    pub rows : IsRun from run
-    pub some : 0 < length run
-    pub all : (q : ℕ) → from ≤ q → q ≤ last_id run → row_at q ≡ at run q
+  -- These rows come first from the id on, and those that are not below `next` come after them; if
+  -- there is no `next`, there are no others.
+  pub record Begins (row_at : ℕ → Option T) (from : ℕ) (rows : List (ℕ × T)) (next : Option ℕ)
+      : Type 0 where
+    pub run : IsRun from rows
+    pub some : 0 < length rows
+    pub below : (j : ℕ) → j < length rows → IsUnder (slice_index (ids_of rows) j) next
+    pub all : (q : ℕ) → from ≤ q → IsUnder q next → row_at q ≡ at rows q
+    pub later : IsUnder from next
 
   -- the rows of the blocks, one block after another
   abbrev pub all_rows : List (ℕ × List (ℕ × T)) → List (ℕ × T)
@@ -65,6 +72,11 @@ module _ {T : Type 0} where
     pub within : i < length bs
     pub begins : 0 < i → (slice_index_or bs i (0, [])).0 ≤ id
     pub above : (j : ℕ) → i < j → j < length bs → id < (slice_index_or bs j (0, [])).0
+
+  -- The id is that of the block at place i; there is none if there is no such block.
+  abbrev pub IsFrom : List (ℕ × List (ℕ × T)) → ℕ → Option ℕ → Type 0
+  IsFrom bs i None = length bs ≤ i
+  IsFrom bs i (Some id) = (i < length bs) × (id ≡ (slice_index_or bs i (0, [])).0)
 
   -- The first block has the lower rows of the old one and its id, the other the upper rows.
   pub record Halves (old lower upper : ℕ × List (ℕ × T)) : Type 0 where

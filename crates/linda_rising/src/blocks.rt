@@ -3,7 +3,7 @@
 ghost use Rattle.std.specs.Prelude.{◌≡◌, ◌<◌, ℕ, length, Some, None, OnOk, OnErr, IsSome};
 ghost use Rattle.std.specs.Prelude.{◌≤◌, slice_index_or, [], ◌∷◌, IfSome, IfNone};
 ghost use Rattle.std.specs.Option.{option_copied};
-ghost use Rattle.linda_rising.specs.Rows.{at, all_rows, IsRising, IsFor, Sets, Begins};
+ghost use Rattle.linda_rising.specs.Rows.{at, all_rows, IsRising, IsFor, IsFrom, Sets, Begins};
 
 use crate::block::Block;
 use std::alloc::{AllocError, Global};
@@ -24,10 +24,18 @@ pub(crate) fn get<T>(blocks: &VecDeque<Block<T>>, id: u64) -> Option<&T>
     block.get(id)
 }
 
+/// Rows of one block, and the id from which on those of the next one are.
+#[derive(Drop)]
+pub struct Run<'a, T> {
+    pub rows: &'a [(u64, T)],
+    pub next: Option<u64>,
+}
+
 /// The rows from the id on that are in one block with the first of them.
-pub(crate) fn run_from<T>(blocks: &VecDeque<Block<T>>, id: u64) -> Option<&[(u64, T)]>
+pub(crate) fn run_from<T>(blocks: &VecDeque<Block<T>>, id: u64) -> Option<Run<'_, T>>
     requires { IsRising blocks.now.items }
-    ensures run { IfSome result (λ run. Begins (at (all_rows blocks.now.items)) id run.now) }
+    ensures run { IfSome result (λ run.
+        Begins (at (all_rows blocks.now.items)) id run.rows.now run.next) }
     ensures none { IfNone result ((q : ℕ) → id ≤ q → at (all_rows blocks.now.items) q ≡ None) }
 {
     if blocks.is_empty() {
@@ -35,15 +43,28 @@ pub(crate) fn run_from<T>(blocks: &VecDeque<Block<T>>, id: u64) -> Option<&[(u64
     }
     let place = place_of(blocks, id);
     let block = &blocks[place];
-    let run = block.run_from(id);
-    if !run.is_empty() {
-        return Some(run);
+    let rows = block.run_from(id);
+    if !rows.is_empty() {
+        let next = from_of(blocks, place + 1);
+        return Some(Run { rows, next });
     }
     if place + 1 < blocks.len() {
         let block = &blocks[place + 1];
-        return Some(block.run_from(id));
+        let rows = block.run_from(id);
+        let next = from_of(blocks, place + 2);
+        return Some(Run { rows, next });
     }
     None
+}
+
+// The id that no row of the block is below, if there is a block at the place.
+fn from_of<T>(blocks: &VecDeque<Block<T>>, place: usize) -> Option<u64>
+    ensures { IsFrom blocks.now.items place result }
+{
+    match blocks.get(place) {
+        Some(block) => Some(block.from()),
+        None => None,
+    }
 }
 
 /// Puts a row under an id that has none.

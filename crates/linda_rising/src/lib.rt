@@ -9,4 +9,5 @@ mod block;
 mod blocks;
 mod rising_map;
 
+pub use blocks::Run;
 pub use rising_map::RisingMap;

@@ -9,6 +9,7 @@ ghost use Rattle.linda_rising.specs.Rows.{Begins};
 
 use crate::block::Block;
 use crate::blocks;
+use crate::blocks::Run;
 use std::alloc::{AllocError, Global};
 use std::collections::VecDeque;
 use std::marker::Model;
@@ -62,8 +63,8 @@ impl<T> RisingMap<T> {
 
     /// Some rows from the id on: the first of them, and all that follow it in its block. Takes one
     /// search, so a walk takes one for some hundred rows.
-    pub fn run_from(&self, id: u64) -> Option<&[(u64, T)]>
-        ensures run { IfSome result (λ run. Begins (map.get self.now) id run.now) }
+    pub fn run_from(&self, id: u64) -> Option<Run<'_, T>>
+        ensures run { IfSome result (λ run. Begins (map.get self.now) id run.rows.now run.next) }
         ensures none { IfNone result ((q : ℕ) → id ≤ q → map.get self.now q ≡ None) }
     {
         blocks::run_from(&self.blocks, id)
@@ -78,8 +79,8 @@ impl<T> RisingMap<T> {
         ensures none { IfNone result ((k : ℕ) → id ≤ k → map.get self.now k ≡ None) }
     {
         match self.run_from(id) {
-            Some(rows) => {
-                let first = &rows[0];
+            Some(found) => {
+                let first = &found.rows[0];
                 Some((first.0, &first.1))
             }
             None => None,

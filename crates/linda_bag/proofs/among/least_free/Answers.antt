@@ -1,22 +1,28 @@
-use Rattle.std.proofs.Common.{nat_cmp, sym, ◌≡◌, ◌≤◌, true, true≢false, ◌∙◌}
-use Rattle.std.specs.BTreeSet.{contains}
+use Rattle.std.proofs.Common.{ℕ, ◌<◌, IsSome, IfSome, is_some, subst, sym, ap, ◌∙◌, arith, inl, inr}
+use Rattle.std.proofs.lemmas.Bool.{cases_lt}
+use Rattle.linda_rising.specs.Rows.{at, IsUnder}
+use Rattle.linda_rising.proofs.RunLaws.{place_there, under_lower}
 use Rattle.linda_bag.specs.FreeMatch.{IsFreeMatch}
-use Rattle.linda_bag.proofs.AheadLaws.{all_ahead, from_on, fewer_ahead, none_before, none_ahead}
 use Rattle.linda_bag.proofs.among.least_free.Goals as goal
 
-pub loop-id-init : goal.loop-id-init
-loop-id-init g c =
-    all_ahead (λ k. (c.args.from ≤ k) × (contains nat_cmp c.args.ids.now k ≡ true) × IsFreeMatch (g.S.Stored.rows c.args.tuples.now) c.args.template.now (g.P.IdSet.has c.args.passed.now) k)
-    _ c.args.ids.now.keys _ (c.into_iter-id-iterator.ensures.into_iter_gives ∙ c.range-id-items.ensures.between tt) c.range-id-items.ensures.ordered
-    (λ k wanted. from_on c.args.from k wanted.0)
-    (λ k wanted. wanted.1)
+pub returns-in-Some-id-clause-above : goal.returns-in-Some-id-clause-above
+returns-in-Some-id-clause-above g c =
+    let rows = c.in-Some.part.rows.now in
+    let begins = c.in-Some.ensures.run in
+    let there : IsSome (at rows c.in-Some-id.id) = subst (λ o. IfSome o (λ id. IsSome (at rows id))) c.in-Some-id.is c.least_in-found.ensures.there in
+    let p = place_there rows c.in-Some-id.id there in
+    omega (arith, c.loop-part.invariant.0, begins.run.above p.0 p.1, p.2)
 
-pub returns-then-is_free-clause-least : goal.returns-then-is_free-clause-least
-returns-then-is_free-clause-least g c = λ k from below there free. none_before _ _ c.in-Some.id.now _ c.loop-id.invariant c.in-Some.ensures.steps k below (from, there, free)
-
-pub loop-id-preserved : goal.loop-id-preserved
-loop-id-preserved g c =
-    fewer_ahead _ _ c.in-Some.id.now _ c.loop-id.invariant c.in-Some.ensures.steps (λ wanted. true≢false (sym (c.is_free.ensures.1 wanted.2) ∙ c.if-is_free.false))
-
-pub returns-clause-none : goal.returns-clause-none
-returns-clause-none g c = λ k from there free. none_ahead _ _ c.loop-id.invariant c.in-None.ensures.steps.0 k (from, there, free)
+pub returns-in-Some-id-clause-least : goal.returns-in-Some-id-clause-least
+returns-in-Some-id-clause-least g c = λ k from less has free.
+    let rows = c.in-Some.part.rows.now in
+    let begins = c.in-Some.ensures.run in
+    let there : IsSome (at rows c.in-Some-id.id) = subst (λ o. IfSome o (λ id. IsSome (at rows id))) c.in-Some-id.is c.least_in-found.ensures.there in
+    let p = place_there rows c.in-Some-id.id there in
+    elim (cases_lt k c.loop-part.at) [
+      | inl before ↦ c.loop-part.invariant.1 k from before has free
+      | inr above ↦
+          let under : IsUnder k c.in-Some.part.next = under_lower k _ c.in-Some.part.next (omega (arith, less, p.2)) (begins.below p.0 p.1) in
+          let some : IsSome (at rows k) = ap is_some (sym (begins.all k above under)) ∙ has in
+          (subst (λ o. IfSome o (λ id. (q : ℕ) → IsSome (at rows q) → q < id → IsFreeMatch (g.S.Stored.rows c.args.tuples.now) c.args.template.now (g.P.IdSet.has c.args.passed.now) q → ⊥)) c.in-Some-id.is c.least_in-found.ensures.least) k some less free
+    ]

@@ -1,5 +1,6 @@
-use Rattle.std.proofs.Common.{ap, sym, ◌∙◌, is_some, true≢false}
-use Rattle.linda_bag.proofs.BareLaws.{set_bare}
+use Rattle.std.proofs.Common.{ap, sym, ◌∙◌, is_some, true≢false, eqb-true, eq-eqb}
+use Rattle.std.specs.FinMap as map
+use Rattle.linda_bag.proofs.SetLaws.{set_bare}
 use Rattle.linda_bag.proofs.OrderLaws.{number_itself}
 use Rattle.linda_bag.proofs.ids.IdsShelf.is_empty.Goals as goal
 
@@ -11,5 +12,6 @@ returns-in-One g c = rw c.in-One.is (λ rows same. (
 
 pub returns-in-Many : goal.returns-in-Many
 returns-in-Many g c = rw c.in-Many.is (λ rows same.
-    let bare = set_bare c.deref.result.now.keys rows (rw c.deref.ensures same) in
-    ((λ yes. bare.0 (c.is_empty.ensures.0 yes)), (λ none. c.is_empty.ensures.1 (bare.1 none))))
+    let bare = set_bare c.in-Many.ids.value rows same in
+    let long = c.len.ensures ∙ ap (λ m. map.len m) c.deref.ensures in
+    ((λ yes. bare.0 (sym long ∙ eqb-true _ _ yes)), (λ none. eq-eqb _ _ (long ∙ bare.1 none))))

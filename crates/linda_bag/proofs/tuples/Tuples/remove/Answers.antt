@@ -1,6 +1,6 @@
 use Rattle.std.proofs.Common.{Some, sym, ap, ◌∙◌}
 use Rattle.std.specs.FinMap as map
-use Rattle.linda_bag.proofs.TuplesLaws.{behind, seen_behind, one_gone_behind}
+use Rattle.linda_bag.proofs.TuplesLaws.{behind, all_behind, seen_behind, gone_behind}
 use Rattle.linda_bag.proofs.tuples.Tuples.remove.Goals as goal
 
 pub returns-in_err-tuple-clause-value : goal.returns-in_err-tuple-clause-value
@@ -11,7 +11,8 @@ returns-in_err-tuple-clause-value c =
 
 pub returns-in_err-tuple-clause-removed : goal.returns-in_err-tuple-clause-removed
 returns-in_err-tuple-clause-removed c =
-    one_gone_behind c.self.inside.by_id c.remove.new.self c.args.id c.remove.ensures.updates
+    ap all_behind c.remove.ensures.removed
+    ∙ gone_behind c.self.inside.by_id c.args.id
     ∙ ap (λ m. map.remove m c.args.id) c.self.view_is
 
 pub returns-clause-value : goal.returns-clause-value
@@ -22,5 +23,6 @@ returns-clause-value c =
 
 pub returns-clause-removed : goal.returns-clause-removed
 returns-clause-removed c =
-    one_gone_behind c.self.inside.by_id c.remove.new.self c.args.id c.remove.ensures.updates
+    ap all_behind c.remove.ensures.removed
+    ∙ gone_behind c.self.inside.by_id c.args.id
     ∙ ap (λ m. map.remove m c.args.id) c.self.view_is

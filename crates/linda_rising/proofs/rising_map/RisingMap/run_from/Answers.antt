@@ -8,7 +8,7 @@ use Rattle.linda_rising.proofs.rising_map.RisingMap.run_from.Goals as goal
 
 pub returns-clause-run : goal.returns-clause-run
 returns-clause-run g c =
-    IfSome_then c.run_from.result c.run_from.ensures.run (λ run begins. begins_as _ _ c.args.id run.now (λ q. sym (get_at (all_rows c.self.inside.blocks.items) q) ∙ ap (λ m. map.get m q) c.self.view_is) begins)
+    IfSome_then c.run_from.result c.run_from.ensures.run (λ run begins. begins_as _ _ c.args.id run.rows.now run.next (λ q. sym (get_at (all_rows c.self.inside.blocks.items) q) ∙ ap (λ m. map.get m q) c.self.view_is) begins)
 
 pub returns-clause-none : goal.returns-clause-none
 returns-clause-none g c =
