@@ -31,7 +31,7 @@ pub(crate) fn next_of(numbers: &Ids, from: u64) -> Option<u64>
             }
             Some(*only)
         }
-        Ids::Many(many) => next_in(&**many, from),
+        Ids::Many(many) => many.next_from(from),
     }
 }
 
