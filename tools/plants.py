@@ -128,9 +128,6 @@ PLANTS = [
          "crates/linda_server/src/durable/steps.rt", "                Ok(None) => Ok(Progress::Done),\n                Err(fault) => {\n"
          "                    self.before = Moment::of(self.store.state());\n                    self.down = true;\n",
          "                Ok(None) => Ok(Progress::Done),\n                Err(fault) => {\n                    self.before = Moment::of(self.store.state());\n"),
-    edit("deeds of a server that serves, which could not be noted, are taken for noted", "refused growths, large", "tools/refused-growth serve large 1 5", "^growth .* refused:",
-         "crates/linda_snap/src/successor.rt", "        let Some(bytes) = spell_deeds(alloc, BANK_FORM, deeds)? else {\n            return Ok(false);\n        };\n",
-         "        let Ok(Some(bytes)) = spell_deeds(alloc, BANK_FORM, deeds) else {\n            return Ok(true);\n        };\n", build="one"),
     edit("a group is not served, and the server goes on with its deeds", "refused growths, tests", f"{REFUSED} sessions groups",
          "a_group_is_served_or_not_or_the_server_is_down: growth", "crates/linda_shared_held/src/held/serve.rt",
          "    let Ok((told, sends)) = receipts_of(alloc, served) else {\n        server.give_up();\n        return Err(SharedFault::Down);\n",
