@@ -128,10 +128,6 @@ PLANTS = [
          "crates/linda_server/src/durable/steps.rt", "                Ok(None) => Ok(Progress::Done),\n                Err(fault) => {\n"
          "                    self.before = Moment::of(self.store.state());\n                    self.down = true;\n",
          "                Ok(None) => Ok(Progress::Done),\n                Err(fault) => {\n                    self.before = Moment::of(self.store.state());\n"),
-    edit("a group is not served, and the server goes on with its deeds", "refused growths, tests", f"{REFUSED} sessions groups",
-         "a_group_is_served_or_not_or_the_server_is_down: growth", "crates/linda_shared_held/src/held/serve.rt",
-         "    let Ok((told, sends)) = receipts_of(alloc, served) else {\n        server.give_up();\n        return Err(SharedFault::Down);\n",
-         "    let Ok((told, sends)) = receipts_of(alloc, served) else {\n        return Err(SharedFault::Memory);\n"),
     edit("a copy is not made anew", "sockets", f"{SOCKETS} a_copy_while_banks_change", "FAILED", "examples/backup.sh", '[ "$(heads "$1")" != "$before" ]', "false"),
     # ---- what is left open, busy or in memory
     Plant("a connection over a unix socket leaves a descriptor", "counts", f"{COUNTS} files_of_a_server", "over a unix socket",

@@ -4,13 +4,14 @@
 ghost use Rattle.std.specs.Prelude.{◌≡◌};
 ghost use Rattle.linda_shared_accounts.specs.declared.limits.TheConstants.{PARTS};
 
-use linda_disk::{MemDisk, Torn};
+use linda_disk::MemDisk;
 use linda_shared::{
-    Account, Group, MAX_GROUP, MOST_ASKED, Post, Sent, ServedGroup, Shared, hear_answer,
+    Account, Group, MAX_GROUP, MOST_ASKED, Post, Sent, ServedGroup, Shared, SharedFault,
+    hear_answer,
 };
 use linda_shared_accounts::PARTS;
 use linda_test_script::{read_batch, write_reply};
-use linda_test_server::{Host, Kept, ROOMY, Stand, hello, kept_after_crash, shared_on};
+use linda_test_server::{ROOMY, Stand, hello, shared_on};
 use linda_wire::Message;
 use std::alloc::{AllocError, Global};
 use std::marker::Brand;
@@ -43,18 +44,6 @@ const STOPS: Stand = Stand {
     limit: 1_048_576,
     stops_in: Some(0),
 };
-
-/// What comes of the first group, and of one for which memory ran out before it was served.
-const SERVED: &str = "7 has 1\n8 has 1\n9 has 0\n7 has 1\n8 has 1\n\
-    > 7 stored 1 1\n> 7 refused 5 1\n> 8 stored 1 2\n> 8 stored 1 2\n> 9 offer 1 2 (\"b\", 4)\n\
-    up, 1 records\n";
-
-const NOT_SERVED: &str = "7 memory\n8 memory\n9 memory\n7 memory\n8 memory\nup, 0 records\n";
-
-/// What a server keeps before that group, and after it.
-const NEW: Kept = (1, 0, 0);
-
-const TWO: Kept = (3, 2, 2);
 
 const DOWN: &str = "7 down\n8 down\n9 down\n7 down\n8 down\nnobody is up\n";
 
@@ -190,7 +179,8 @@ fn tell_answer<L: Ledger>(
     }
     match hear_answer(account, &message, answered) {
         Ok(()) => Ok(writeln!(told, "{} has {}", account.client(), account.deeds())?),
-        Err(fault) => Ok(writeln!(told, "{} {fault}", account.client())?),
+        Err(SharedFault::Down) => Ok(writeln!(told, "{} down", account.client())?),
+        Err(_) => Err(AllocError),
     }
 }
 
@@ -276,42 +266,5 @@ fn a_group_is_one_record_and_each_is_answered_in_order(rt: HostRuntime) -> Resul
 fn nothing_is_posted_of_a_group_whose_record_stops(rt: HostRuntime) -> Result<(), AllocError> {
     let told = told_of_a_stop::<Brand, _>(&rt, rt.alloc(), Blank::new(PARTS))?;
     assert_eq!(rt; told.as_str(), DOWN);
-    Ok(())
-}
-
-// What comes of the first group, and what the server keeps then; one that is down is opened again.
-fn left_by_a_group<L: Ledger, R: Wait>(
-    rt: &R,
-    alloc: Global,
-    blank: Blank,
-) -> Result<(String, Option<Kept>), AllocError>
-    requires { (blank.name ≡ L.name) × (blank.parts ≡ L.parts) × (L.parts ≡ PARTS) }
-{
-    let shared: Shared<MemDisk, L> = shared_on(alloc, blank, ROOMY)?;
-    let mut accounts = admitted(rt, alloc, &shared)?;
-    let mut told = String::new(alloc);
-    play_group(rt, alloc, &shared, &mut accounts, MIXED, &mut told)?;
-    if told.as_str() != DOWN {
-        return Ok((told, Some(shared.into_kept())));
-    }
-    let kept = kept_after_crash(alloc, shared.into_disks(), ROOMY.limit, Torn::Kept);
-    Ok((told, kept))
-}
-
-#[test]
-fn without_memory_a_group_is_served_or_not_or_the_server_is_down(
-    rt: HostRuntime,
-) -> Result<(), AllocError> {
-    let (told, kept) = left_by_a_group::<Brand, _>(&rt, rt.alloc(), Blank::new(PARTS))?;
-    let wanted: &[Kept] = match told.as_str() {
-        SERVED => &[TWO],
-        NOT_SERVED => &[NEW],
-        DOWN => &[NEW, TWO],
-        _ => &[],
-    };
-    assert!(rt;
-        wanted.iter().any(|one| kept == Some(*one)),
-        "{told} {kept:?}"
-    );
     Ok(())
 }
