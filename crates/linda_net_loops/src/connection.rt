@@ -6,8 +6,8 @@ ghost use Rattle.linda_net_session.specs.Turns.{Tells};
 ghost use Rattle.linda_net_session.specs.Between.{TakesNothing, Sends, Flushes};
 ghost use Rattle.linda_net_loops.specs.Connected.{Gives, IfGreeting};
 
+use crate::socket::{Note, Socket};
 use linda_disk::Disk;
-use linda_net_http::Stream;
 use linda_net_marks::Marks;
 use linda_net_relays::{Look, Span, weight_after};
 use linda_net_session::{End, Phase, Room, Route, Session, Way};
@@ -38,8 +38,8 @@ pub(crate) enum Next {
 
 /// One connection.
 #[derive(Drop)]
-pub(crate) struct Connection<L: Ledger> {
-    stream: Stream,
+pub(crate) struct Connection<S: Socket, L: Ledger> {
+    stream: S,
     session: Session,
     /// Once its client was greeted.
     pub(crate) account: Option<Account<L>>,
@@ -61,9 +61,9 @@ pub(crate) struct Connection<L: Ledger> {
     refusal: Span,
 }
 
-impl<L: Ledger> Connection<L> {
+impl<S: Socket, L: Ledger> Connection<S, L> {
     /// A connection that sent nothing yet, or that was not looked at.
-    pub(crate) fn new(alloc: Global, stream: Stream) -> Connection<L>
+    pub(crate) fn new(alloc: Global, stream: S) -> Connection<S, L>
         ensures { (result.session ≡ begun) × (result.account ≡ None) }
     {
         Connection {
@@ -83,8 +83,21 @@ impl<L: Ledger> Connection<L> {
     }
 
     /// The socket.
-    pub(crate) fn stream(&mut self) -> &mut Stream {
+    pub(crate) fn stream(&mut self) -> &mut S {
         &mut self.stream
+    }
+
+    /// Its socket takes note of this.
+    pub(crate) fn note(&mut self, note: Note<'_>)
+        ensures session { self.new.session ≡ self.old.session }
+        ensures account { self.new.account ≡ self.old.account }
+    {
+        self.stream.note(note);
+    }
+
+    /// How many bytes are still to be written.
+    pub(crate) fn unsent(&self) -> usize {
+        self.session.unsent().len()
     }
 
     /// The socket may have more to read; or no more than what is there, and then its end.
@@ -252,6 +265,7 @@ impl<L: Ledger> Connection<L> {
     {
         let reply = Refusal::Busy.reply();
         self.count(marks, &reply);
+        self.stream.note(Note::Busy);
     }
 
     /// A message that went this way came back.
@@ -308,6 +322,7 @@ impl<L: Ledger> Connection<L> {
         ensures broken { self.new.session ≡ broken self.old.session }
     {
         self.session.fail();
+        self.stream.note(Note::Failed);
     }
 
     /// Writes what it can take.
@@ -318,6 +333,9 @@ impl<L: Ledger> Connection<L> {
         if !self.is_waiting() {
             if let End::Ending(Some(word)) = self.session.end_of() {
                 marks.sends(&word.reply());
+            }
+            if let End::Ending(word) = self.session.end_of() {
+                self.stream.note(Note::Ended(word));
             }
         }
         self.session.finish();

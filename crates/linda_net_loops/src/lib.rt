@@ -5,6 +5,7 @@
 //! - `Loops` are all of them, and run in threads of their own.
 //! - A `Loop` has some of the connections (`Sessions`), and what of theirs goes to the server next
 //!   (`Batch`).
+//! - `Serving` is one loop without a system below: what is a `Socket` there may be anything.
 //! - A `Connection` is a socket with its `Session`, read and written without waiting for it.
 #![tactic(auto)]
 
@@ -13,8 +14,12 @@ mod connection;
 mod place;
 mod posting;
 mod running;
+mod serving;
 mod sessions;
+mod socket;
 mod turns;
 
 pub use place::account_has_parts_for_all;
 pub use running::Loops;
+pub use serving::Serving;
+pub use socket::{Note, Socket};

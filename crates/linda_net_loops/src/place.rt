@@ -7,6 +7,7 @@ ghost use Rattle.linda_net_loops.specs.Joining.{joined, joined_by_way, groups_of
 
 use crate::batch::{Batch, Call};
 use crate::connection::{Connection, Next};
+use crate::socket::Socket;
 use linda_net_marks::Marks;
 use linda_net_session::{Route, Way};
 use linda_shared::{Group, MOST_ASKED};
@@ -34,8 +35,8 @@ pub(crate) enum Found {
 
 /// Takes the next message of the connection of this key, if there is room for it, and puts it where
 /// its session says that it goes.
-pub(crate) fn take_next<L: Ledger>(
-    connection: &mut Connection<L>,
+pub(crate) fn take_next<S: Socket, L: Ledger>(
+    connection: &mut Connection<S, L>,
     key: usize,
     buffer: &mut [u8],
     calls: &mut VecDeque<Call>,
@@ -60,8 +61,8 @@ pub(crate) fn take_next<L: Ledger>(
 }
 
 // Puts a message of the connection of this key where its session says that it goes.
-fn put<L: Ledger>(
-    connection: &mut Connection<L>,
+fn put<S: Socket, L: Ledger>(
+    connection: &mut Connection<S, L>,
     key: usize,
     message: Message,
     route: Route,
@@ -91,8 +92,8 @@ fn put<L: Ledger>(
 
 // The message joins the group of this way. Its session saw that there is room, and that few of it
 // are on their way; else the connection fails.
-fn ask<L: Ledger>(
-    connection: &mut Connection<L>,
+fn ask<S: Socket, L: Ledger>(
+    connection: &mut Connection<S, L>,
     key: usize,
     message: Message,
     group: &mut Group<usize, L>,

@@ -1,6 +1,7 @@
 //! Posting of replies: who takes what is sent to clients while a loop has the server.
 
 use crate::sessions::Sessions;
+use crate::socket::Socket;
 use linda_net_relays::Relays;
 use linda_shared::{Post, Sent};
 use std::sync::Wait;
@@ -11,9 +12,9 @@ use std::time::{Clock, Instant};
 /// what other loops handed to it before; all else is handed to the loop that serves the client.
 /// That is done under the server's lock, so what is sent to a client stays in order.
 #[derive(Drop)]
-pub(crate) struct Posting<'s, 'r, L: Ledger, C: Clock> {
+pub(crate) struct Posting<'s, 'r, S: Socket, L: Ledger, C: Clock> {
     pub(crate) clock: &'r C,
-    pub(crate) sessions: &'s mut Sessions<L>,
+    pub(crate) sessions: &'s mut Sessions<S, L>,
     pub(crate) relays: &'r Relays,
     // What other loops handed to this one before is taken.
     pub(crate) has_taken: bool,
@@ -23,7 +24,7 @@ pub(crate) struct Posting<'s, 'r, L: Ledger, C: Clock> {
     pub(crate) begin: Option<Instant>,
 }
 
-impl<L: Ledger, C: Clock> Post for Posting<'_, '_, L, C> {
+impl<S: Socket, L: Ledger, C: Clock> Post for Posting<'_, '_, S, L, C> {
     fn begin(&mut self) {
         self.begin = Instant::now(self.clock).ok();
     }

@@ -9,6 +9,7 @@ ghost use Rattle.linda_shared_queue.specs.Seat.{back, IsLeft, IsLost};
 use crate::batch::{Batch, Call};
 use crate::connection::Connection;
 use crate::place::{Found, take_next};
+use crate::socket::{Note, Socket};
 use linda_disk::Disk;
 use linda_net_http::Stream;
 use linda_net_marks::{Marks, word_of};
@@ -38,11 +39,11 @@ type Greeting<L> = Result<Result<(Account<L>, u64), (u8, u64)>, SharedFault>;
 
 /// The connections of one loop, by keys.
 #[derive(Drop)]
-pub(crate) struct Sessions<L: Ledger> {
+pub(crate) struct Sessions<S: Socket, L: Ledger> {
     alloc: Global,
     // Which of the loops it is.
     index: usize,
-    pub(crate) connections: Slab<Connection<L>>,
+    pub(crate) connections: Slab<Connection<S, L>>,
     // The connection of each client that was greeted here.
     clients: BTreeMap<u32, usize>,
     // Connections that may have something, and those that may have to be written to: each at most
@@ -58,9 +59,9 @@ pub(crate) struct Sessions<L: Ledger> {
     buffer: Vec<u8>,
 }
 
-impl<L: Ledger> Sessions<L> {
+impl<S: Socket, L: Ledger> Sessions<S, L> {
     /// The loop of this number has no connections.
-    pub(crate) fn new(alloc: Global, index: usize) -> Result<Sessions<L>, AllocError> {
+    pub(crate) fn new(alloc: Global, index: usize) -> Result<Sessions<S, L>, AllocError> {
         let buffer = Vec::from_elem(alloc, 0u8, PIECE)?;
         Ok(Sessions {
             alloc,
@@ -100,26 +101,28 @@ impl<L: Ledger> Sessions<L> {
         !self.ready.is_empty()
     }
 
+    /// How many bytes are still to be written to the connection of this key.
+    pub(crate) fn unsent(&self, key: usize) -> usize {
+        match self.connections.get(key) {
+            Some(connection) => connection.unsent(),
+            None => 0,
+        }
+    }
+
     /// Whether the client was greeted here.
     pub(crate) fn has(&self, client: u32) -> bool {
         self.clients.contains_key(&client)
     }
 
-    /// Lets a connection in. Says whether that was possible; else it is closed.
-    pub(crate) fn let_in(&mut self, registry: &Registry, stream: Stream) -> bool {
-        stream.hurry();
+    /// A connection comes. Returns its key; none if there is no memory, and then it is closed.
+    pub(crate) fn insert(&mut self, stream: S) -> Option<usize> {
         if self.make_room().is_err() {
-            return false;
+            return None;
         }
-        let Ok(key) = self.connections.insert(Connection::new(self.alloc, stream)) else {
-            return false;
-        };
-        if self.register(registry, key) {
-            self.make_ready(key);
-            return true;
+        match self.connections.insert(Connection::new(self.alloc, stream)) {
+            Ok(key) => Some(key),
+            Err(_) => None,
         }
-        let _ = self.connections.try_remove(key);
-        false
     }
 
     // Makes room in the lists for one connection more.
@@ -130,35 +133,22 @@ impl<L: Ledger> Sessions<L> {
         self.calls.reserve(count)
     }
 
-    // Has the connection of this key looked at when it may be read or written.
-    fn register(&mut self, registry: &Registry, key: usize) -> bool {
-        let Some(connection) = self.connections.get_mut(key) else {
-            return false;
-        };
-        let token = Token(key.saturating_add(FIRST));
-        connection.stream().register(registry, token).is_ok()
-    }
-
-    /// Something happened at a connection.
-    pub(crate) fn wake(&mut self, event: &Event) {
-        let token = event.token().0;
-        if token < FIRST {
-            return;
-        }
-        let key = token - FIRST;
+    /// Something happened at the connection of this key: it may be read, to its end if it is shut,
+    /// or written.
+    pub(crate) fn wake_key(&mut self, key: usize, is_shut: bool, is_writable: bool) {
         let Some(connection) = self.connections.get_mut(key) else {
             return;
         };
-        connection.wake(event.is_read_closed() || event.is_error());
-        let writes = event.is_writable() && connection.has_unsent();
+        connection.wake(is_shut);
+        let writes = is_writable && connection.has_unsent();
         if writes {
             self.touch(key);
         }
         self.make_ready(key);
     }
 
-    // The connection may have something.
-    fn make_ready(&mut self, key: usize) {
+    /// The connection may have something.
+    pub(crate) fn make_ready(&mut self, key: usize) {
         if let Some(connection) = self.connections.get_mut(key) {
             if !connection.is_ready && connection.has_more() && self.ready.push_back(key).is_ok() {
                 connection.is_ready = true;
@@ -229,6 +219,18 @@ impl<L: Ledger> Sessions<L> {
             }
         }
         true
+    }
+
+    /// The connection of this key takes note of what its greeting came to.
+    pub(crate) fn note_greeting(&mut self, key: usize, message: &Message, greeting: &Greeting<L>) {
+        let answer = match greeting {
+            Ok(Ok((_, last))) => Some(Ok(*last)),
+            Ok(Err(refusal)) => Some(Err(*refusal)),
+            Err(_) => None,
+        };
+        if let Some(connection) = self.connections.get_mut(key) {
+            connection.note(Note::Greeted(message, answer));
+        }
     }
 
     /// A greeting came to this. Returns the account if there is no connection for it.
@@ -316,7 +318,9 @@ impl<L: Ledger> Sessions<L> {
         };
         connection.answered(way);
         if let Some(account) = &mut connection.account {
-            if let Err(fault) = hear_own(account, client, message, answered) {
+            let heard = hear_own(account, client, message, answered);
+            connection.note(Note::Heard(message, heard.is_ok()));
+            if let Err(fault) = heard {
                 connection.end_with(word_of(fault));
             }
         }
@@ -401,7 +405,9 @@ impl<L: Ledger> Sessions<L> {
     /// to.
     pub(crate) fn take_account(&mut self, key: usize) -> Option<Account<L>> {
         self.touch(key);
-        self.connections.get_mut(key)?.account.take()
+        let connection = self.connections.get_mut(key)?;
+        connection.note(Note::Leaves);
+        connection.account.take()
     }
 
     /// Gives up what ended connections do not take.
@@ -456,6 +462,41 @@ impl<L: Ledger> Sessions<L> {
             }
             self.touch(key);
         }
+    }
+}
+
+impl<L: Ledger> Sessions<Stream, L> {
+    /// Lets a connection in. Says whether that was possible; else it is closed.
+    pub(crate) fn let_in(&mut self, registry: &Registry, stream: Stream) -> bool {
+        stream.hurry();
+        let Some(key) = self.insert(stream) else {
+            return false;
+        };
+        if self.register(registry, key) {
+            self.make_ready(key);
+            return true;
+        }
+        let _ = self.connections.try_remove(key);
+        false
+    }
+
+    // Has the connection of this key looked at when it may be read or written.
+    fn register(&mut self, registry: &Registry, key: usize) -> bool {
+        let Some(connection) = self.connections.get_mut(key) else {
+            return false;
+        };
+        let token = Token(key.saturating_add(FIRST));
+        connection.stream().register(registry, token).is_ok()
+    }
+
+    /// Something happened at a connection.
+    pub(crate) fn wake(&mut self, event: &Event) {
+        let token = event.token().0;
+        if token < FIRST {
+            return;
+        }
+        let is_shut = event.is_read_closed() || event.is_error();
+        self.wake_key(token - FIRST, is_shut, event.is_writable());
     }
 }
 

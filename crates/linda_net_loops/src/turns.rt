@@ -7,6 +7,7 @@ ghost use Rattle.linda_shared.specs.Group.{group_of};
 use crate::batch::{Batch, Call};
 use crate::posting::Posting;
 use crate::sessions::Sessions;
+use crate::socket::Socket;
 use linda_disk::Disk;
 use linda_net_http::Stream;
 use linda_net_marks::REST;
@@ -46,7 +47,7 @@ const MOST_LOOKS: u32 = 8;
 pub(crate) struct Loop<L: Ledger> {
     poll: Poll,
     events: Events,
-    sessions: Sessions<L>,
+    sessions: Sessions<Stream, L>,
     batch: Batch<L>,
     // Where connections are put that were handed to it.
     streams: Vec<Stream>,
@@ -245,86 +246,88 @@ impl<L: Ledger> Loop<L> {
         shared: &Shared<D, L>,
         relays: &Relays,
     ) -> bool {
-        let mut is_up = self.serve_asks(rt, shared, relays);
+        let mut is_up = self.ask(rt, shared, relays);
         for _ in 0..MOST_LOOKS {
             let count = self.batch.doing.len();
             let is_all = count == 0 || count >= self.sessions.len();
             if is_all || !self.batch.takes_more() || !self.look(0) {
                 break;
             }
-            is_up = self.serve_asks(rt, shared, relays) && is_up;
+            is_up = self.ask(rt, shared, relays) && is_up;
             if self.batch.doing.len() == count {
                 break;
             }
         }
-        self.serve_deeds(rt, shared, relays) && is_up
+        serve_deeds(rt, shared, relays, &mut self.sessions, &mut self.batch) && is_up
     }
 
-    // Takes what is ready, as far as the turn has some left, and serves what makes no deed, and
-    // clients that come and go. Says whether the server is up.
-    fn serve_asks<D: Disk, R: Wait + Clock>(
+    // Serves what is ready and makes no deed. Says whether the server is up.
+    fn ask<D: Disk, R: Wait + Clock>(
         &mut self,
         rt: &R,
         shared: &Shared<D, L>,
         relays: &Relays,
     ) -> bool {
-        let Loop {
-            sessions,
-            batch,
-            ..
-        } = self;
-        let mut is_up = true;
-        for _ in 0..MOST_ROUNDS {
-            let before = batch.len();
-            sessions.gather(batch, &relays.marks);
-            let is_full = batch.is_full_of_asks();
-            let is_last = !is_full && (batch.len() == before || !sessions.has_ready());
-            if !is_full {
-                sessions.flush(rt, relays);
-            }
-            is_up = serve_calls(rt, shared, relays, sessions) && is_up;
-            if batch.asking.len() > 0 {
-                let asking = &mut batch.asking;
-                let (is_still_up, micros) = serve(rt, shared, relays, sessions, asking, Way::Asks);
-                is_up = is_still_up && is_up;
-                batch.share.end_asks(micros);
-                batch.share.tell(sessions.take_told());
-            }
-            if is_last || !batch.share.has_left() {
-                break;
-            }
-        }
-        sessions.flush(rt, relays);
-        is_up
-    }
-
-    // Serves the rest as one group. Says whether the server is up.
-    fn serve_deeds<D: Disk, R: Wait + Clock>(
-        &mut self,
-        rt: &R,
-        shared: &Shared<D, L>,
-        relays: &Relays,
-    ) -> bool {
-        let Loop {
-            sessions,
-            batch,
-            ..
-        } = self;
-        if batch.doing.len() == 0 {
-            return true;
-        }
-        let (is_up, _) = serve(rt, shared, relays, sessions, &mut batch.doing, Way::Deeds);
-        let _ = sessions.take_told();
-        is_up
+        serve_asks(rt, shared, relays, &mut self.sessions, &mut self.batch)
     }
 }
 
-// Serves clients that come and go. Says whether the server is up.
-fn serve_calls<D: Disk, L: Ledger, R: Wait + Clock>(
+/// Takes what is ready, as far as the turn has some left, and serves what makes no deed, and
+/// clients that come and go. Says whether the server is up.
+pub(crate) fn serve_asks<D: Disk, S: Socket, L: Ledger, R: Wait + Clock>(
     rt: &R,
     shared: &Shared<D, L>,
     relays: &Relays,
-    sessions: &mut Sessions<L>,
+    sessions: &mut Sessions<S, L>,
+    batch: &mut Batch<L>,
+) -> bool {
+    let mut is_up = true;
+    for _ in 0..MOST_ROUNDS {
+        let before = batch.len();
+        sessions.gather(batch, &relays.marks);
+        let is_full = batch.is_full_of_asks();
+        let is_last = !is_full && (batch.len() == before || !sessions.has_ready());
+        if !is_full {
+            sessions.flush(rt, relays);
+        }
+        is_up = serve_calls(rt, shared, relays, sessions) && is_up;
+        if batch.asking.len() > 0 {
+            let asking = &mut batch.asking;
+            let (is_still_up, micros) = serve(rt, shared, relays, sessions, asking, Way::Asks);
+            is_up = is_still_up && is_up;
+            batch.share.end_asks(micros);
+            batch.share.tell(sessions.take_told());
+        }
+        if is_last || !batch.share.has_left() {
+            break;
+        }
+    }
+    sessions.flush(rt, relays);
+    is_up
+}
+
+/// Serves the rest as one group. Says whether the server is up.
+pub(crate) fn serve_deeds<D: Disk, S: Socket, L: Ledger, R: Wait + Clock>(
+    rt: &R,
+    shared: &Shared<D, L>,
+    relays: &Relays,
+    sessions: &mut Sessions<S, L>,
+    batch: &mut Batch<L>,
+) -> bool {
+    if batch.doing.len() == 0 {
+        return true;
+    }
+    let (is_up, _) = serve(rt, shared, relays, sessions, &mut batch.doing, Way::Deeds);
+    let _ = sessions.take_told();
+    is_up
+}
+
+// Serves clients that come and go. Says whether the server is up.
+fn serve_calls<D: Disk, S: Socket, L: Ledger, R: Wait + Clock>(
+    rt: &R,
+    shared: &Shared<D, L>,
+    relays: &Relays,
+    sessions: &mut Sessions<S, L>,
 ) -> bool {
     let mut is_up = true;
     for _ in 0..sessions.calls.len() {
@@ -338,6 +341,7 @@ fn serve_calls<D: Disk, L: Ledger, R: Wait + Clock>(
                     relays.marks.turns_away(rt, &message, *code);
                 }
                 is_up = !is_down(&greeting) && is_up;
+                sessions.note_greeting(key, &message, &greeting);
                 let left = sessions.greet(rt, relays, key, greeting);
                 is_up = leave(rt, shared, relays, sessions, left) && is_up;
             }
@@ -351,11 +355,11 @@ fn serve_calls<D: Disk, L: Ledger, R: Wait + Clock>(
 }
 
 // The client of this account leaves, if there is one. Says whether the server is up.
-fn leave<D: Disk, L: Ledger, R: Wait + Clock>(
+fn leave<D: Disk, S: Socket, L: Ledger, R: Wait + Clock>(
     rt: &R,
     shared: &Shared<D, L>,
     relays: &Relays,
-    sessions: &mut Sessions<L>,
+    sessions: &mut Sessions<S, L>,
     left: Option<Account<L>>,
 ) -> bool {
     let Some(account) = left else {
@@ -369,11 +373,11 @@ fn leave<D: Disk, L: Ledger, R: Wait + Clock>(
 
 // Serves a group of the sessions. Says whether the server is up, and for how many microseconds it
 // was locked.
-fn serve<D: Disk, L: Ledger, R: Wait + Clock>(
+fn serve<D: Disk, S: Socket, L: Ledger, R: Wait + Clock>(
     rt: &R,
     shared: &Shared<D, L>,
     relays: &Relays,
-    sessions: &mut Sessions<L>,
+    sessions: &mut Sessions<S, L>,
     group: &mut Group<usize, L>,
     way: Way,
 ) -> (bool, u64)
@@ -398,11 +402,11 @@ fn is_down<T>(answer: &Result<T, SharedFault>) -> bool {
 }
 
 // Who takes what is sent while the loop has the server.
-fn posting<'s, 'r, L: Ledger, R: Clock>(
+fn posting<'s, 'r, S: Socket, L: Ledger, R: Clock>(
     rt: &'r R,
-    sessions: &'s mut Sessions<L>,
+    sessions: &'s mut Sessions<S, L>,
     relays: &'r Relays,
-) -> Posting<'s, 'r, L, R> {
+) -> Posting<'s, 'r, S, L, R> {
     Posting {
         clock: rt,
         sessions,
@@ -414,7 +418,7 @@ fn posting<'s, 'r, L: Ledger, R: Clock>(
 }
 
 // Wakes the loops that something was handed to.
-fn ring<L: Ledger, C: Clock, R: Wait>(rt: &R, posting: &Posting<'_, '_, L, C>) {
+fn ring<S: Socket, L: Ledger, C: Clock, R: Wait>(rt: &R, posting: &Posting<'_, '_, S, L, C>) {
     if posting.has_handed {
         posting.relays.ring_all(rt);
     }
