@@ -67,7 +67,8 @@ pub fn compare<S: Side, R: Wait>(rt: &R, side: &S, world: &mut World) {
         && counts.holds == model.held()
         && counts.waits == model.waiting()
         && counts.clients == model.lasts.len()
-        && counts.next == model.next;
+        && counts.next == model.next
+        && counts.deeds == model.deeds;
     if !is_so {
         world.blame("the server counts otherwise");
     }

@@ -1,6 +1,6 @@
 //! Lives of a server: it is opened on its disks, works, and stops.
 
-ghost use Rattle.std.specs.Prelude.{◌≡◌, false, IfOk, IfSome};
+ghost use Rattle.std.specs.Prelude.{◌≡◌, false, IfSome};
 ghost use Rattle.linda_shared_accounts.specs.declared.limits.TheConstants.{PARTS};
 
 use crate::check::is_kept;
@@ -8,6 +8,7 @@ use crate::course::Course;
 use crate::events::happen;
 use crate::machine::Machine;
 use crate::rig::Rig;
+use crate::side::Side;
 use crate::world::World;
 use linda_disk::{MemDisk, Torn};
 use linda_server::Durable;
@@ -28,34 +29,33 @@ const MOST_TRIES: u32 = 8;
 pub fn play<R: Wait>(rt: &R, alloc: Global, course: &Course) -> Result<World, AllocError> {
     let mut world = World::new(alloc, course.seed, clients_of(course.seed))?;
     let machine = Machine::new(rt);
-    let mut server = match Durable::create(alloc, MemDisk::new(alloc), MemDisk::new(alloc), LIMIT) {
-        Ok(server) => server,
-        Err(_) => return Err(AllocError),
-    };
+    let mut disks = None;
     for _ in 0..course.len() {
-        let disks = live::<Brand, R>(
+        let Some(server) = begin(alloc, disks, &mut world) else {
+            break;
+        };
+        disks = live::<Brand, R>(
             &machine,
             alloc,
             Blank::new(PARTS),
             server,
             &mut world,
             course,
-        )?;
+        );
         if world.fault.is_some() {
-            return Ok(world);
+            break;
         }
-        server = match stop(alloc, disks, &mut world)? {
-            Some(opened) => opened,
-            None => return Ok(world),
-        };
+        world.end_life();
         if world.tally.events >= course.len() {
+            // What the last life left is looked at, too.
+            let _ = begin(alloc, disks, &mut world);
             break;
         }
     }
     Ok(world)
 }
 
-// How many clients a run has: 1 to 64.
+// How many clients a run has.
 fn clients_of(seed: u64) -> u32 {
     match seed % 4 {
         0 => 64,
@@ -63,6 +63,60 @@ fn clients_of(seed: u64) -> u32 {
         2 => 24,
         _ => 3,
     }
+}
+
+// The server begins: on new disks, or on what a stop left of its disks. None if it does not, or is
+// not as it has to be.
+fn begin(
+    alloc: Global,
+    disks: Option<(MemDisk, MemDisk)>,
+    world: &mut World,
+) -> Option<Durable<MemDisk>>
+    ensures { IfSome result (λ s. s.down ≡ false) }
+{
+    match disks {
+        Some((left, right)) => open(alloc, left, right, world),
+        None => create(alloc, world),
+    }
+}
+
+// A server that was never used.
+fn create(alloc: Global, world: &mut World) -> Option<Durable<MemDisk>>
+    ensures { IfSome result (λ s. s.down ≡ false) }
+{
+    match Durable::create(alloc, MemDisk::new(alloc), MemDisk::new(alloc), LIMIT) {
+        Ok(server) => Some(server),
+        Err(_) => {
+            world.blame("the run has no memory");
+            None
+        }
+    }
+}
+
+// The server is opened on what a stop leaves of its disks, while it may stop again.
+fn open(alloc: Global, left: MemDisk, right: MemDisk, world: &mut World) -> Option<Durable<MemDisk>>
+    ensures { IfSome result (λ s. s.down ≡ false) }
+{
+    let mut left = left;
+    let mut right = right;
+    for _ in 0..MOST_TRIES {
+        crash(&mut left, world);
+        crash(&mut right, world);
+        trouble(&mut left, world);
+        trouble(&mut right, world);
+        match Durable::open(alloc, left, right, LIMIT) {
+            Ok(server) => {
+                find(&server, world);
+                return Some(server);
+            }
+            Err((_, one, other)) => {
+                left = one;
+                right = other;
+            }
+        }
+    }
+    world.blame("a server could not be opened");
+    None
 }
 
 // A life of the server, until it stops. Returns its disks.
@@ -73,54 +127,39 @@ fn live<L: Ledger, R: Wait>(
     server: Durable<MemDisk>,
     world: &mut World,
     course: &Course,
-) -> Result<(MemDisk, MemDisk), AllocError>
+) -> Option<(MemDisk, MemDisk)>
     requires up { server.down ≡ false }
     requires blank { (blank.name ≡ L.name) × (blank.parts ≡ L.parts) × (L.parts ≡ PARTS) }
 {
-    let shared: Shared<MemDisk, L> = Shared::new(alloc, server, blank)?;
-    let mut rig = Rig::new(alloc, shared)?;
-    for at in world.tally.events..course.len() {
-        world.dice = course.dice(at);
-        if world.fault.is_some() || !happen(rt, &mut rig, world)? {
-            break;
-        }
+    match Shared::<MemDisk, L>::new(alloc, server, blank) {
+        Ok(shared) => match Rig::new(alloc, shared) {
+            Ok(rig) => {
+                let mut rig = rig;
+                work(rt, &mut rig, world, course);
+                Some(rig.into_disks())
+            }
+            Err(_) => None,
+        },
+        Err(_) => None,
     }
-    Ok(rig.into_disks())
 }
 
-// The server stops, and is opened again on what is left of its disks. None if it is not, or not as
-// it has to be.
-fn stop(
-    alloc: Global,
-    disks: (MemDisk, MemDisk),
-    world: &mut World,
-) -> Result<Option<Durable<MemDisk>>, AllocError>
-    ensures { IfOk result (λ o. IfSome o (λ s. s.down ≡ false)) }
-{
-    world.end_life();
-    let (mut left, mut right) = disks;
-    for _ in 0..MOST_TRIES {
-        crash(&mut left, world);
-        crash(&mut right, world);
-        trouble(&mut left, world);
-        trouble(&mut right, world);
-        match Durable::open(alloc, left, right, LIMIT) {
-            Ok(server) => {
-                let is_found = find(&server, world);
-                if !is_found {
-                    world.blame("a server was opened that keeps other than was answered");
-                    return Ok(None);
+// What happens until the server stops.
+fn work<S: Side, R: Wait>(rt: &Machine<'_, R>, side: &mut S, world: &mut World, course: &Course) {
+    for at in world.tally.events..course.len() {
+        world.dice = course.dice(at);
+        match happen(rt, side, world) {
+            Ok(goes_on) => {
+                if !goes_on || world.fault.is_some() {
+                    return;
                 }
-                return Ok(Some(server));
             }
-            Err((_, one, other)) => {
-                left = one;
-                right = other;
+            Err(_) => {
+                world.blame("the run has no memory");
+                return;
             }
         }
     }
-    world.blame("a server could not be opened");
-    Ok(None)
 }
 
 // What a crash leaves of a disk.
@@ -148,18 +187,14 @@ fn trouble(disk: &mut MemDisk, world: &mut World) {
     }
 }
 
-// Whether the server keeps what was answered, and so many of the unanswered messages.
-fn find(server: &Durable<MemDisk>, world: &mut World) -> bool {
+// Looks whether the server keeps what was answered, and some first of the unanswered messages.
+fn find(server: &Durable<MemDisk>, world: &mut World) {
     for at in 0..=world.unanswered.len() {
         if is_kept(server.state(), &world.model) {
-            let count = world.unanswered.len() as u64;
-            world.tally.unanswered = world.tally.unanswered.saturating_add(count);
-            world.tally.done = world.tally.done.saturating_add(at as u64);
-            world.unanswered.clear();
-            world.model.reopen();
-            return true;
+            world.settle(at);
+            return;
         }
         world.do_unanswered(at);
     }
-    false
+    world.blame("a server was opened that keeps other than was answered");
 }

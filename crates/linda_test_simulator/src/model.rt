@@ -42,6 +42,8 @@ pub type Sends = Vec<(u32, Told)>;
 #[derive(Drop)]
 pub struct Model {
     pub next: u64,
+    /// How many deeds were done since the server was opened.
+    pub deeds: u64,
     /// By rising ids.
     pub items: Vec<Item>,
     pub lasts: Vec<Last>,
@@ -53,6 +55,7 @@ impl Model {
     pub fn new(alloc: Global) -> Model {
         Model {
             next: 1,
+            deeds: 0,
             items: Vec::new(alloc),
             lasts: Vec::new(alloc),
             waits: Vec::new(alloc),
@@ -61,6 +64,7 @@ impl Model {
 
     /// Nothing waits and nothing is held any more: the server was opened anew.
     pub fn reopen(&mut self) {
+        self.deeds = 0;
         self.waits.clear();
         for item in self.items.iter_mut() {
             item.held = None;
@@ -214,6 +218,7 @@ impl Model {
 
     // The number of the client's last message is this, with this reply.
     fn keep(&mut self, client: u32, n: u64, reply: Told) -> Result<(), AllocError> {
+        self.deeds = self.deeds.saturating_add(1);
         for last in self.lasts.iter_mut() {
             if last.client == client {
                 last.n = n;

@@ -121,6 +121,15 @@ impl World {
         }
     }
 
+    /// The server was opened, and of the messages that were not answered so many were done.
+    pub fn settle(&mut self, done: usize) {
+        let count = self.unanswered.len() as u64;
+        self.tally.unanswered = self.tally.unanswered.saturating_add(count);
+        self.tally.done = self.tally.done.saturating_add(done as u64);
+        self.unanswered.clear();
+        self.model.reopen();
+    }
+
     /// What the server did not answer, after a stop: the model does the next of it.
     pub fn do_unanswered(&mut self, at: usize) {
         if let Some((client, said)) = self.unanswered.get(at).copied() {
