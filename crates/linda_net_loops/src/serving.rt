@@ -67,8 +67,8 @@ impl<S: Socket, L: Ledger> Serving<S, L> {
             .end_late(rt, shared, &relays.marks, look, seconds);
     }
 
-    /// Takes what is ready and serves it, and writes what that led to. Says whether the server is
-    /// up; if it is not, all connections end.
+    /// Takes what other loops handed to it, and what is ready, serves that, and writes what it led
+    /// to. Says whether the server is up; if it is not, all connections end.
     pub fn turn<D: Disk, R: Wait + Clock>(
         &mut self,
         rt: &R,
@@ -77,6 +77,7 @@ impl<S: Socket, L: Ledger> Serving<S, L> {
     ) -> bool {
         let Serving { sessions, batch } = self;
         batch.share.begin_turn();
+        sessions.take_sent(rt, relays);
         let mut is_up = serve_asks(rt, shared, relays, sessions, batch);
         is_up = serve_deeds(rt, shared, relays, sessions, batch) && is_up;
         is_up = !shared.is_down(rt) && is_up;

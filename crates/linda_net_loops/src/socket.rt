@@ -16,7 +16,7 @@ pub enum Note<'m> {
     Busy,
     /// The answer to this message was heard: whether it is one.
     Heard(&'m Message, bool),
-    /// Nothing more is told to its client, after this word, if there is one.
+    /// Its client gets nothing more, after this word, if there is one.
     Ended(Option<Refusal>),
     /// It can be neither read nor written.
     Failed,

@@ -18,7 +18,7 @@ pub struct Conn {
     /// Its client has given it up, and reads what comes or not.
     pub is_lost: bool,
     pub is_read: bool,
-    /// It was told its last word.
+    /// It was given its last word.
     pub is_closed: bool,
     /// It broke at the server.
     pub is_failed: bool,

@@ -24,7 +24,7 @@ pub enum Noted {
     Busy,
     /// An answer to a message was heard, or that there is none.
     Heard(Option<Said>, bool),
-    /// Nothing more is told, after this code and detail.
+    /// Its client gets nothing more, after this code and detail.
     Ended(Option<(u8, u64)>),
     /// It broke.
     Failed,

@@ -1,4 +1,4 @@
-//! What is printed of a run.
+//! Printing of runs.
 
 use crate::course::Course;
 use crate::tally::Tally;
