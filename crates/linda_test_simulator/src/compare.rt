@@ -1,6 +1,6 @@
 //! Comparison of a server with the model: what it has written, and what it counts.
 
-use crate::side::Side;
+use crate::side::{Loop, Side};
 use crate::world::World;
 use std::sync::Wait;
 
@@ -52,9 +52,10 @@ impl World {
     }
 }
 
-/// Compares what connections are sent, and what the server counts.
-pub fn compare<S: Side, R: Wait>(rt: &R, side: &S, world: &mut World) {
-    if has_other_bytes(side, world) {
+/// Compares what connections are sent, and what the server counts. What was handed to a loop is
+/// written in its next turn: so as much as is due is there after a turn of the connection's loop.
+pub fn compare<S: Side, R: Wait>(rt: &R, side: &S, world: &mut World, turned: Option<Loop>) {
+    if has_other_bytes(side, world, turned) {
         world.blame("more or fewer bytes are to be written than are due");
     }
     let counts = side.count(rt);
@@ -74,13 +75,15 @@ pub fn compare<S: Side, R: Wait>(rt: &R, side: &S, world: &mut World) {
     }
 }
 
-// Whether other than as many bytes are to come over some connection as are due.
-fn has_other_bytes<S: Side>(side: &S, world: &World) -> bool {
+// Whether more bytes are to come over some connection than are due, or fewer over one of the loop
+// that made a turn.
+fn has_other_bytes<S: Side>(side: &S, world: &World, turned: Option<Loop>) -> bool {
     let mut at: usize = 0;
     for conn in world.conns.iter() {
         if conn.is_used && !conn.is_failed {
-            let unsent = side.unsent(conn.key).saturating_add(world.written(at));
-            if unsent != conn.due.len() {
+            let unsent = side.unsent(conn.place).saturating_add(world.written(at));
+            let is_exact = turned == Some(conn.place.which);
+            if unsent > conn.due.len() || is_exact && unsent != conn.due.len() {
                 return true;
             }
         }

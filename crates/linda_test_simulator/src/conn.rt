@@ -1,6 +1,7 @@
 //! Connection of a run: what its client sent and what is due to it.
 
 use crate::net::drop_front;
+use crate::side::{Loop, Place};
 use crate::words::{Bad, Said, Told, len_of_told, push_said, push_told};
 use std::alloc::{AllocError, Global};
 use std::collections::VecDeque;
@@ -9,8 +10,8 @@ use std::collections::VecDeque;
 #[derive(Drop)]
 pub struct Conn {
     pub is_used: bool,
-    /// Its key at the server.
-    pub key: usize,
+    /// Where it is at the server.
+    pub place: Place,
     /// Which of the clients it is of.
     pub owner: usize,
     /// The client's number, once it was greeted.
@@ -40,7 +41,10 @@ impl Conn {
     pub fn new(alloc: Global) -> Conn {
         Conn {
             is_used: false,
-            key: 0,
+            place: Place {
+                which: Loop::First,
+                key: 0,
+            },
             owner: 0,
             greeted: None,
             is_lost: false,
@@ -72,11 +76,11 @@ impl Conn {
     }
 
     /// A client of this place begins it.
-    pub fn begin(&mut self, owner: usize, key: usize, now: u64) {
+    pub fn begin(&mut self, owner: usize, place: Place, now: u64) {
         self.clear();
         self.is_used = true;
         self.owner = owner;
-        self.key = key;
+        self.place = place;
         self.spoke = now;
     }
 

@@ -4,7 +4,7 @@ use crate::compare::compare;
 use crate::machine::Machine;
 use crate::net::Pipe;
 use crate::rest::rest;
-use crate::side::Side;
+use crate::side::{Loop, Side};
 use crate::wires::{deliver, fetch};
 use crate::world::World;
 use linda_net_relays::Look;
@@ -36,7 +36,8 @@ pub fn happen<S: Side, R: Wait>(
         let at = some_place(world);
         fetch(side, world, at)?;
     } else if choice < 58 {
-        turn(rt, side, world);
+        let which = some_loop(world);
+        turn(rt, side, world, which);
     } else {
         return seldom(rt, side, world, choice);
     }
@@ -94,6 +95,15 @@ fn some_place(world: &mut World) -> usize {
     }
 }
 
+// One of the loops; in some runs only the first has connections.
+fn some_loop(world: &mut World) -> Loop {
+    if world.has_two_loops && world.dice.one_in(2) {
+        Loop::Second
+    } else {
+        Loop::First
+    }
+}
+
 // Some client says something, or connects.
 fn speak<S: Side, R: Wait>(
     rt: &Machine<'_, R>,
@@ -121,6 +131,7 @@ fn speak<S: Side, R: Wait>(
 fn connect<S: Side>(side: &mut S, world: &mut World, index: usize, now: u64) {
     let count = u32::try_from(world.clients.len()).unwrap_or(1);
     let room = world.dice.below(300).saturating_add(1) as usize;
+    let which = some_loop(world);
     let Some(at) = world.free_place() else {
         return;
     };
@@ -140,22 +151,28 @@ fn connect<S: Side>(side: &mut S, world: &mut World, index: usize, now: u64) {
     let Ok(net) = Rc::clone(&world.net) else {
         return;
     };
-    if let Some(key) = side.let_in(Pipe::new(net, at)) {
+    if let Some(place) = side.let_in(which, Pipe::new(net, at)) {
         client.conn = Some(at);
         if let Some(conn) = world.conns.get_mut(at) {
-            conn.begin(index, key, now);
+            conn.begin(index, place, now);
         }
     }
 }
 
-/// The server takes what came, and it is compared what it does.
-pub fn turn<S: Side, R: Wait>(rt: &Machine<'_, R>, side: &mut S, world: &mut World) {
+/// A loop takes what came, and it is compared what it does.
+pub fn turn<S: Side, R: Wait>(rt: &Machine<'_, R>, side: &mut S, world: &mut World, which: Loop) {
     if side.count(rt).is_down {
         world.is_down = true;
     }
-    side.turn(rt);
+    side.turn(rt, which);
     world.hear_notes(rt.now());
-    compare(rt, side, world);
+    compare(rt, side, world, Some(which));
+}
+
+/// Each loop makes a turn.
+pub fn turn_both<S: Side, R: Wait>(rt: &Machine<'_, R>, side: &mut S, world: &mut World) {
+    turn(rt, side, world, Loop::First);
+    turn(rt, side, world, Loop::Second);
 }
 
 // A connection is lost, with a piece of what was sent over it.
@@ -183,7 +200,7 @@ fn disturb<S: Side>(side: &mut S, world: &mut World) {
             wire.is_cut = choice == 2;
         }
     }
-    side.wake(conn.key, true, choice == 2);
+    side.wake(conn.place, true, choice == 2);
 }
 
 // A snapshot begins, goes on or is taken whole, and what nobody needs is forgotten.
@@ -203,17 +220,19 @@ fn keep<S: Side, R: Wait>(rt: &Machine<'_, R>, side: &mut S, world: &mut World) 
             side.step(rt, most);
         }
     }
-    compare(rt, side, world);
+    compare(rt, side, world, None);
 }
 
 // A second goes by: clients that hold a tuple and say nothing may be late.
 fn beat<S: Side, R: Wait>(rt: &Machine<'_, R>, side: &mut S, world: &mut World) {
-    turn(rt, side, world);
+    turn_both(rt, side, world);
     rt.pass(SECOND);
     let now = rt.now();
     let seconds = world.lease.unwrap_or(u32::MAX);
-    side.look(rt, Look { began: now, now }, seconds);
-    turn(rt, side, world);
+    let look = Look { began: now, now };
+    side.look(rt, Loop::First, look, seconds);
+    side.look(rt, Loop::Second, look, seconds);
+    turn_both(rt, side, world);
     world.count_looks();
 }
 

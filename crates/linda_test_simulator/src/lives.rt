@@ -7,7 +7,7 @@ use crate::check::is_kept;
 use crate::course::Course;
 use crate::events::happen;
 use crate::machine::Machine;
-use crate::rig::Rig;
+use crate::rig::{Rig, relays_of};
 use crate::side::Side;
 use crate::world::World;
 use linda_disk::{MemDisk, Torn};
@@ -16,6 +16,7 @@ use linda_shared::Shared;
 use linda_shared_accounts::PARTS;
 use std::alloc::{AllocError, Global};
 use std::marker::Brand;
+use std::net::Net;
 use std::sync::Wait;
 use std::sync::ledger::{Blank, Ledger};
 
@@ -26,7 +27,7 @@ const LIMIT: usize = 4_194_304;
 const MOST_TRIES: u32 = 8;
 
 /// Plays a run.
-pub fn play<R: Wait>(rt: &R, alloc: Global, course: &Course) -> Result<World, AllocError> {
+pub fn play<R: Wait + Net>(rt: &R, alloc: Global, course: &Course) -> Result<World, AllocError> {
     let mut world = World::new(alloc, course.seed, clients_of(course.seed))?;
     let machine = Machine::new(rt);
     let mut disks = None;
@@ -120,7 +121,7 @@ fn open(alloc: Global, left: MemDisk, right: MemDisk, world: &mut World) -> Opti
 }
 
 // A life of the server, until it stops. Returns its disks.
-fn live<L: Ledger, R: Wait>(
+fn live<L: Ledger, R: Wait + Net>(
     rt: &Machine<'_, R>,
     alloc: Global,
     blank: Blank,
@@ -131,8 +132,11 @@ fn live<L: Ledger, R: Wait>(
     requires up { server.down ≡ false }
     requires blank { (blank.name ≡ L.name) × (blank.parts ≡ L.parts) × (L.parts ≡ PARTS) }
 {
+    let Ok(relays) = relays_of(rt.runtime(), alloc) else {
+        return None;
+    };
     match Shared::<MemDisk, L>::new(alloc, server, blank) {
-        Ok(shared) => match Rig::new(alloc, shared) {
+        Ok(shared) => match Rig::new(alloc, shared, relays) {
             Ok(rig) => {
                 let mut rig = rig;
                 work(rt, &mut rig, world, course);

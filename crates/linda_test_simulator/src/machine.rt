@@ -42,6 +42,11 @@ impl<'r, R: Wait> Machine<'r, R> {
         self.nanos.set(self.nanos.get().saturating_add(nanos));
     }
 
+    /// What it waits with.
+    pub fn runtime(&self) -> &'r R {
+        self.rt
+    }
+
     /// The time.
     pub fn now(&self) -> u64 {
         self.nanos.get()

@@ -36,6 +36,7 @@ use crate::world::World;
 use std::alloc::Global;
 use std::io;
 use std::io::{ErrorKind, Input};
+use std::net::Net;
 use std::process::ExitCode;
 use std::sync::Wait;
 
@@ -43,7 +44,7 @@ use std::sync::Wait;
 const DIFFERS: u8 = 1;
 
 // Plays a run, and says whether it is as it has to be.
-fn play_course<R: Print + Wait>(
+fn play_course<R: Print + Wait + Net>(
     rt: &R,
     alloc: Global,
     how: How,
@@ -75,7 +76,7 @@ fn play_course<R: Print + Wait>(
 }
 
 // Prints a run of few events that differs.
-fn print_shrunk<R: Print + Wait>(rt: &R, alloc: Global, course: &Course) -> io::Result<()> {
+fn print_shrunk<R: Print + Wait + Net>(rt: &R, alloc: Global, course: &Course) -> io::Result<()> {
     match shrink(rt, alloc, course) {
         Ok(Some(few)) => print_course(rt, &few),
         Ok(None) => Ok(()),
@@ -84,7 +85,7 @@ fn print_shrunk<R: Print + Wait>(rt: &R, alloc: Global, course: &Course) -> io::
 }
 
 // Whether the run is the same if it is played again.
-fn is_same<R: Wait>(rt: &R, alloc: Global, course: &Course, world: &World) -> bool {
+fn is_same<R: Wait + Net>(rt: &R, alloc: Global, course: &Course, world: &World) -> bool {
     match play(rt, alloc, course) {
         Ok(again) => again.tally == world.tally && again.fault.is_some() == world.fault.is_some(),
         Err(_) => false,
@@ -92,7 +93,7 @@ fn is_same<R: Wait>(rt: &R, alloc: Global, course: &Course, world: &World) -> bo
 }
 
 // Plays the run of a line.
-fn play_line<R: Print + Wait>(
+fn play_line<R: Print + Wait + Net>(
     rt: &R,
     alloc: Global,
     line: &str,
@@ -109,7 +110,7 @@ fn play_line<R: Print + Wait>(
 }
 
 // Plays all lines. A line `all happened` has to come after runs in which all happened that may.
-fn play_all<R: Input + Print + AllocGlobal + Wait>(rt: &R) -> io::Result<bool> {
+fn play_all<R: Input + Print + AllocGlobal + Wait + Net>(rt: &R) -> io::Result<bool> {
     let lines = io::read_to_string(rt.alloc(), rt.reader())?;
     let mut all = Tally::new();
     let mut is_so = true;

@@ -1,7 +1,7 @@
 //! Rest of a run: all that was sent comes, and all that was written is taken. Then nothing may be
 //! left: a message that came is taken, and its reply is written.
 
-use crate::events::turn;
+use crate::events::turn_both;
 use crate::machine::Machine;
 use crate::side::Side;
 use crate::wires::{deliver_some, fetch_some};
@@ -25,7 +25,7 @@ pub fn rest<S: Side, R: Wait>(
         for at in 0..world.conns.len() {
             deliver_some(side, world, at, usize::MAX);
         }
-        turn(rt, side, world);
+        turn_both(rt, side, world);
         for at in 0..world.conns.len() {
             fetch_some(side, world, at, usize::MAX)?;
         }

@@ -1,32 +1,38 @@
-//! Rig: a server on two disks in memory, with the connections of one loop.
+//! Rig: a server on two disks in memory, with the connections of two loops.
 
 use crate::net::Pipe;
-use crate::side::{Counts, Side};
+use crate::side::{Counts, Loop, Place, Side};
 use linda_disk::MemDisk;
 use linda_net_loops::Serving;
-use linda_net_relays::{Look, Relays};
+use linda_net_relays::{Look, Relay, Relays};
 use linda_shared::Shared;
-use std::alloc::{AllocError, Global};
+use mio::{Poll, Token, Waker};
+use std::alloc::Global;
+use std::io;
+use std::net::Net;
 use std::sync::Wait;
 use std::sync::ledger::Ledger;
 use std::time::Clock;
 
-/// A server and its connections.
+/// A server and its connections. Its loops take turns, so nobody waits for their bells.
 #[derive(Drop)]
 pub struct Rig<L: Ledger> {
     shared: Shared<MemDisk, L>,
     relays: Relays,
-    serving: Serving<Pipe, L>,
+    first: Serving<Pipe, L>,
+    second: Serving<Pipe, L>,
 }
 
 impl<L: Ledger> Rig<L> {
     /// A server without connections.
-    pub fn new(alloc: Global, shared: Shared<MemDisk, L>) -> Result<Rig<L>, AllocError> {
-        let serving = Serving::new(alloc, 0)?;
+    pub fn new(alloc: Global, shared: Shared<MemDisk, L>, relays: Relays) -> io::Result<Rig<L>> {
+        let first = Serving::new(alloc, 0)?;
+        let second = Serving::new(alloc, 1)?;
         Ok(Rig {
             shared,
-            relays: Relays::new(alloc, Vec::new(alloc)),
-            serving,
+            relays,
+            first,
+            second,
         })
     }
 
@@ -37,26 +43,53 @@ impl<L: Ledger> Rig<L> {
     }
 }
 
+/// What two loops hand to each other.
+pub fn relays_of<R: Net>(rt: &R, alloc: Global) -> io::Result<Relays> {
+    let mut relays = Vec::new(alloc);
+    for _ in 0..2 {
+        let poll = Poll::new(rt)?;
+        let bell = Waker::new(poll.registry(), Token(0))?;
+        relays.push(Relay::new(alloc, bell))?;
+    }
+    Ok(Relays::new(alloc, relays))
+}
+
 impl<L: Ledger> Side for Rig<L> {
-    fn let_in(&mut self, pipe: Pipe) -> Option<usize> {
-        self.serving.let_in(pipe)
+    fn let_in(&mut self, which: Loop, pipe: Pipe) -> Option<Place> {
+        let key = match which {
+            Loop::First => self.first.let_in(pipe)?,
+            Loop::Second => self.second.let_in(pipe)?,
+        };
+        Some(Place { which, key })
     }
 
-    fn wake(&mut self, key: usize, is_shut: bool, is_writable: bool) {
-        self.serving.wake(key, is_shut, is_writable);
+    fn wake(&mut self, place: Place, is_shut: bool, is_writable: bool) {
+        match place.which {
+            Loop::First => self.first.wake(place.key, is_shut, is_writable),
+            Loop::Second => self.second.wake(place.key, is_shut, is_writable),
+        }
     }
 
-    fn unsent(&self, key: usize) -> usize {
-        self.serving.unsent(key)
+    fn unsent(&self, place: Place) -> usize {
+        match place.which {
+            Loop::First => self.first.unsent(place.key),
+            Loop::Second => self.second.unsent(place.key),
+        }
     }
 
-    fn turn<R: Wait + Clock>(&mut self, rt: &R) {
-        let _ = self.serving.turn(rt, &self.shared, &self.relays);
+    fn turn<R: Wait + Clock>(&mut self, rt: &R, which: Loop) {
+        let _ = match which {
+            Loop::First => self.first.turn(rt, &self.shared, &self.relays),
+            Loop::Second => self.second.turn(rt, &self.shared, &self.relays),
+        };
     }
 
-    fn look<R: Wait>(&mut self, rt: &R, look: Look, seconds: u32) {
-        self.serving
-            .look(rt, &self.shared, &self.relays, look, seconds);
+    fn look<R: Wait>(&mut self, rt: &R, which: Loop, look: Look, seconds: u32) {
+        let serving = match which {
+            Loop::First => &mut self.first,
+            Loop::Second => &mut self.second,
+        };
+        serving.look(rt, &self.shared, &self.relays, look, seconds);
     }
 
     fn begin_steps<R: Wait>(&mut self, rt: &R) {

@@ -3,13 +3,14 @@
 use crate::course::Course;
 use crate::lives::play;
 use std::alloc::{AllocError, Global};
+use std::net::Net;
 use std::sync::Wait;
 
 /// How often a run is played at most.
 const MOST_PLAYS: u32 = 20_000;
 
 /// A run that differs with few events, if the whole one differs.
-pub fn shrink<R: Wait>(
+pub fn shrink<R: Wait + Net>(
     rt: &R,
     alloc: Global,
     course: &Course,
@@ -38,7 +39,11 @@ pub fn shrink<R: Wait>(
 }
 
 // After how many events the run differs, if it does.
-fn difference<R: Wait>(rt: &R, alloc: Global, course: &Course) -> Result<Option<u64>, AllocError> {
+fn difference<R: Wait + Net>(
+    rt: &R,
+    alloc: Global,
+    course: &Course,
+) -> Result<Option<u64>, AllocError> {
     let world = play(rt, alloc, course)?;
     if world.fault.is_some() {
         Ok(Some(world.tally.events))

@@ -6,22 +6,36 @@ use linda_net_relays::Look;
 use std::sync::Wait;
 use std::time::Clock;
 
+/// One of the two loops of a server.
+#[derive(Clone, Copy, PartialEq, Eq)]
+pub enum Loop {
+    First,
+    Second,
+}
+
+/// Where a connection is at its server.
+#[derive(Clone, Copy, PartialEq, Eq)]
+pub struct Place {
+    pub which: Loop,
+    pub key: usize,
+}
+
 /// A server with its connections.
 pub trait Side {
-    /// A connection comes. Returns its key, if there is memory.
-    fn let_in(&mut self, pipe: Pipe) -> Option<usize>;
+    /// A connection comes to a loop. Returns its place, if there is memory.
+    fn let_in(&mut self, which: Loop, pipe: Pipe) -> Option<Place>;
 
-    /// The connection of this key may be read, to its end if it is shut, or written.
-    fn wake(&mut self, key: usize, is_shut: bool, is_writable: bool);
+    /// The connection of this place may be read, to its end if it is shut, or written.
+    fn wake(&mut self, place: Place, is_shut: bool, is_writable: bool);
 
-    /// How many bytes the server has still to write to the connection of this key.
-    fn unsent(&self, key: usize) -> usize;
+    /// How many bytes the server has still to write to the connection of this place.
+    fn unsent(&self, place: Place) -> usize;
 
-    /// Takes what is ready, serves it, and writes what that led to.
-    fn turn<R: Wait + Clock>(&mut self, rt: &R);
+    /// A loop takes what is ready, serves it, and writes what that led to.
+    fn turn<R: Wait + Clock>(&mut self, rt: &R, which: Loop);
 
-    /// A second has gone by: clients that are late are ended.
-    fn look<R: Wait>(&mut self, rt: &R, look: Look, seconds: u32);
+    /// A second has gone by: clients of a loop that are late are ended.
+    fn look<R: Wait>(&mut self, rt: &R, which: Loop, look: Look, seconds: u32);
 
     /// Begins a snapshot in steps, takes a step of so many bytes, or takes one whole.
     fn begin_steps<R: Wait>(&mut self, rt: &R);

@@ -30,7 +30,7 @@ pub fn deliver_some<S: Side>(side: &mut S, world: &mut World, at: usize, len: us
         return;
     }
     bring(&world.net, conn, at, len);
-    side.wake(conn.key, false, false);
+    side.wake(conn.place, false, false);
 }
 
 // So many bytes of what a client sent are at the server.
@@ -69,7 +69,7 @@ pub fn fetch_some<S: Side>(
     }
     let taken = take(&world.net, conn, &mut world.tally, at, len);
     if taken.makes_room {
-        side.wake(conn.key, false, true);
+        side.wake(conn.place, false, true);
     }
     if !taken.is_due {
         world.blame("other bytes were written than were due");

@@ -22,6 +22,8 @@ pub struct World {
     pub tally: Tally,
     /// For how many seconds a client may hold a tuple and say nothing, if that is limited.
     pub lease: Option<u32>,
+    /// Connections come to both loops.
+    pub has_two_loops: bool,
     /// Messages that the server did not answer since it went down, each with its client.
     pub unanswered: Vec<(u32, Said)>,
     /// The server is down.
@@ -48,6 +50,7 @@ impl World {
             clients.push(client)?;
         }
         let lease = if dice.one_in(2) { Some(3) } else { None };
+        let has_two_loops = !dice.one_in(4);
         let net = Rc::new(alloc, RefCell::new(Net::new(alloc)?))?;
         Ok(World {
             dice,
@@ -57,6 +60,7 @@ impl World {
             clients,
             tally: Tally::new(),
             lease,
+            has_two_loops,
             unanswered: Vec::new(alloc),
             is_down: false,
             fault: None,
