@@ -182,7 +182,8 @@ fn crash(disk: &mut MemDisk, world: &mut World) {
 // What goes wrong with a disk in the next life.
 fn trouble(disk: &mut MemDisk, world: &mut World) {
     if world.dice.one_in(2) {
-        let calls = world.dice.below(400);
+        let most = if world.dice.one_in(2) { 40 } else { 400 };
+        let calls = world.dice.below(most);
         disk.fuse(u64::from(calls));
     }
     if world.dice.one_in(8) {
