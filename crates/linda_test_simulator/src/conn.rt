@@ -23,7 +23,8 @@ pub struct Conn {
     pub is_closed: bool,
     /// It broke at the server.
     pub is_failed: bool,
-    /// When a message of it was taken last, and at how many looks it held a tuple since then.
+    /// When a message of it was taken last, and at how many looks it held a tuple since then, or, if
+    /// it is lost, nothing was taken of what was written to it.
     pub spoke: u64,
     pub looks: u32,
     /// Bytes that the client sent and that did not come yet.

@@ -24,17 +24,28 @@ pub fn print_tally<R: Print>(rt: &R, it: &Tally) -> io::Result<()> {
 /// Prints how a run differs.
 pub fn print_difference<R: Print>(rt: &R, world: &World, fault: &str) -> io::Result<()> {
     println!(rt; "  DIFFERS after {} events: {}", world.tally.events, fault)?;
+    let mut at: usize = 0;
     for conn in world.conns.iter() {
-        let is_idle = conn.wire.is_empty() && conn.sent.is_empty() && conn.due.is_empty();
-        if conn.is_live() && !is_idle {
+        if conn.is_used {
             println!(rt;
-                "  client {}: {} bytes to come, {} messages to be taken, {} bytes due",
+                "  client {}: {} bytes to come, {} messages to be taken, {} bytes due, {} written",
                 conn.owner,
                 conn.wire.len(),
                 conn.sent.len(),
-                conn.due.len()
+                conn.due.len(),
+                world.written(at)
+            )?;
+            println!(rt;
+                "    lost {}, read {}, closed {}, failed {}, greeted {}, at {} looks",
+                conn.is_lost,
+                conn.is_read,
+                conn.is_closed,
+                conn.is_failed,
+                conn.greeted.is_some(),
+                conn.looks
             )?;
         }
+        at = at.saturating_add(1);
     }
     Ok(())
 }

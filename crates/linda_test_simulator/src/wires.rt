@@ -104,6 +104,10 @@ fn take(net: &Shared, conn: &mut Conn, tally: &mut Tally, at: usize, len: usize)
     tally.add(bytes);
     taken.is_due = conn.take(bytes);
     drop_front(&mut wire.outbox, len);
+    // What is taken, however slowly, is not given up.
+    if conn.is_lost && len > 0 {
+        conn.looks = 0;
+    }
     if wire.is_blocked && len > 0 {
         wire.is_blocked = false;
         taken.makes_room = true;
