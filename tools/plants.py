@@ -85,7 +85,7 @@ PLANTS = [
     edit("an account that leaves does not come back", *INSIDE, "crates/linda_shared_held/src/held/leave.rt",
          "    put_back(accounts, recall, account);\n    answer", "    let _ = (accounts, recall, account);\n    answer"),
     edit("replies go to the session before", *INSIDE, f"{NET}_loops/src/sessions.rt",
-         "let is_kept = self.clients.insert(client, key).is_ok()", "let is_kept = (self.has(client) || self.clients.insert(client, key).is_ok())",
+         "let is_kept = self.clients.insert(client, key).is_ok()", "let is_kept = (self.clients.contains_key(&client) || self.clients.insert(client, key).is_ok())",
          f"{NET}_loops/src/sessions.rt", "            let _ = self.clients.remove(&client);\n            relays", "            relays"),
     edit("the number after the kept one is refused once more is known", *INSIDE, "crates/linda_book/src/class.rt",
          "} else if n == last && last > 0 {", "} else if n == last && last > 1 {"),
