@@ -85,11 +85,14 @@ impl<L: Ledger> Side for Rig<L> {
     }
 
     fn look<R: Wait>(&mut self, rt: &R, which: Loop, look: Look, seconds: u32) {
-        let serving = match which {
-            Loop::First => &mut self.first,
-            Loop::Second => &mut self.second,
-        };
-        serving.look(rt, &self.shared, &self.relays, look, seconds);
+        match which {
+            Loop::First => self
+                .first
+                .look(rt, &self.shared, &self.relays, look, seconds),
+            Loop::Second => self
+                .second
+                .look(rt, &self.shared, &self.relays, look, seconds),
+        }
     }
 
     fn begin_steps<R: Wait>(&mut self, rt: &R) {
