@@ -126,49 +126,58 @@ impl Client {
     // Something that no client should say.
     fn misbehave(&mut self, dice: &mut Dice) -> Said {
         let ticket = u64::from(dice.below(4));
-        let number = self.last.saturating_add(u64::from(dice.below(4)));
-        match dice.below(10) {
-            0 => Said::Out {
-                n: 0,
-                value: value_of(dice),
-            },
-            1 => Said::Out {
-                n: self.last,
-                value: value_of(dice),
-            },
-            2 => Said::Out {
-                n: number.saturating_add(2),
-                value: value_of(dice),
-            },
+        match dice.below(5) {
+            0 => self.misnumber(dice, ticket),
+            1 => self.misnumber(dice, ticket),
+            2 => {
+                let remove = dice.one_in(2);
+                let form = form_of(dice);
+                Said::Ask {
+                    ticket,
+                    remove,
+                    form,
+                }
+            }
+            3 => Said::Cancel { ticket },
+            _ => self.misframe(dice),
+        }
+    }
+
+    // A number that is old, kept or a gap.
+    fn misnumber(&mut self, dice: &mut Dice, ticket: u64) -> Said {
+        let last = self.last;
+        let value = value_of(dice);
+        let gap = u64::from(dice.below(4)).saturating_add(2);
+        match dice.below(6) {
+            0 => Said::Out { n: 0, value },
+            1 => Said::Out { n: last, value },
+            2 => {
+                let n = last.saturating_add(gap);
+                Said::Out { n, value }
+            }
             3 => Said::Accept {
-                n: self.last,
+                n: last,
                 ticket: 0,
                 id: 0,
             },
             4 => Said::Accept {
-                n: self.last.saturating_sub(1),
+                n: last.saturating_sub(1),
                 ticket,
                 id: 1,
             },
-            5 => Said::Ask {
-                ticket,
-                remove: dice.one_in(2),
-                form: form_of(dice),
-            },
-            6 => Said::Cancel { ticket },
-            7 => Said::Hello {
-                version: SPOKEN,
-                client: self.number,
-                fresh: false,
-            },
-            8 => Said::Leave { n: u64::MAX },
-            _ => {
-                if dice.one_in(4) {
-                    Said::Bad(bad_of(dice))
-                } else {
-                    Said::Cancel { ticket: u64::MAX }
-                }
-            }
+            _ => Said::Leave { n: u64::MAX },
+        }
+    }
+
+    // A second Hello, or seldom a frame that spells nothing.
+    fn misframe(&mut self, dice: &mut Dice) -> Said {
+        if dice.one_in(8) {
+            return Said::Bad(bad_of(dice));
+        }
+        Said::Hello {
+            version: SPOKEN,
+            client: self.number,
+            fresh: false,
         }
     }
 

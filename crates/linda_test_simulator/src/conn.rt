@@ -23,9 +23,9 @@ pub struct Conn {
     pub is_closed: bool,
     /// It broke at the server.
     pub is_failed: bool,
-    /// When a message of it was taken last, and at how many looks it held a tuple since then, or, if
-    /// it is lost, nothing was taken of what was written to it.
+    /// When a message of it was taken last.
     pub spoke: u64,
+    /// At how many looks it held a tuple since then, or, if it is lost, nothing was taken of it.
     pub looks: u32,
     /// Bytes that the client sent and that did not come yet.
     pub wire: Vec<u8>,

@@ -3,6 +3,7 @@
 //! of standard output. A run that differs from the model prints how, and the exit status is 1.
 #![tactic(auto)]
 
+mod asks;
 mod check;
 mod client;
 mod compare;
