@@ -30,6 +30,9 @@ SOME = ALL.replace("capacity()", "len()")
 FILES, REFUSED = "tools/tests linda_test_code_libraries disk::file", "tools/refused-growth quick"
 FILE_DISK, DEVICE = "crates/linda_disk/src/file_disk.rt", "tools/device"
 KNOWN = FILE_DISK.replace("file_disk", "known")
+# A run in one process builds its program itself: a minute or two for each plant.
+IN_ONE = "tools/simulate 60 --inside 1"
+INSIDE = ("inside", IN_ONE, "DIFFERS")
 
 
 class Plant(NamedTuple):
@@ -44,7 +47,7 @@ class Plant(NamedTuple):
 
     def is_dear(self) -> bool:
         """Whether something is built for it, which takes a minute or more."""
-        return bool(self.build) or self.command.startswith(("tools/tests", REFUSED))
+        return bool(self.build) or self.command.startswith(("tools/tests", REFUSED, IN_ONE))
 
 
 def edit(name: str, part: str, command: str, says: str, *edits: str, build: str = "") -> Plant:
@@ -69,6 +72,31 @@ WRITE = "ssize_t pwrite64(int file, const void *data, size_t size, off_t at) { %
 TWICE = {"pwrite64": "pwrite", "ftruncate64": "ftruncate", "open64": "open"}
 
 PLANTS = [
+    # ---- one process, by a seed
+    edit("an Ask goes before what its client put", *INSIDE, "crates/linda_net_session/src/route.rt",
+         "if deeds == 0 {\n                    place_ask", "if deeds < MOST_ASKED {\n                    place_ask"),
+    edit("a second Hello is answered before what came before it", *INSIDE, "crates/linda_net_session/src/route.rt", "if asks == 0 && deeds == 0 {", "if asks == 0 {"),
+    edit("a record is told without the sync after its gate", *INSIDE, "crates/linda_journal/src/gate.rt",
+         "    write_synced(disk, gate, &[OPEN])\n", "    disk.write_at(gate, &[OPEN])\n"),
+    edit("what is sent as a client leaves is not posted", *INSIDE, "crates/linda_shared/src/shared/group.rt",
+         "leave(self.alloc, account);\n        locked.post_all(rt, self.alloc, posts);\n", "leave(self.alloc, account);\n        let _ = (rt, posts);\n"),
+    edit("a tuple stays held for a client that is gone", *INSIDE, "crates/linda_store_step/src/soft.rt",
+         "        let held = self.holds.of_client(alloc, client)?;\n", "        let mut held = self.holds.of_client(alloc, client)?;\n        let _ = held.pop();\n"),
+    edit("a snapshot in steps misses what is done meanwhile", *INSIDE, "crates/linda_server/src/next.rt",
+         "match successor.note(alloc, deeds) {", "match successor.note(alloc, &deeds[..0]) {"),
+    edit("a lease runs although its client speaks", *INSIDE, f"{NET}_loops/src/connection.rt",
+         "                self.silence.end();\n                return Next::Message", "                return Next::Message"),
+    edit("a connection that can be written again is not looked at", *INSIDE, f"{NET}_loops/src/sessions.rt",
+         "is_writable && connection.has_unsent()", "is_writable && !connection.has_unsent()"),
+    edit("the end of a connection is not read after its last bytes", *INSIDE, f"{NET}_loops/src/connection.rt",
+         "self.may_read = self.is_shut || len == buffer.len();", "self.may_read = len == buffer.len();"),
+    edit("an account that leaves does not come back", *INSIDE, "crates/linda_shared_held/src/held/leave.rt",
+         "    put_back(accounts, recall, account);\n    answer", "    let _ = (accounts, recall, account);\n    answer"),
+    edit("replies go to the session before", *INSIDE, f"{NET}_loops/src/sessions.rt",
+         "let is_kept = self.clients.insert(client, key).is_ok()", "let is_kept = (self.clients.contains_key(&client) || self.clients.insert(client, key).is_ok())",
+         f"{NET}_loops/src/sessions.rt", "            let _ = self.clients.remove(&client);\n            relays", "            relays"),
+    edit("the number after the kept one is refused once more is known", *INSIDE, "crates/linda_book/src/class.rt",
+         "} else if n == last && last > 0 {", "} else if n == last && last > 1 {"),
     # ---- the disk
     Plant("a sync that failed is tried again, and believed", "simulate", SIMULATE, "seed",
           "int fdatasync(int file) { return NEXT(fdatasync)(file) == 0 ? 0 : NEXT(fdatasync)(file); }"),

@@ -1,0 +1,205 @@
+//! Lives of a server: it is opened on its disks, works, and stops.
+
+ghost use Rattle.std.specs.Prelude.{◌≡◌, false, IfSome};
+ghost use Rattle.linda_shared_accounts.specs.declared.limits.TheConstants.{PARTS};
+
+use crate::check::is_kept;
+use crate::course::Course;
+use crate::events::happen;
+use crate::machine::Machine;
+use crate::rig::{Rig, relays_of};
+use crate::side::Side;
+use crate::world::World;
+use linda_disk::{MemDisk, Torn};
+use linda_server::Durable;
+use linda_shared::Shared;
+use linda_shared_accounts::PARTS;
+use std::alloc::{AllocError, Global};
+use std::marker::Brand;
+use std::net::Net;
+use std::sync::Wait;
+use std::sync::ledger::{Blank, Ledger};
+
+/// The most bytes of a bank.
+const LIMIT: usize = 4_194_304;
+
+/// How often a server is opened again at most that stops while it is opened.
+const MOST_TRIES: u32 = 8;
+
+/// Plays a run.
+pub fn play<R: Wait + Net>(rt: &R, alloc: Global, course: &Course) -> Result<World, AllocError> {
+    let mut world = World::new(alloc, course.seed, clients_of(course.seed))?;
+    let machine = Machine::new(rt);
+    let mut disks = None;
+    for _ in 0..course.len() {
+        let Some(server) = begin(alloc, disks, &mut world) else {
+            break;
+        };
+        disks = live::<Brand, R>(
+            &machine,
+            alloc,
+            Blank::new(PARTS),
+            server,
+            &mut world,
+            course,
+        );
+        if world.fault.is_some() {
+            break;
+        }
+        world.end_life();
+        if world.tally.events >= course.len() {
+            // What the last life left is looked at, too.
+            let _ = begin(alloc, disks, &mut world);
+            break;
+        }
+    }
+    Ok(world)
+}
+
+// How many clients a run has.
+fn clients_of(seed: u64) -> u32 {
+    match seed % 4 {
+        0 => 64,
+        1 => 8,
+        2 => 24,
+        _ => 3,
+    }
+}
+
+// The server begins: on new disks, or on what a stop left of its disks. None if it does not, or is
+// not as it has to be.
+fn begin(
+    alloc: Global,
+    disks: Option<(MemDisk, MemDisk)>,
+    world: &mut World,
+) -> Option<Durable<MemDisk>>
+    ensures { IfSome result (λ s. s.down ≡ false) }
+{
+    match disks {
+        Some((left, right)) => open(alloc, left, right, world),
+        None => create(alloc, world),
+    }
+}
+
+// A server that was never used.
+fn create(alloc: Global, world: &mut World) -> Option<Durable<MemDisk>>
+    ensures { IfSome result (λ s. s.down ≡ false) }
+{
+    match Durable::create(alloc, MemDisk::new(alloc), MemDisk::new(alloc), LIMIT) {
+        Ok(server) => Some(server),
+        Err(_) => {
+            world.blame("the run has no memory");
+            None
+        }
+    }
+}
+
+// The server is opened on what a stop leaves of its disks, while it may stop again.
+fn open(alloc: Global, left: MemDisk, right: MemDisk, world: &mut World) -> Option<Durable<MemDisk>>
+    ensures { IfSome result (λ s. s.down ≡ false) }
+{
+    let mut left = left;
+    let mut right = right;
+    for _ in 0..MOST_TRIES {
+        crash(&mut left, world);
+        crash(&mut right, world);
+        trouble(&mut left, world);
+        trouble(&mut right, world);
+        match Durable::open(alloc, left, right, LIMIT) {
+            Ok(server) => {
+                find(&server, world);
+                return Some(server);
+            }
+            Err((_, one, other)) => {
+                left = one;
+                right = other;
+            }
+        }
+    }
+    world.blame("a server could not be opened");
+    None
+}
+
+// A life of the server, until it stops. Returns its disks.
+fn live<L: Ledger, R: Wait + Net>(
+    rt: &Machine<'_, R>,
+    alloc: Global,
+    blank: Blank,
+    server: Durable<MemDisk>,
+    world: &mut World,
+    course: &Course,
+) -> Option<(MemDisk, MemDisk)>
+    requires up { server.down ≡ false }
+    requires blank { (blank.name ≡ L.name) × (blank.parts ≡ L.parts) × (L.parts ≡ PARTS) }
+{
+    let Ok(relays) = relays_of(rt.runtime(), alloc) else {
+        return None;
+    };
+    match Shared::<MemDisk, L>::new(alloc, server, blank) {
+        Ok(shared) => match Rig::new(alloc, shared, relays) {
+            Ok(rig) => {
+                let mut rig = rig;
+                work(rt, &mut rig, world, course);
+                Some(rig.into_disks())
+            }
+            Err(_) => None,
+        },
+        Err(_) => None,
+    }
+}
+
+// What happens until the server stops.
+fn work<S: Side, R: Wait>(rt: &Machine<'_, R>, side: &mut S, world: &mut World, course: &Course) {
+    for at in world.tally.events..course.len() {
+        world.dice = course.dice(at);
+        match happen(rt, side, world) {
+            Ok(goes_on) => {
+                if !goes_on || world.fault.is_some() {
+                    return;
+                }
+            }
+            Err(_) => {
+                world.blame("the run has no memory");
+                return;
+            }
+        }
+    }
+}
+
+// What a crash leaves of a disk.
+fn crash(disk: &mut MemDisk, world: &mut World) {
+    let torn = match world.dice.below(4) {
+        0 => Torn::Kept,
+        1 => Torn::Lost,
+        2 => Torn::Filled(0),
+        _ => Torn::Filled(u8::try_from(world.dice.below(256)).unwrap_or(1)),
+    };
+    if disk.crash(torn).is_err() {
+        world.blame("the run has no memory");
+    }
+}
+
+// What goes wrong with a disk in the next life.
+fn trouble(disk: &mut MemDisk, world: &mut World) {
+    if world.dice.one_in(2) {
+        let most = if world.dice.one_in(2) { 40 } else { 400 };
+        let calls = world.dice.below(most);
+        disk.fuse(u64::from(calls));
+    }
+    if world.dice.one_in(8) {
+        let calls = world.dice.below(400);
+        disk.fail_once(u64::from(calls));
+    }
+}
+
+// Looks whether the server keeps what was answered, and some first of the unanswered messages.
+fn find(server: &Durable<MemDisk>, world: &mut World) {
+    for at in 0..=world.unanswered.len() {
+        if is_kept(server.state(), &world.model) {
+            world.settle(at);
+            return;
+        }
+        world.do_unanswered(at);
+    }
+    world.blame("a server was opened that keeps other than was answered");
+}

@@ -1,0 +1,130 @@
+//! Rig: a server on two disks in memory, with the connections of two loops.
+
+use crate::net::Pipe;
+use crate::side::{Counts, Loop, Place, Side};
+use linda_disk::MemDisk;
+use linda_net_loops::Serving;
+use linda_net_relays::{Look, Relay, Relays};
+use linda_shared::Shared;
+use mio::{Poll, Token, Waker};
+use std::alloc::Global;
+use std::io;
+use std::net::Net;
+use std::sync::Wait;
+use std::sync::ledger::Ledger;
+use std::time::Clock;
+
+/// A server and its connections. Its loops take turns, so nobody waits for their bells.
+#[derive(Drop)]
+pub struct Rig<L: Ledger> {
+    shared: Shared<MemDisk, L>,
+    relays: Relays,
+    first: Serving<Pipe, L>,
+    second: Serving<Pipe, L>,
+}
+
+impl<L: Ledger> Rig<L> {
+    /// A server without connections.
+    pub fn new(alloc: Global, shared: Shared<MemDisk, L>, relays: Relays) -> io::Result<Rig<L>> {
+        let first = Serving::new(alloc, 0)?;
+        let second = Serving::new(alloc, 1)?;
+        Ok(Rig {
+            shared,
+            relays,
+            first,
+            second,
+        })
+    }
+
+    /// The disks of the server.
+    pub fn into_disks(self) -> (MemDisk, MemDisk) {
+        let Rig { shared, .. } = self;
+        shared.into_server().into_disks()
+    }
+}
+
+/// What two loops hand to each other.
+pub fn relays_of<R: Net>(rt: &R, alloc: Global) -> io::Result<Relays> {
+    let mut relays = Vec::new(alloc);
+    for _ in 0..2 {
+        let poll = Poll::new(rt)?;
+        let bell = Waker::new(poll.registry(), Token(0))?;
+        relays.push(Relay::new(alloc, bell))?;
+    }
+    Ok(Relays::new(alloc, relays))
+}
+
+impl<L: Ledger> Side for Rig<L> {
+    fn let_in(&mut self, which: Loop, pipe: Pipe) -> Option<Place> {
+        let key = match which {
+            Loop::First => self.first.let_in(pipe)?,
+            Loop::Second => self.second.let_in(pipe)?,
+        };
+        Some(Place { which, key })
+    }
+
+    fn wake(&mut self, place: Place, is_shut: bool, is_writable: bool) {
+        match place.which {
+            Loop::First => self.first.wake(place.key, is_shut, is_writable),
+            Loop::Second => self.second.wake(place.key, is_shut, is_writable),
+        }
+    }
+
+    fn unsent(&self, place: Place) -> usize {
+        match place.which {
+            Loop::First => self.first.unsent(place.key),
+            Loop::Second => self.second.unsent(place.key),
+        }
+    }
+
+    fn turn<R: Wait + Clock>(&mut self, rt: &R, which: Loop) {
+        let _ = match which {
+            Loop::First => self.first.turn(rt, &self.shared, &self.relays),
+            Loop::Second => self.second.turn(rt, &self.shared, &self.relays),
+        };
+    }
+
+    fn look<R: Wait>(&mut self, rt: &R, which: Loop, look: Look, seconds: u32) {
+        match which {
+            Loop::First => self
+                .first
+                .look(rt, &self.shared, &self.relays, look, seconds),
+            Loop::Second => self
+                .second
+                .look(rt, &self.shared, &self.relays, look, seconds),
+        }
+    }
+
+    fn begin_steps<R: Wait>(&mut self, rt: &R) {
+        let _ = self.shared.begin_steps(rt);
+    }
+
+    fn step<R: Wait>(&mut self, rt: &R, most: usize) {
+        let _ = self.shared.step(rt, most);
+    }
+
+    fn snapshot<R: Wait>(&mut self, rt: &R) {
+        let _ = self.shared.snapshot(rt);
+    }
+
+    fn pays<R: Wait>(&self, rt: &R) -> bool {
+        self.shared.pays(rt)
+    }
+
+    fn forget<R: Wait>(&self, rt: &R) {
+        self.shared.forget(rt);
+    }
+
+    fn count<R: Wait>(&self, rt: &R) -> Counts {
+        let gauge = self.shared.gauge(rt);
+        Counts {
+            tuples: gauge.tuples,
+            holds: gauge.holds,
+            waits: gauge.waits,
+            clients: gauge.clients,
+            next: gauge.next,
+            deeds: gauge.deeds,
+            is_down: gauge.is_down,
+        }
+    }
+}

@@ -1,0 +1,67 @@
+//! Side of a server, as a run sees it: connections come, may be read or written, and are served in
+//! turns.
+
+use crate::net::Pipe;
+use linda_net_relays::Look;
+use std::sync::Wait;
+use std::time::Clock;
+
+/// One of the two loops of a server.
+#[derive(Clone, Copy, PartialEq, Eq)]
+pub enum Loop {
+    First,
+    Second,
+}
+
+/// Where a connection is at its server.
+#[derive(Clone, Copy, PartialEq, Eq)]
+pub struct Place {
+    pub which: Loop,
+    pub key: usize,
+}
+
+/// A server with its connections.
+pub trait Side {
+    /// A connection comes to a loop. Returns its place, if there is memory.
+    fn let_in(&mut self, which: Loop, pipe: Pipe) -> Option<Place>;
+
+    /// The connection of this place may be read, to its end if it is shut, or written.
+    fn wake(&mut self, place: Place, is_shut: bool, is_writable: bool);
+
+    /// How many bytes the server has still to write to the connection of this place.
+    fn unsent(&self, place: Place) -> usize;
+
+    /// A loop takes what is ready, serves it, and writes what that led to.
+    fn turn<R: Wait + Clock>(&mut self, rt: &R, which: Loop);
+
+    /// A second has gone by: clients of a loop that are late are ended.
+    fn look<R: Wait>(&mut self, rt: &R, which: Loop, look: Look, seconds: u32);
+
+    /// Begins a snapshot in steps, takes a step of so many bytes, or takes one whole.
+    fn begin_steps<R: Wait>(&mut self, rt: &R);
+
+    fn step<R: Wait>(&mut self, rt: &R, most: usize);
+
+    fn snapshot<R: Wait>(&mut self, rt: &R);
+
+    /// Whether a snapshot pays for itself.
+    fn pays<R: Wait>(&self, rt: &R) -> bool;
+
+    /// Forgets what nobody needs.
+    fn forget<R: Wait>(&self, rt: &R);
+
+    /// What the server counts.
+    fn count<R: Wait>(&self, rt: &R) -> Counts;
+}
+
+/// What a server counts.
+#[derive(Clone, Copy)]
+pub struct Counts {
+    pub tuples: usize,
+    pub holds: usize,
+    pub waits: usize,
+    pub clients: usize,
+    pub next: u64,
+    pub deeds: u64,
+    pub is_down: bool,
+}

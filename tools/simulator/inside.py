@@ -1,0 +1,84 @@
+"""Runs of the program linda_test_simulator: a server, its disks, its network and its clock in one process, all by a seed."""
+
+from __future__ import annotations
+
+import os
+import subprocess
+import sys
+import time
+from pathlib import Path
+
+TOP = Path(__file__).resolve().parent.parent.parent
+CRATE = "linda_test_simulator"
+PROVED = TOP / "crates" / CRATE / "out" / CRATE
+QUICK = TOP / "crates" / CRATE / "out" / "quick" / CRATE
+# Events of a run, and runs of a process.
+EVENTS, RUNS = 100_000, 40
+LIMIT = 600
+
+
+def is_newer(program: Path) -> bool:
+    """Whether the program is there, and no source is newer."""
+    if not program.is_file():
+        return False
+    built = program.stat().st_mtime
+    return all(it.stat().st_mtime <= built for it in (TOP / "crates").glob("*/src/**/*.rt"))
+
+
+def program() -> Path:
+    """The program that `rt ci` built, or one that is built now, without a proof, as tools/quick does."""
+    if is_newer(PROVED):
+        return PROVED
+    if not is_newer(QUICK):
+        subprocess.run([TOP / "tools/quick", QUICK, CRATE], check=True)
+    return QUICK
+
+
+def played(it: Path, lines: list[str]) -> tuple[int, list[str]]:
+    run = subprocess.run([it], input="\n".join(lines) + "\n", capture_output=True, text=True, timeout=LIMIT)
+    return run.returncode, run.stdout.splitlines()
+
+
+def first_that_differs(said: list[str]) -> int | None:
+    """The seed of the first run that differs."""
+    for line in said:
+        if line.startswith("seed ") and not line.endswith(": no difference"):
+            return int(line.split()[1].rstrip(","))
+    return None
+
+
+def play(seed: int, seconds: float, shrinks: bool) -> None:
+    """Runs with the seeds N, N + 1, .., for so many seconds, or one of N if there are none. Ends with 1 at the first that differs."""
+    it = program()
+    began, first, events = time.monotonic(), seed, 0
+    while True:
+        count = RUNS if seconds else 1
+        status, said = played(it, [f"{'tell' if not seconds else 'twice' if at == 0 else ''} {first + at} {EVENTS}".strip() for at in range(count)])
+        if status != 0:
+            report(it, said, shrinks)
+        events += count * EVENTS
+        first += count
+        if time.monotonic() - began >= seconds:
+            break
+    if not seconds:
+        print("\n".join(said))
+    taken = time.monotonic() - began
+    print(f"{first - seed} runs in one process from seed {seed}, {events:,} events: no difference ({taken:.0f} s)")
+
+
+def report(it: Path, said: list[str], shrinks: bool) -> None:
+    seed = first_that_differs(said)
+    print("\n".join(line for line in said if not line.endswith("no difference")), flush=True)
+    if seed is None:
+        sys.exit("the program ended without a word of a run that differs")
+    if shrinks:
+        _, few = played(it, [f"shrink {seed} {EVENTS}"])
+        row = next((line for line in few if line.startswith("tell ")), "")
+        print(f"shrunk, as a line that {CRATE} reads:\n{row}")
+        print("\n".join(played(it, [row])[1]) if row else "it does not differ again")
+    print(f"again: tools/simulate --inside {seed} --shrink")
+    sys.exit(1)
+
+
+if __name__ == "__main__":
+    sys.exit("tools/simulate --inside SEED plays these runs")
