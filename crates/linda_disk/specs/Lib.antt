@@ -3,6 +3,7 @@ pub mod Image
 pub mod Disk
 pub mod Run
 pub mod Runs
+pub mod Lengthens
 pub mod History
 pub mod HistoryLaws
 pub mod Trouble

@@ -19,7 +19,7 @@ use std::os::unix::fs::FileExt;
 pub struct FileDisk {
     file: File,
     failures: u64,
-    // The first failure of a call of the system.
+    // The first failure of a call of the system since the last sync that was done.
     trouble: Option<FileTrouble>,
     known: Known,
 }
@@ -80,12 +80,13 @@ impl FileDisk {
         self.failures
     }
 
-    /// The first call that failed, with its error; `None` while none has.
+    /// The first call that failed since the last sync that was done, with its error; `None` if none
+    /// has.
     pub fn trouble(&self) -> Option<FileTrouble> {
         self.trouble
     }
 
-    /// Counts a failure of the device, keeps it if it is the first, and reports it.
+    /// Counts a failure of the device, keeps it if there is none, and reports it.
     fn failed(&mut self, call: FileCall, error: io::Error) -> DiskFault
         ensures device { result ≡ DiskFault.Device
             → disk.failures self.new ≡ disk.failures self.old + 1 }
@@ -165,6 +166,7 @@ impl Disk for FileDisk {
         match self.file.sync_data() {
             Ok(()) => {
                 self.known.sync();
+                self.trouble = None;
                 Ok(())
             }
             Err(error) => Err(self.failed(FileCall::Sync, error)),

@@ -7,3 +7,4 @@ pub mod Heading
 pub mod Image
 pub mod Renewal
 pub mod Calls
+pub mod Ahead

@@ -2,6 +2,8 @@
 //! of the form in which it spells values: one that is made is in `BANK_FORM`, one that is opened
 //! stays in its own.
 
+mod ahead;
+
 ghost use Rattle.std.specs.Prelude.{◌≡◌, ◌<◌, ◌≤◌, ◌+◌, ◌*◌, ◌^◌, [], ◌↔◌, ℕ, List, length};
 ghost use Rattle.std.specs.Prelude.{IfOk, IfErr, true, false};
 ghost use Rattle.linda_store_state.specs.DeedFormat.{written};
