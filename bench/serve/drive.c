@@ -7,8 +7,11 @@
 //     drive wake PORT PID TAKERS SECONDS               takers wait; one client puts, until one of them has taken it
 //     drive hold PORT COUNT..                          greets until COUNT connections are there, says so, and waits
 //                                                      for a line; for each count in turn
+//     drive redis-put .., redis-pair .., redis-wake ..
+//     drive redis-hold ..                              the same with Redis: RPUSH puts, LPOP takes, BLPOP waits
 //
-// PID is the server's process. IDLE more connections are greeted before the load, and do nothing. The time of a put is
+// PID is the server's process. IDLE more connections are greeted before the load, and do nothing. Redis is not greeted, and
+// has no offers: a taker has the tuple with its first reply. The time of a put is
 // from its message to its Stored, that of a pair from the message of the put to the Taken: all that waits in this one
 // thread counts. At the end what is under way is waited for, and nothing new is sent. It prints lines of a word and
 // numbers, and ends with 1 at any other reply, or if none comes for ten seconds:
@@ -52,7 +55,7 @@ struct connection {
 };
 
 static struct connection *all[MOST];
-static int count, epoll, flight = 1, under_way;
+static int count, epoll, flight = 1, under_way, is_redis;
 static pid_t server;
 static uint64_t began, began_processor, until, moment, last, gap, acknowledged, slices[SLICES], job;
 static uint64_t *times;
@@ -103,7 +106,21 @@ static void flush(struct connection *c) {
     to_go = 0;
 }
 
+// A command of Redis.
+static void say_words(int words, const char *const *word) {
+    int at = sprintf((char *)going + to_go, "*%d\r\n", words);
+    for (int i = 0; i < words; i++) at += sprintf((char *)going + to_go + at, "$%zu\r\n%s\r\n", strlen(word[i]), word[i]);
+    to_go += (size_t)at;
+}
+
 static void say_out(struct connection *c) {
+    if (is_redis) {
+        char number[24];
+        sprintf(number, "%" PRIu64, job++);
+        say_words(3, (const char *const[]){"RPUSH", "job", number});
+        c->sent[c->puts++ % (uint64_t)flight] = moment;
+        return;
+    }
     unsigned char *at = going + to_go;
     at = put(at, 25, 4), at = put(at, OUT, 1), at = put(at, ++c->number, 8);
     memcpy(at, "\2\0\3job\1\1", 8);
@@ -112,7 +129,11 @@ static void say_out(struct connection *c) {
     c->sent[c->puts++ % (uint64_t)flight] = moment;
 }
 
+static int waits;
+
 static void say_ask(struct connection *c) {
+    if (is_redis && waits) return say_words(3, (const char *const[]){"BLPOP", "job", "0"});
+    if (is_redis) return say_words(2, (const char *const[]){"LPOP", "job"});
     unsigned char *at = going + to_go;
     at = put(at, 18, 4), at = put(at, ASK, 1), at = put(at, ++c->ticket, 8), at = put(at, 1, 1);
     memcpy(at, "\2\0\3job\1\4", 8);
@@ -126,6 +147,24 @@ static void say_accept(struct connection *c, uint64_t id) {
     to_go = (size_t)(at - going);
 }
 
+// How long the reply of Redis that begins here is, with its kind and no body; 0 if it has not come whole.
+static size_t reply_of(const unsigned char *from, size_t size, int *kind) {
+    const unsigned char *line = memchr(from, '\n', size);
+    if (!line) return 0;
+    size_t at = (size_t)(line - from) + 1, parts = from[0] == '*' ? 2 : from[0] == '$';
+    *kind = from[0] == ':' ? STORED : parts ? TAKEN : 0;
+    if (parts && from[1] == '-') stop("nothing was there to take");
+    for (; parts; parts--) {
+        if (from[0] == '*') {
+            if (!(line = memchr(from + at, '\n', size - at))) return 0;
+            at = (size_t)(line - from) + 1;
+        }
+        if (!(line = memchr(from + at, '\n', size - at))) return 0;
+        at = (size_t)(line - from) + 1;
+    }
+    return at;
+}
+
 // Takes what came; calls `heard` for each whole frame, and then sends what it said.
 static void hear(struct connection *c, void (*heard)(struct connection *, int, const unsigned char *)) {
     memcpy(came, c->rest, c->length);
@@ -134,7 +173,13 @@ static void hear(struct connection *c, void (*heard)(struct connection *, int, c
     if (size < 0) stop(errno == EAGAIN ? "no answer" : "recv");
     moment = now();
     size_t whole = c->length + (size_t)size, at = 0;
-    while (whole - at >= 4) {
+    for (int kind; is_redis && at < whole;) {
+        size_t reply = reply_of(came + at, whole - at, &kind);
+        if (!reply) break;
+        heard(c, kind, came + at);
+        at += reply;
+    }
+    while (!is_redis && whole - at >= 4) {
         size_t next = at + 4 + number_at(came + at, 4);
         if (next > whole) break;
         heard(c, came[at + 4], came + at + 5);
@@ -170,10 +215,12 @@ static void greet(int port) {
     setsockopt(c->stream, IPPROTO_TCP, TCP_NODELAY, &one, sizeof one);
     // So that thousands of ports are not kept for a minute after the end.
     setsockopt(c->stream, SOL_SOCKET, SO_LINGER, &at_once, sizeof at_once);
-    unsigned char *at = put(put(put(put(put(going, 7, 4), HELLO, 1), VERSION, 1), (uint64_t)count + 1, 4), 1, 1);
-    to_go = (size_t)(at - going);
-    flush(c);
-    for (welcomed = 0; !welcomed;) hear(c, expect_welcome);
+    if (!is_redis) {
+        unsigned char *at = put(put(put(put(put(going, 7, 4), HELLO, 1), VERSION, 1), (uint64_t)count + 1, 4), 1, 1);
+        to_go = (size_t)(at - going);
+        flush(c);
+        for (welcomed = 0; !welcomed;) hear(c, expect_welcome);
+    }
     struct epoll_event event = {.events = EPOLLIN, .data.ptr = c};
     if (epoll_ctl(epoll, EPOLL_CTL_ADD, c->stream, &event) < 0) stop("epoll");
     all[count++] = c;
@@ -313,12 +360,13 @@ static void on_wake(struct connection *c, int kind, const unsigned char *body) {
     switch (kind) {
         case STORED: acknowledge(), is_stored = 1; break;
         case OFFER: offered = moment, say_accept(c, number_at(body + 8, 8)); break;
-        case TAKEN: acknowledge(), taken = moment, say_ask(c); break;
+        case TAKEN: acknowledge(), taken = moment, offered = offered ? offered : moment, say_ask(c); break;
         default: stop("neither stored, offered nor taken");
     }
 }
 
 static void wake(void) {
+    waits = 1;
     struct use before = use_of_server();
     start(until);
     for (int i = 1; i < count; i++) say_ask(all[i]), flush(all[i]);
@@ -356,6 +404,7 @@ static void sync_loop(const char *path) {
 
 int main(int words, char **word) {
     const char *what = words < 4 ? "" : word[1];
+    if (!strncmp(what, "redis-", 6)) is_redis = 1, what += 6;
     int is_put = !strcmp(what, "put"), is_pair = !strcmp(what, "pair"), is_wake = !strcmp(what, "wake");
     until = words < 4 ? 0 : (uint64_t)(atof(word[words - 1]) * 1e9);
     epoll = epoll_create1(0);

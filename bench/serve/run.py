@@ -5,6 +5,9 @@
         --program 'FILE [WORD..]'   the program, and further words for its `serve`; ./linda if none is given.
                                     Each further one is a further column
         --against                   each program once more, with --threads
+        --beside redis              Redis as a further column, if redis-server is here: it appends each write to its
+                                    log and syncs that before it answers (`appendfsync always`). A put is RPUSH, a
+                                    take LPOP, and who waits says BLPOP. Only loads and idle connections are played
         --only TEXT                 the cells with this text in their names, and those of each further one
         --realtime                  all in a real-time class
 
@@ -63,6 +66,7 @@ TOP = HERE.parent.parent
 sys.dont_write_bytecode = True
 sys.path.insert(0, str(TOP / "tools"))
 import banks  # noqa: E402
+import redis  # noqa: E402
 from served import PROGRAM, Server  # noqa: E402
 
 # The driver's words between the server and the seconds: the clients; for all but `wake` the connections that are idle
@@ -84,6 +88,7 @@ LOADS = {
 }
 # While this is played, the numbers of the server are asked for so many times a second over HTTP.
 SCRAPED, SCRAPES = "put and take, 64 clients, scraped", 1_000
+REDIS = "redis"
 IDLE = {"idle connections, 1,000": 1_000, "idle connections, 10,000": 10_000}
 START, PAUSE = "start with 1,000,000 tuples", "snapshot of 1,000,000 tuples"
 STARTED = SAVED = 1_000_000
@@ -156,6 +161,12 @@ class Bench:
 
     def measure(self, name: str, way: Way, bank: bytes) -> Measures:
         with self.store() as folder:
+            if way.name == REDIS:
+                with redis.Redis(Path(folder), free_port()) as server:
+                    if name in IDLE:
+                        return self.hold(server, IDLE[name], "redis-hold")
+                    kind, *words = LOADS[name]
+                    return self.load(server, f"redis-{kind}", *words)
             if bank:
                 (Path(folder) / "left.bank").write_bytes(bank)
                 (Path(folder) / "right.bank").write_bytes(b"")
@@ -184,7 +195,7 @@ class Bench:
         asking.join()
         return found
 
-    def load(self, server: Server, kind: str, *words: str) -> Measures:
+    def load(self, server: Server | redis.Redis, kind: str, *words: str) -> Measures:
         need(sum(map(int, words[:2])))
         (fast, mean), lines = self.before, self.run(kind, server.port, server.process.pid, *words, self.seconds)
         self.probe()
@@ -194,17 +205,17 @@ class Bench:
         found |= {"processor": processor / 1e3 / requests}
         found |= {"voluntary": voluntary / requests, "involuntary": involuntary / requests}
         found |= {"driver": lines["driver"][0][0] / lines["driver"][0][1]}
-        if kind == "wake":
+        if kind.endswith("wake"):
             offer, take = (statistics.median(times) / 1e3 for times in zip(*lines["wake"]))
             return found | {"offer": offer, "take": take, "syncs": take * fast / 1e6}
         rates = rates_of(lines)
         return found | {"rate": rates[0], "fast": rates[0] / fast, "mean": rates[1] / mean}
 
-    def hold(self, server: Server, count: int) -> Measures:
+    def hold(self, server: Server | redis.Redis, count: int, kind: str = "hold") -> Measures:
         """The server's memory without connections and with so many, for each of them, and its threads."""
         need(count)
         without = memory_of(server)
-        with subprocess.Popen([self.driver, "hold", str(server.port), str(count)], stdin=subprocess.PIPE,
+        with subprocess.Popen([self.driver, kind, str(server.port), str(count)], stdin=subprocess.PIPE,
                               stdout=subprocess.PIPE, stderr=subprocess.PIPE, text=True) as driver:
             assert driver.stdout and driver.stderr
             if driver.stdout.readline() != f"held {count}\n":
@@ -251,7 +262,12 @@ def need(connections: int) -> None:
         raise Forbidden(f"{connections:,} connections, and a process may have {limit:,} open files here")
 
 
-def memory_of(server: Server) -> float:
+def is_played(name: str, way: Way) -> bool:
+    """Whether the program has what this cell asks for."""
+    return way.name != REDIS or (name in {**LOADS, **IDLE} and name != SCRAPED)
+
+
+def memory_of(server: Server | redis.Redis) -> float:
     """The memory of a server in KiB; what it shares with other processes is counted in part (PSS)."""
     text = Path(f"/proc/{server.process.pid}/smaps_rollup").read_text()
     return float(text.split("\nPss:")[1].split()[0])
@@ -326,8 +342,8 @@ TABLES: list[tuple[str, str, Callable[[Found], str]]] = [
 ]
 
 
-def ways_of(programs: list[str], is_against: bool) -> list[Way]:
-    ways = []
+def ways_of(programs: list[str], is_against: bool, beside: list[str]) -> list[Way]:
+    ways = [Way(REDIS, Path(redis.PROGRAM), ())] if beside else []
     for text in programs or [os.path.relpath(PROGRAM)]:
         name, *words = text.split()
         ways.append(Way(text, Path(name).resolve(), tuple(words)))
@@ -352,10 +368,13 @@ def main() -> int:
     options.add_argument("seconds", type=float, nargs="?", default=1.0)
     options.add_argument("--program", action="append", default=[])
     options.add_argument("--against", action="store_true")
+    options.add_argument("--beside", action="append", choices=[REDIS], default=[])
     options.add_argument("--only", action="append", default=[])
     options.add_argument("--realtime", action="store_true")
     given = options.parse_args()
-    ways = ways_of(given.program, given.against)
+    if given.beside and not redis.is_here():
+        options.error(f"there is no {redis.PROGRAM}")
+    ways = ways_of(given.program, given.against, given.beside)
     names = [name for name in (*LOADS, *IDLE, START, PAUSE) if any(text in name for text in given.only or [""])]
     if given.rounds < 1 or given.seconds < 0.05 or not names:
         options.error("no round, no slice of 50 ms, or no cell")
@@ -374,7 +393,7 @@ def main() -> int:
             cells = [name for name in names if turn == 0 or name not in IDLE]
             for cell in [(name, way) for name in cells for way in (ways[::-1] if turn % 2 else ways)]:
                 name, way = cell
-                if (name, way.name) in missing:
+                if (name, way.name) in missing or not is_played(name, way):
                     continue
                 try:
                     for measure, value in bench.measure(name, way, stored.get(name, b"")).items():

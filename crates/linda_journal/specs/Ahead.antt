@@ -1,6 +1,6 @@
 -- Room of a bank that is written ahead of its use, behind the closed gate at its end.
-use Rattle.std.specs.Prelude.{◌≡◌, ◌≤◌, ◌↔◌, ℕ, Bool, true, List, length, replicate, min, Result}
-use Rattle.std.specs.Prelude.{IfOk, IfErr, OnOk}
+use Rattle.std.specs.Prelude.{◌≡◌, ◌≤◌, ◌↔◌, ℕ, Bool, true, List, length, replicate, min, max}
+use Rattle.std.specs.Prelude.{Result, IfOk, IfErr, OnOk}
 use Rattle.linda_store_state.specs.declared.deed.Deed.{Deed}
 use Rattle.linda_disk.specs.declared.disk.Disk.{Ghosts}
 use Rattle.linda_disk.specs.declared.fault.DiskFault.{DiskFault}
@@ -22,6 +22,8 @@ pub record Reaches {D : Type 0} (g : Ghosts D) (to : ℕ) (old : D) (result : Re
   pub more : g.honest old → IfOk result (λ b. (n : ℕ)
       × HasMore (g.view old).seen (replicate n CLOSED) b (g.view new).seen)
   pub long : g.honest old → IfOk result (λ b. b ≡ true → to ≤ length (g.view new).seen)
+  pub within : g.honest old
+      → OnOk result (length (g.view new).seen ≤ max (length (g.view old).seen) to)
   pub durable : g.honest old → OnOk result (IsDurable (g.view new))
   pub honest : g.honest old ↔ g.honest new
   pub cause : IfErr result (λ fault. TellsFailures Device fault (g.failures old) (g.failures new))
@@ -55,6 +57,8 @@ module _ {D : Type 0} {g : Ghosts D} where
         × HasMore (g.view old.disk).seen (replicate n CLOSED) b (g.view new.disk).seen)
     pub long : g.honest old.disk
         → IfOk result (λ b. b ≡ true → min to old.limit ≤ length (g.view new.disk).seen)
+    pub within : g.honest old.disk → OnOk result (length (g.view new.disk).seen
+        ≤ max (length (g.view old.disk).seen) (min to old.limit))
     pub cause : IfErr result
         (λ fault. TellsFailures Device fault (g.failures old.disk) (g.failures new.disk))
     pub honest : g.honest old.disk ↔ g.honest new.disk

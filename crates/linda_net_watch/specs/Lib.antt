@@ -1,1 +1,2 @@
 pub mod Troubles
+pub mod Ahead

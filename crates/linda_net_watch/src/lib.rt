@@ -2,10 +2,12 @@
 //! HTTP.
 //!
 //! - `watch` reports to a `Watcher` what happened, each trouble when it begins (`Seen`).
-//! - `take_snapshots` takes a snapshot when one pays for itself, in steps.
+//! - `take_snapshots` takes a snapshot when one pays for itself, in steps, and has room written
+//!   ahead of the bank in use.
 //! - A `Station` answers what is asked of a `Status`, by the pages of its `Teller`.
 #![tactic(auto)]
 
+mod ahead;
 mod looking;
 mod seconds;
 mod seen;

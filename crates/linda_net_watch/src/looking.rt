@@ -3,6 +3,7 @@
 ghost use Rattle.std.specs.Prelude.{◌≡◌, ◌*◌, ◌-◌, ◌<◌, ◌≤◌, ◌^◌, min, Some, None};
 ghost use Rattle.std.specs.Duration.{as_nanos};
 
+use crate::ahead::Ahead;
 use crate::watching::take_snapshot;
 use linda_disk::Disk;
 use linda_net_marks::Marks;
@@ -19,7 +20,8 @@ const LOOK: u64 = 100;
 /// however full the bank is, messages are served most of the time.
 const PAUSES: u64 = 3;
 
-/// Takes a snapshot whenever one is to be taken, and has receipts forgotten, until it is over.
+/// Takes a snapshot whenever one is to be taken, and has room written ahead and receipts forgotten,
+/// until it is over.
 pub fn take_snapshots<D: Disk, L: Ledger, R: Wait + Clock>(
     rt: &R,
     shared: &Shared<D, L>,
@@ -27,6 +29,7 @@ pub fn take_snapshots<D: Disk, L: Ledger, R: Wait + Clock>(
     is_over: &Mutex<bool>,
 ) {
     let mut pause: u64 = 0;
+    let mut ahead = Ahead::new();
     for _ in rt.forever() {
         if *is_over.lock(rt) {
             return;
@@ -34,9 +37,14 @@ pub fn take_snapshots<D: Disk, L: Ledger, R: Wait + Clock>(
         shared.forget(rt);
         pause = match left_of(pause) {
             Some(left) => left,
-            None if shared.pays(rt) => pause_after(take_snapshot(rt, shared, marks, is_over)),
+            None if shared.pays(rt) => {
+                let millis = take_snapshot(rt, shared, marks, is_over);
+                ahead.begin_anew();
+                pause_after(millis)
+            }
             None => 0,
         };
+        ahead.look(rt, shared);
         thread::sleep(rt, look());
     }
 }

@@ -5,6 +5,7 @@ pub mod EmptyLaws
 pub mod OpeningLaws
 mod ReopeningLaws
 mod SwitchLaws
+mod AheadLaws
 mod NextLaws
 mod SteppingLaws
 mod RewritesLaws

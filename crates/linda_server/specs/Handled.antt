@@ -104,8 +104,8 @@ module _ {D : Type 0} {g : Ghosts D} where
     -- Every life of the server goes on by it.
     pub life : GoesOn (λ (sends : Vec (ℕ × Reply)). sends.items) old result new
 
-  -- It wrote the same state anew, or a part of it (`renew`, `clear`, `snapshot`, `trim`,
-  -- `begin_steps`, `step`).
+  -- It wrote the same state anew, or a part of it, or room for it (`renew`, `clear`, `snapshot`,
+  -- `trim`, `begin_steps`, `step`, `lengthen`, `write_ahead`).
   pub record Rewrites {T E : Type 0} (old : Durable D g) (result : Result T E)
       (new : Durable D g) : Type 0 where
     -- At no moment crashes leave anything but the state.
@@ -119,7 +119,7 @@ module _ {D : Type 0} {g : Ghosts D} where
     pub honest : BothHonest old.disks ↔ BothHonest new.disks
 
   -- It is down exactly where it was, and goes down only where a device failed or memory ran out
-  -- (`renew`, `clear`, `start`, `advance`).
+  -- (`renew`, `clear`, `start`, `advance`, `lengthen`).
   pub record Fails {T : Type 0} (old : Durable D g) (result : Result T ServeFault)
       (new : Durable D g) : Type 0 where
     pub was_down : IsErrOf result faults.Down ↔ (old.down ≡ true)
@@ -150,7 +150,7 @@ module _ {D : Type 0} {g : Ghosts D} where
   CameTo most old new Done = HasEnded most old new
 
   -- It is down where it says so, and says so where it was, as a node does; and every life goes on
-  -- by it (`snapshot`, `trim`, `begin_steps`, `step`).
+  -- by it (`snapshot`, `trim`, `begin_steps`, `step`, `write_ahead`).
   pub record Falls {T : Type 0} (old : Durable D g) (result : Result T NodeFault)
       (new : Durable D g) : Type 0 where
     pub down : IsErrOf result nodes.Down → new.down ≡ true

@@ -7,6 +7,7 @@ pub mod Opening
 pub mod Node
 pub mod Reopening
 pub mod Switch
+pub mod Ahead
 pub mod Next
 pub mod Lives
 pub mod Handled

@@ -1,5 +1,6 @@
 //! A server whose deeds are on a disk before it answers.
 
+mod ahead;
 mod create;
 mod fall;
 mod handle;

@@ -1,6 +1,7 @@
 //! The durable server.
 #![tactic(auto)]
 
+mod ahead;
 mod clearing;
 mod commit;
 mod disks;

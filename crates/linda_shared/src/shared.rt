@@ -172,6 +172,21 @@ impl<D: Disk, L: Ledger> Shared<D, L> {
         answer
     }
 
+    /// Sees to it that the file of the bank in use has so many bytes, or as many as its limit
+    /// allows; returns whether it has them. Nothing changes that a session sees.
+    ///
+    /// # Errors
+    ///
+    /// `Down`: the server is down.
+    pub fn write_ahead<R: Wait>(&self, rt: &R, to: usize) -> Result<bool, SharedFault> {
+        let mut guard = self.locked.lock(rt);
+        let answer = guard.held.write_ahead(self.alloc, to);
+        let is_down = guard.held.is_down();
+        drop(guard);
+        self.end_where(rt, is_down);
+        answer
+    }
+
     /// Forgets the receipts of deeds that were told, if there are many: for a program that serves,
     /// and never calls `finish`. Nothing changes that a session sees.
     pub fn forget<R: Wait>(&self, rt: &R) {

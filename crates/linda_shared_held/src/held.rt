@@ -1,6 +1,7 @@
 //! Server under its lock, and the group commit of several sessions.
 
 mod age;
+mod ahead;
 mod alone;
 mod base;
 mod drain;

@@ -13,6 +13,7 @@ returns-in-Err g c =
       same = search rules;
       more = search rules;
       long = search rules;
+      within = search rules;
       cause = c.in-Err.ensures.cause;
       honest = c.in-Err.ensures.honest;
     }
@@ -29,6 +30,7 @@ returns-in-Ok g c =
       same = record { form = refl; generation = refl; limit = refl; end = refl; records = refl; spent = sym c.requires.ready };
       more = c.in-Ok.ensures.more;
       long = search (rules, c.min.ensures, c.in-Ok.ensures.long);
+      within = search (rules, c.min.ensures, c.in-Ok.ensures.within);
       cause = search rules;
       honest = c.in-Ok.ensures.honest;
     }
