@@ -31,7 +31,10 @@ pub(crate) fn write_ahead<D: Disk>(
     ensures beside { OnOk result (IsBesideStill disks.old disks.new) }
 {
     match disks {
-        Disks::InUse(pair) => pair.bank.write_ahead(alloc, to),
+        Disks::InUse(pair) => match pair.bank.write_ahead(alloc, to) {
+            Ok(there) => Ok(there),
+            Err(fault) => Err(fault),
+        },
         Disks::Shut { .. } | Disks::Away => unreachable!(),
     }
 }

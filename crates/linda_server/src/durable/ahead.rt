@@ -60,7 +60,11 @@ impl<D: Disk> Durable<D> {
             return Err(ServeFault::Down);
         }
         match write_ahead(&mut self.disks, alloc, to) {
-            Ok(there) => Ok(there),
+            Ok(there) => {
+                // It is up, as it was.
+                self.down = false;
+                Ok(there)
+            }
             Err(fault) => {
                 self.before = Moment::of(self.store.state());
                 self.down = true;

@@ -25,7 +25,7 @@ invariant_of-self-in-Err-clause-fallen g c _ are =
     fell g.met.D.Disk.timed Device (Unit {0}) c.args.self.now.store.state ∣ tt ∣₁ c.args.self.now refl c.if-self.false c.in-Err.fault c.write_ahead.new.disks _ (c.in-Err.ensures.runs c.args.self.now.store.state) (c.of.ensures ∙ c.state.ensures.state) (subst IsState c.state.ensures.state c.state.ensures.ranges) are
 
 pub returns-in-Ok-clause-rewrites : goal.returns-in-Ok-clause-rewrites
-returns-in-Ok-clause-rewrites g c = rewrites_done g.met.D.Disk.timed Device (Unit {0}) c.args.self.now.store.state ∣ tt ∣₁ c.args.self.now refl c.if-self.false _ c.in-Ok.there _ (c.in-Ok.ensures.runs c.args.self.now.store.state) refl refl c.if-self.false
+returns-in-Ok-clause-rewrites g c = rewrites_done g.met.D.Disk.timed Device (Unit {0}) c.args.self.now.store.state ∣ tt ∣₁ c.args.self.now refl c.if-self.false _ c.in-Ok.there _ (c.in-Ok.ensures.runs c.args.self.now.store.state) refl refl refl
 
 pub returns-in-Err-clause-rewrites : goal.returns-in-Err-clause-rewrites
 returns-in-Err-clause-rewrites g c =
