@@ -176,6 +176,11 @@ PLANTS = [
          f"{SERVE}/store.rt", "        Ok(FileDisk::with_front(alloc, file)?)\n", "        Ok(FileDisk::new(alloc, file)?)\n", build="two"),
     edit("receipts are never forgotten", "counts", f"{COUNTS} memory_over_many_puts", "each taken, leave",
          f"{NET}_watch/src/looking.rt", "        shared.forget(rt);\n", "", build="one"),
+    # ---- room ahead of records
+    edit("no room is written ahead", "sockets", f"{SOCKETS} room_is_written_ahead", "nothing is written ahead",
+         f"{NET}_watch/src/looking.rt", "        ahead.look(rt, shared);\n", "        let _ = &mut ahead;\n", build="two"),
+    edit("room that the disk did not take stays", "sockets", f"{SOCKETS} a_disk_without_room_ahead", "FAILED",
+         "crates/linda_disk/src/lengthened.rt", "    disk.cut(at)?;\n", "", build="one"),
     # ---- the two loops
     edit("the other loop is not woken at a leave", "sockets", f"{SOCKETS} loops_wake_each_other", "has not sent what is due",
          f"{NET}_loops/src/turns.rt", "shared.depart(rt, account, &mut posting);\n    ring(rt, &posting);\n", "shared.depart(rt, account, &mut posting);\n",
