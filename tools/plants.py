@@ -117,7 +117,7 @@ PLANTS = [
          "            put_off: Some", "    Ok(Begun {\n        server,\n        course: Course {\n            base,\n            put_off: Some", build="one"),
     # ---- a file as a disk: no contract says what its calls of the system do
     edit("nothing is ever synced", "device", f"{DEVICE} what_is_answered_is_synced", "something is not synced", FILE_DISK,
-         "        match self.file.sync_data() {\n            Ok(()) => {\n                self.known.sync();\n                Ok(())\n            }\n"
+         "        match self.file.sync_data() {\n            Ok(()) => {\n                self.known.sync();\n                self.trouble = None;\n                Ok(())\n            }\n"
          "            Err(error) => Err(self.failed(FileCall::Sync, error)),\n        }\n", "        self.known.sync();\n        Ok(())\n", build="two"),
     edit("a sync that failed is taken for one that worked", "device", f"{DEVICE} each_call_that_fails_is_reported", r"fails \(sync\), and it ends|has not ended", FILE_DISK,
          "            Err(error) => Err(self.failed(FileCall::Sync, error)),\n", "            Err(_) => Ok(()),\n", build="one"),

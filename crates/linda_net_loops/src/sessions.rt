@@ -166,7 +166,7 @@ impl<S: Socket, L: Ledger> Sessions<S, L> {
     }
 
     /// Takes what ready connections have, as far as there is room in the batch, and of each no more
-    /// than its share. One that has more stays ready, behind the others.
+    /// than its share. One that has more stays ready, after the others.
     pub(crate) fn gather(&mut self, batch: &mut Batch<L>, marks: &Marks) {
         for _ in 0..self.ready.len() {
             if !batch.takes_more() {

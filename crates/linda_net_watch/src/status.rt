@@ -17,7 +17,7 @@ use std::time::Clock;
 
 /// Who has the pages that are asked for.
 pub trait Teller {
-    /// Writes the page that is asked for behind what is there, and returns of which kind it is; or
+    /// Writes the page that is asked for after what is there, and returns of which kind it is; or
     /// why there is none.
     ///
     /// # Errors

@@ -73,7 +73,7 @@ fn page_of(
     Ok(TuplePage { rows, next })
 }
 
-// Puts the tuple of the id behind the rows, with the request that it is held for. Returns how many
+// Puts the tuple of the id after the rows, with the request that it is held for. Returns how many
 // bytes it spells in the second form.
 fn push_row(
     alloc: Global,

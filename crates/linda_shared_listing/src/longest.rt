@@ -60,7 +60,7 @@ fn longest_holds(
     Ok(rows)
 }
 
-// Puts a tuple that is held behind the rows.
+// Puts a tuple that is held after the rows.
 fn push_held(
     alloc: Global,
     rows: &mut Vec<ListedTuple>,

@@ -23,7 +23,7 @@ const NOT_DUE: &str = "> pays false\n";
 
 /// A new bank has 33 bytes before its last gate. It is due with 1,024 records; if it was put off,
 /// with 1,024 more, or with so many bytes: 3 records have 96, and 4 have 128. It is not if its
-/// records have fewer bytes than it had when it was new: 2,052 of them are 65,664, behind 33.
+/// records have fewer bytes than it had when it was new: 2,052 of them are 65,664, after 33.
 const TURNS: &[Turn] = &[
     Turn {
         line: "",

@@ -23,7 +23,7 @@ impl<D: Disk, L: Ledger> Held<D, L> {
     pub fn write_ahead(&mut self, alloc: Global, to: usize) -> Result<bool, SharedFault>
         ensures takes { TakesStep self.old.server result self.new.server }
         ensures never_full { IsErrOf result SharedFault.Full → ⊥ }
-        // At Ok the bank in use is the same, with more closed gates behind its end or none.
+        // At Ok the bank in use is the same, with more closed gates after its end or none.
         ensures ahead { IfOk result (λ b. IsAhead to b self.old.server.disks
             self.new.server.disks) }
         ensures same { (self.new.opening.value ≡ self.old.opening.value)
