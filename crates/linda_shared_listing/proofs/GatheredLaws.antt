@@ -2,10 +2,15 @@
 use Rattle.std.proofs.Common.{◌≡◌, ◌≤◌, ◌<◌, ◌++◌, ℕ, suc, Bool, true, false, List, [], ◌∷◌, Option, None, Some, map, inl, inr, refl, sym, ap, subst, ◌∙◌, true≢false, arith}
 use Rattle.std.specs.Prelude.{IfSome, All, Contains}
 use Rattle.std.proofs.lemmas.Bool.{cases_lt}
+use Rattle.std.proofs.lemmas.List.{map-append}
 use Rattle.std.proofs.lemmas.List.Elements.{All-pop, Contains-append_left, Contains-append_right}
 use Rattle.linda_tuple.specs.declared.atom.Atom.{Atom}
 use Rattle.linda_shared_listing.specs.Firsts.{AreFirst}
-use Rattle.linda_shared_listing.specs.Listing.{is_wanted}
+use Rattle.linda_hold.specs.Holds.{HeldFor}
+use Rattle.linda_shared_listing.specs.declared.listed.ListedTuple.{ListedTuple}
+use Rattle.linda_shared_listing.specs.declared.listed.TupleQuery.{TupleQuery}
+use Rattle.linda_shared_listing.specs.declared.listed.TuplePage.{TuplePage}
+use Rattle.linda_shared_listing.specs.Listing.{is_wanted, IsPage}
 use Rattle.linda_shared_listing.specs.Gathered.{Tuples, AreRising, IsGathered}
 
 module _ (is_so : ℕ → Bool) where
@@ -58,3 +63,10 @@ module _ (tag : Option Atom) (from : ℕ) where
           | inr ge ↦ Contains-append_right ids piece id (first_all (is_wanted bag tag) at piece next first id ge below both.1)
         ];
   }
+
+-- A piece that was a page joins the rows.
+pub page_joined : (query : TupleQuery) (from : ℕ) (moments : List Tuples) (bag : Tuples) (holds : HeldFor) (old new : List ListedTuple) (piece : TuplePage) → new ≡ old ++ piece.rows.items → IsGathered query.tag from moments (map (λ (row : ListedTuple). row.id) old) (Some query.from) → IsPage bag holds query piece → IsGathered query.tag from (moments ++ bag ∷ []) (map (λ (row : ListedTuple). row.id) new) piece.next
+page_joined query from moments bag holds old new piece same far page =
+    subst (λ (ids : List ℕ). IsGathered query.tag from (moments ++ bag ∷ []) ids piece.next)
+    (sym (ap (map (λ (row : ListedTuple). row.id)) same ∙ map-append (λ (row : ListedTuple). row.id) old piece.rows.items))
+    (gathered_on query.tag from moments (map (λ (row : ListedTuple). row.id) old) query.from bag (map (λ (row : ListedTuple). row.id) piece.rows.items) piece.next far page.first)

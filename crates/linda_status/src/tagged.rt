@@ -1,6 +1,6 @@
 //! Samples of the tags that the command line names: how many tuples have each.
 
-ghost use Rattle.std.specs.Prelude.{◌≡◌, ◌++◌, ◌^◌, ◌-◌, filter, min, OnOk};
+ghost use Rattle.std.specs.Prelude.{◌≡◌, ◌++◌, ◌∷◌, [], ◌^◌, ◌-◌, filter, min, OnOk};
 ghost use Rattle.std.specs.List.{flat_map, sum_by};
 ghost use Rattle.linda_inspect.specs.Json.{IsPushed};
 ghost use Rattle.linda_status.specs.Tagged.{is_named, is_text, label_byte, sample_name};
@@ -87,12 +87,25 @@ fn keep_named(
     tags: &[String],
 ) -> Result<(), AllocError>
     ensures { OnOk result (rows.new.items
-        ≡ rows.old.items ++ filter (λ row. is_named tags.now row) more.items) }
+        ≡ rows.old.items ++ filter (is_named tags.now) more.items) }
 {
     for row in more {
-        if is_named(&row, tags) {
-            rows.push(row)?;
-        }
+        keep_if_named(rows, row, tags)?;
+    }
+    Ok(())
+}
+
+// Puts the row behind the others if its tag is one of these texts.
+fn keep_if_named(
+    rows: &mut Vec<ListedKind>,
+    row: ListedKind,
+    tags: &[String],
+) -> Result<(), AllocError>
+    ensures { OnOk result (rows.new.items
+        ≡ rows.old.items ++ filter (is_named tags.now) (row ∷ [])) }
+{
+    if is_named(&row, tags) {
+        rows.push(row)?;
     }
     Ok(())
 }
@@ -101,12 +114,7 @@ fn keep_named(
 fn is_named(row: &ListedKind, tags: &[String]) -> bool
     ensures { result ≡ is_named tags.now row.now }
 {
-    for tag in tags {
-        if is_text(&row.tag, tag.as_str()) {
-            return true;
-        }
-    }
-    false
+    tags.iter().any(|tag| is_text(&row.tag, tag.as_str()))
 }
 
 // A sample for each tag; one that comes again has none.

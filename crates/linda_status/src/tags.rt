@@ -1,6 +1,6 @@
 //! Tags as JSON: how many tuples there are of each tag and number of fields.
 
-ghost use Rattle.std.specs.Prelude.{◌≡◌, ◌++◌, nat_lt, length, OnOk, IfOk};
+ghost use Rattle.std.specs.Prelude.{◌≡◌, ◌++◌, ◌+◌, nat_lt, vec_len, OnOk, IfOk};
 ghost use Rattle.std.specs.List.{flat_map};
 ghost use Rattle.std.specs.List.Sorted.{IsPermutation, IsNonDecreasingBy};
 ghost use Rattle.linda_inspect.specs.Json.{IsPushed};
@@ -89,13 +89,12 @@ fn keep_most(
     limit: usize,
 ) -> Result<bool, AllocError>
     ensures most { OnOk result (AreMost (rows.old.items ++ more.items) limit rows.new.items) }
-    ensures cut { IfOk result (λ cut.
-        cut ≡ nat_lt limit (length (rows.old.items ++ more.items))) }
+    ensures cut { IfOk result (λ cut. cut ≡ nat_lt limit (vec_len rows.old + vec_len more)) }
 {
     let mut more = more;
     rows.append(&mut more)?;
-    put_most_first(rows)?;
     let is_cut = limit < rows.len();
+    put_most_first(rows)?;
     rows.truncate(limit);
     Ok(is_cut)
 }
