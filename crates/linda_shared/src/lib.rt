@@ -31,8 +31,8 @@ pub use group::Group;
 pub use linda_shared_accounts::{Account, Answered, MOST_ASKED, Receipt, SharedFault};
 pub use linda_shared_held::{Gauge, Progress, Report};
 pub use linda_shared_listing::{
-    ClientPage, KindPage, ListedClient, ListedKind, ListedReply, ListedTuple, Longest, MOST_KINDS,
-    TakenCount, TuplePage, TupleQuery,
+    ClientPage, Gathered, KindPage, ListedClient, ListedKind, ListedReply, ListedTuple, Longest,
+    MOST_KINDS, MOST_LOOKED, TakenCount, TuplePage, TupleQuery,
 };
 pub use linda_shared_outbox::Sent;
 pub use linda_shared_queue::{Outlet, hear_answer};

@@ -1,6 +1,8 @@
 //! The server, and the batch in hand.
 
-ghost use Rattle.std.specs.Prelude.{◌≡◌, ◌++◌, ℕ, [], true, false, None, All, IsTrue, IfNone};
+ghost use Rattle.std.specs.Prelude.{◌≡◌, ◌++◌, ◌+◌, ◌-◌, ◌*◌, ◌^◌, ℕ, [], true, false, None, All};
+ghost use Rattle.std.specs.Prelude.{IsTrue, IfNone, min};
+ghost use Rattle.linda_shared.specs.declared.locked.TheConstants.{LET_GO};
 ghost use Rattle.linda_shared_outbox.specs.Waiting.{waits_for};
 ghost use Rattle.linda_shared_outbox.specs.Replies.{handed_out};
 
@@ -13,6 +15,10 @@ use linda_shared_queue::Router;
 use std::alloc::Global;
 use std::sync::Wait;
 use std::sync::ledger::Ledger;
+
+/// Of how many receipts that were forgotten memory is given back after each group, besides two for
+/// each of its messages.
+const LET_GO: usize = 64;
 
 /// The server, and the batch in hand. Once the answers of a group were lost the server is given up,
 /// and nothing that waits in its outboxes is given out any more.
@@ -37,6 +43,17 @@ impl<D: Disk, L: Ledger> Locked<D, L> {
         if !self.batch.serve(alloc, &mut self.held) {
             self.is_given_up = true;
         }
+    }
+
+    /// Has receipts forgotten, if there are many, after a group of so many messages was served: all
+    /// at once, but their memory is given back group by group, of more receipts than a group has.
+    pub(crate) fn forget(&mut self, alloc: Global, messages: usize)
+        ensures same { (self.new.held.server ≡ self.old.held.server)
+            × (self.new.held.boxes ≡ self.old.held.boxes) × (self.new.batch ≡ self.old.batch)
+            × (self.new.is_given_up ≡ self.old.is_given_up) }
+    {
+        self.held.forget(alloc);
+        self.held.let_go(let_go_after(messages));
     }
 
     /// Takes what is posted out of the server's outboxes.
@@ -87,4 +104,12 @@ impl<D: Disk, L: Ledger> Locked<D, L> {
         }
         self.held.drain_next(alloc)
     }
+}
+
+// Of how many receipts memory is given back after a group of so many messages: of more than it has
+// receipts, so that none are left before there are many again.
+fn let_go_after(messages: usize) -> usize
+    ensures { result ≡ min (2 * messages + LET_GO) (2 ^ 64 - 1) }
+{
+    messages.saturating_mul(2).saturating_add(LET_GO)
 }

@@ -21,6 +21,7 @@ use linda_disk::Disk;
 use linda_shared_accounts::SharedFault;
 use linda_shared_held::{Durable, Gauge, Held, Progress};
 use linda_shared_queue::{Outlet, Queue, Router};
+use linda_store_step::MAX_GROUP;
 use linda_wire::Reply;
 use std::alloc::{AllocError, Global};
 use std::sync::ledger::{Blank, Ledger};
@@ -187,10 +188,11 @@ impl<D: Disk, L: Ledger> Shared<D, L> {
         answer
     }
 
-    /// Forgets the receipts of deeds that were told, if there are many: for a program that serves,
-    /// and never calls `finish`. Nothing changes that a session sees.
+    /// Forgets the receipts of deeds that were told, if there are many, and gives back the memory of
+    /// some that were forgotten. Each group does so too: this is for a program that serves, in which
+    /// no group may come for long. Nothing changes that a session sees.
     pub fn forget<R: Wait>(&self, rt: &R) {
-        self.locked.lock(rt).held.forget(self.alloc);
+        self.locked.lock(rt).forget(self.alloc, MAX_GROUP);
     }
 
     // Where the server is down no reply comes any more.

@@ -11,3 +11,4 @@ pub mod Snapshot
 pub mod Seating
 pub mod Draining
 pub mod Reporting
+pub mod Forgetting

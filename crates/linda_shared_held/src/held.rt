@@ -7,6 +7,7 @@ mod base;
 mod drain;
 mod end;
 mod finish;
+mod forget;
 mod give_up;
 mod greet;
 mod kinds;
@@ -63,6 +64,8 @@ pub struct Held<D: Disk, L: Ledger> {
     // The state at the last snapshot, or when it was made.
     base: Moment<State<IndexBag>>,
     receipts: Vec<SharedReceipt>,
+    // Receipts from before the base, whose memory is given back a few at a time.
+    gone: Vec<SharedReceipt>,
     count: u64,
     accounts: Accounts<L>,
     ghost in_order: { ∥ IsInOrder opening.value base.value receipts.items count server.down
@@ -100,6 +103,7 @@ impl<D: Disk, L: Ledger> Held<D, L> {
             opening,
             base,
             receipts: Vec::new(alloc),
+            gone: Vec::new(alloc),
             count: 0,
             accounts: Accounts::new(alloc, blank),
             boxes: Outboxes::new(alloc),

@@ -10,7 +10,7 @@ use Rattle.linda_bag.specs.Candidates.{tag_of, count_of}
 use Rattle.linda_bag.specs.Heads.{IsPast, IsBefore, with_head}
 use Rattle.linda_bag.specs.Ids.{IsCount}
 use Rattle.linda_bag.specs.declared.index_bag.kind.Kind.{Kind}
-use Rattle.linda_shared_listing.specs.declared.limits.TheConstants.{MOST_KINDS}
+use Rattle.linda_shared_listing.specs.declared.limits.TheConstants.{MOST_AT_ONCE}
 use Rattle.linda_shared_listing.specs.declared.kinds.ListedKind.{ListedKind}
 use Rattle.linda_shared_listing.specs.declared.kinds.KindPage.{KindPage}
 use Rattle.linda_shared_listing.specs.Kinds.{IsLater, head_in, row_in, HasNone, IsNextKind, IsLastHead, AreNextKinds, last_head, IsKindPage}
@@ -34,40 +34,41 @@ module _ (bag : FinMap nat_cmp Tuple) where
   one_more last [] row all next = (next, tt)
   one_more last (r ∷ rows) row all next = (all.0, one_more (Some (r.tag, r.fields)) rows row all.1 next)
 
-  -- The rows so far, up to this kind, and how many they are.
-  pub record AreKindsTo (last : Option (Atom × ℕ)) (many : ℕ) (rows : List ListedKind) : Type 0 where
-    pub all : AreNextKinds bag None rows
-    pub ends : last_head None rows ≡ last
-    pub count : length rows ≡ many
+  module _ (after : Option (Atom × ℕ)) where
+    -- The rows so far, up to this kind, and how many they are.
+    pub record AreKindsTo (last : Option (Atom × ℕ)) (many : ℕ) (rows : List ListedKind) : Type 0 where
+      pub all : AreNextKinds bag after rows
+      pub ends : last_head after rows ≡ last
+      pub count : length rows ≡ many
 
-  pub kinds_more : (last : Option (Atom × ℕ)) (count : ℕ) (rows new : List ListedKind) (row : ListedKind) → AreKindsTo last count rows → new ≡ rows ++ row ∷ [] → IsNextKind bag last row → AreKindsTo (Some (row.tag, row.fields)) (count + 1) new
-  kinds_more last count rows new row far same next =
-      let longer : length new ≡ length rows + 1 = ap length same ∙ length-append rows (row ∷ []) in
-      record {
-        all = subst (AreNextKinds bag None) (sym same) (one_more None rows row far.all (subst (λ l. IsNextKind bag l row) (sym far.ends) next));
-        ends = ap (last_head None) same ∙ last_added None rows row;
-        count = omega (arith, longer, far.count);
-      }
+    pub kinds_more : (last : Option (Atom × ℕ)) (count : ℕ) (rows new : List ListedKind) (row : ListedKind) → AreKindsTo last count rows → new ≡ rows ++ row ∷ [] → IsNextKind bag last row → AreKindsTo (Some (row.tag, row.fields)) (count + 1) new
+    kinds_more last count rows new row far same next =
+        let longer : length new ≡ length rows + 1 = ap length same ∙ length-append rows (row ∷ []) in
+        record {
+          all = subst (AreNextKinds bag after) (sym same) (one_more after rows row far.all (subst (λ l. IsNextKind bag l row) (sym far.ends) next));
+          ends = ap (last_head after) same ∙ last_added after rows row;
+          count = omega (arith, longer, far.count);
+        }
 
-  pub whole_page : (last : Option (Atom × ℕ)) (count limit : ℕ) (page : KindPage) → AreKindsTo last count page.rows.items → count ≤ limit → count ≤ MOST_KINDS → page.is_whole ≡ true → IsLastHead bag last → IsKindPage bag limit page
-  whole_page last count limit page far below most is ends = record {
-    rows = far.all;
-    few = omega (arith, far.count, below);
-    most = omega (arith, far.count, most);
-    whole = λ yes. subst (IsLastHead bag) (sym far.ends) ends;
-    full = λ no. absurd (true≢false (sym is ∙ no));
-    more = λ no. absurd (true≢false (sym is ∙ no));
-  }
+    pub whole_page : (last : Option (Atom × ℕ)) (count limit : ℕ) (page : KindPage) → AreKindsTo last count page.rows.items → count ≤ limit → count ≤ MOST_AT_ONCE → page.is_whole ≡ true → IsLastHead bag last → IsKindPage bag after limit page
+    whole_page last count limit page far below most is ends = record {
+      rows = far.all;
+      few = omega (arith, far.count, below);
+      most = omega (arith, far.count, most);
+      whole = λ yes. subst (IsLastHead bag) (sym far.ends) ends;
+      full = λ no. absurd (true≢false (sym is ∙ no));
+      more = λ no. absurd (true≢false (sym is ∙ no));
+    }
 
-  pub part_of_all : (last : Option (Atom × ℕ)) (row : ListedKind) (count limit : ℕ) (page : KindPage) → AreKindsTo last count page.rows.items → count ≡ min limit MOST_KINDS → count ≤ limit → count ≤ MOST_KINDS → page.is_whole ≡ false → IsNextKind bag last row → IsKindPage bag limit page
-  part_of_all last row count limit page far all below most is next = record {
-    rows = far.all;
-    few = omega (arith, far.count, below);
-    most = omega (arith, far.count, most);
-    whole = λ yes. absurd (true≢false (sym yes ∙ is));
-    full = λ no. far.count ∙ all;
-    more = λ no. λ ends. next.some (subst (IsLastHead bag) far.ends ends row.tag row.fields next.later);
-  }
+    pub part_of_all : (last : Option (Atom × ℕ)) (row : ListedKind) (count limit : ℕ) (page : KindPage) → AreKindsTo last count page.rows.items → count ≡ min limit MOST_AT_ONCE → count ≤ limit → count ≤ MOST_AT_ONCE → page.is_whole ≡ false → IsNextKind bag last row → IsKindPage bag after limit page
+    part_of_all last row count limit page far all below most is next = record {
+      rows = far.all;
+      few = omega (arith, far.count, below);
+      most = omega (arith, far.count, most);
+      whole = λ yes. absurd (true≢false (sym yes ∙ is));
+      full = λ no. far.count ∙ all;
+      more = λ no. λ ends. next.some (subst (IsLastHead bag) far.ends ends row.tag row.fields next.later);
+    }
 
   -- What was found in the bag is the next kind; if nothing was, there is none.
   pub next_is : (last : Option (Bor Atom × ℕ)) (found : Option Kind) → IfSome found (λ kind. IsPast last kind.tag.now kind.fields) → IfSome found (λ kind. IsCount (with_head tag_of count_of kind.tag.now kind.fields (get bag)) kind.tuples) → IfSome found (λ kind. HasNone bag kind.tag.now kind.fields → ⊥) → IfSome found (λ kind. (tag : Atom) (fields : ℕ) → IsPast last tag fields → IsBefore tag fields kind.tag.now kind.fields → HasNone bag tag fields) → IfSome found (λ kind. IsNextKind bag (head_in last) (row_in kind))

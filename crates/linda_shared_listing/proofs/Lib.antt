@@ -4,3 +4,4 @@ pub mod ShapeLaws
 pub mod ClientLaws
 pub mod TakenLaws
 pub mod KindLaws
+pub mod GatheredLaws

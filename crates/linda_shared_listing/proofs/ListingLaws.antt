@@ -11,7 +11,7 @@ use Rattle.linda_hold.specs.Holds.{HeldFor}
 use Rattle.linda_wire.specs.declared.limits.TheConstants.{NUMBER_LIMIT}
 use Rattle.linda_store_state.specs.State.{State, IsState}
 use Rattle.linda_shared_listing.specs.Firsts.{IsNext, AreFirst}
-use Rattle.linda_shared_listing.specs.declared.limits.TheConstants.{MOST_LOOKED}
+use Rattle.linda_shared_listing.specs.declared.limits.TheConstants.{MOST_AT_ONCE}
 use Rattle.linda_shared_listing.specs.declared.listed.ListedTuple.{ListedTuple}
 use Rattle.linda_shared_listing.specs.declared.listed.TupleQuery.{TupleQuery}
 use Rattle.linda_shared_listing.specs.declared.listed.TuplePage.{TuplePage}
@@ -68,7 +68,7 @@ none_after : (next : Option ℕ) (rows : List ListedTuple) → IfSome next (λ n
 none_after None rows some none = refl
 none_after (Some n) rows some none = absurd (omega (arith, some, ap length none))
 
-pub page_listed : (bag : FinMap nat_cmp Tuple) (holds : HeldFor) (query : TupleQuery) (count : ℕ) (page : TuplePage) → AreListed bag holds query.tag query.from page.next count page.rows.items → count ≤ min query.limit MOST_LOOKED → IfSome page.next (λ n. 0 < count) → IsPage bag holds query page
+pub page_listed : (bag : FinMap nat_cmp Tuple) (holds : HeldFor) (query : TupleQuery) (count : ℕ) (page : TuplePage) → AreListed bag holds query.tag query.from page.next count page.rows.items → count ≤ min query.limit MOST_AT_ONCE → IfSome page.next (λ n. 0 < count) → IsPage bag holds query page
 page_listed bag holds query count page far few some =
     let shown : IfSome page.next (λ n. 0 < length page.rows.items) = subst (λ n. IfSome page.next (λ _. 0 < n)) (sym far.many) some in
     record {

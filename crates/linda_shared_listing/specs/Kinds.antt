@@ -12,7 +12,7 @@ use Rattle.linda_bag.specs.Filing.{IsBare}
 use Rattle.linda_bag.specs.Heads.{IsBefore, with_head}
 use Rattle.linda_bag.specs.Ids.{IsCount}
 use Rattle.linda_bag.specs.declared.index_bag.kind.Kind.{Kind}
-use Rattle.linda_shared_listing.specs.declared.limits.TheConstants.{MOST_KINDS}
+use Rattle.linda_shared_listing.specs.declared.limits.TheConstants.{MOST_AT_ONCE}
 use Rattle.linda_shared_listing.specs.declared.kinds.ListedKind.{ListedKind}
 use Rattle.linda_shared_listing.specs.declared.kinds.KindPage.{KindPage}
 
@@ -58,13 +58,14 @@ abbrev pub last_head : Option (Atom × ℕ) → List ListedKind → Option (Atom
 last_head last [] = last
 last_head last (row ∷ rows) = last_head (Some (row.tag, row.fields)) rows
 
--- The page has the first kinds, none left out between them, each with how many tuples are of it; it
--- is whole if and only if there are no others. It has as many as are asked for, 10,000 at most,
--- unless it is whole.
-pub record IsKindPage (bag : fin.FinMap nat_cmp Tuple) (limit : ℕ) (page : KindPage) : Type 0 where
-  pub rows : AreNextKinds bag None page.rows.items
+-- The page has the first kinds after this one, or of all, none left out between them, each with how
+-- many tuples are of it; it is whole if and only if there are no others after them. It has as many as
+-- are asked for, 64 at most, unless it is whole.
+pub record IsKindPage (bag : fin.FinMap nat_cmp Tuple) (after : Option (Atom × ℕ)) (limit : ℕ)
+    (page : KindPage) : Type 0 where
+  pub rows : AreNextKinds bag after page.rows.items
   pub few : length page.rows.items ≤ limit
-  pub most : length page.rows.items ≤ MOST_KINDS
-  pub whole : page.is_whole ≡ true → IsLastHead bag (last_head None page.rows.items)
-  pub full : page.is_whole ≡ false → length page.rows.items ≡ min limit MOST_KINDS
-  pub more : page.is_whole ≡ false → IsLastHead bag (last_head None page.rows.items) → ⊥
+  pub most : length page.rows.items ≤ MOST_AT_ONCE
+  pub whole : page.is_whole ≡ true → IsLastHead bag (last_head after page.rows.items)
+  pub full : page.is_whole ≡ false → length page.rows.items ≡ min limit MOST_AT_ONCE
+  pub more : page.is_whole ≡ false → IsLastHead bag (last_head after page.rows.items) → ⊥

@@ -5,3 +5,4 @@ pub mod Clients
 pub mod Taken
 pub mod Kinds
 pub mod Longest
+pub mod Gathered

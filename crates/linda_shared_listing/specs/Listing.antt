@@ -1,4 +1,4 @@
--- A page of the tuples of a server.
+-- A piece of the tuples of a server.
 use Rattle.std.specs.Prelude.{◌≡◌, ◌≤◌, ◌<◌, ℕ, Bool, true, false, [], Option, None, Some}
 use Rattle.std.specs.Prelude.{All, IfSome, length, map}
 use Rattle.std.specs.Ordering.{nat_cmp}
@@ -8,7 +8,7 @@ use Rattle.linda_tuple.specs.Tuple.{Tuple}
 use Rattle.linda_tuple.specs.Sameness.{same_atom}
 use Rattle.linda_hold.specs.Holds.{HeldFor}
 use Rattle.linda_shared_listing.specs.Firsts.{AreFirst}
-use Rattle.linda_shared_listing.specs.declared.limits.TheConstants.{MOST_LOOKED}
+use Rattle.linda_shared_listing.specs.declared.limits.TheConstants.{MOST_AT_ONCE}
 use Rattle.linda_shared_listing.specs.declared.listed.ListedTuple.{ListedTuple}
 use Rattle.linda_shared_listing.specs.declared.listed.TupleQuery.{TupleQuery}
 use Rattle.linda_shared_listing.specs.declared.listed.TuplePage.{TuplePage}
@@ -38,7 +38,7 @@ pub record IsPage (bag : fin.FinMap nat_cmp Tuple) (holds : HeldFor) (query : Tu
   pub first : AreFirst (is_wanted bag query.tag) query.from
       (map (λ row. row.id) page.rows.items) page.next
   pub rows : All (IsRow bag holds) page.rows.items
-  pub few : length page.rows.items ≤ MOST_LOOKED
+  pub few : length page.rows.items ≤ MOST_AT_ONCE
   pub within : length page.rows.items ≤ query.limit
   pub some : page.rows.items ≡ [] → page.next ≡ None
   pub onward : IfSome page.next (λ id. query.from < id)

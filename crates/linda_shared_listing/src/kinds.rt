@@ -1,10 +1,10 @@
-//! Kinds of tuples, a page at a time: how many there are of each tag and number of fields.
+//! Kinds of tuples, a piece at a time: how many there are of each tag and number of fields.
 
 ghost use Rattle.std.specs.Prelude.{◌≡◌, IfOk, IfSome, IfNone};
 ghost use Rattle.linda_shared_listing.specs.Kinds.{head_in, row_in, IsNextKind, IsLastHead};
 ghost use Rattle.linda_shared_listing.specs.Kinds.{IsKindPage};
 
-use crate::limits::MOST_KINDS;
+use crate::limits::MOST_AT_ONCE;
 use linda_bag::{IndexBag, Kind};
 use linda_tuple::Atom;
 use std::alloc::{AllocError, Global};
@@ -27,18 +27,23 @@ pub struct KindPage {
     pub is_whole: bool,
 }
 
-/// The first kinds of tuples, as many as are asked for at most, and never more than 10,000. Takes
-/// no walk over the tuples.
+/// The first kinds of tuples after this one, or of all, as many as are asked for at most, and never
+/// more than 64. Takes no walk over the tuples.
 ///
 /// # Errors
 ///
 /// `AllocError` if memory runs out.
-pub fn list_kinds(alloc: Global, bag: &IndexBag, limit: usize) -> Result<KindPage, AllocError>
-    ensures { IfOk result (IsKindPage bag.now limit) }
+pub fn list_kinds<'a>(
+    alloc: Global,
+    bag: &'a IndexBag,
+    after: Option<(&'a Atom, usize)>,
+    limit: usize,
+) -> Result<KindPage, AllocError>
+    ensures { IfOk result (IsKindPage bag.now (head_in after.entry) limit) }
 {
-    let most = limit.min(MOST_KINDS);
+    let most = limit.min(MOST_AT_ONCE);
     let mut rows = Vec::new(alloc);
-    let mut last = None;
+    let mut last = after;
     for _ in 0..most {
         let Some(kind) = next_kind(bag, last) else {
             return Ok(KindPage {

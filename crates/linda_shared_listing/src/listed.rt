@@ -2,6 +2,7 @@
 
 ghost use Rattle.std.specs.Prelude.{◌≡◌, ◌≤◌, max};
 
+use crate::limits::MOST_BYTES;
 use linda_hold::Request;
 use linda_tuple::{Atom, Tuple};
 
@@ -11,6 +12,7 @@ pub struct TupleQuery {
     from: u64,
     tag: Option<Atom>,
     limit: usize,
+    bytes: usize,
     ghost some: { 1 ≤ limit },
 }
 
@@ -24,7 +26,23 @@ impl TupleQuery {
             from,
             tag,
             limit: limit.max(1),
+            bytes: MOST_BYTES,
         }
+    }
+
+    // Those of this id and of greater ones are asked for, so many fewer, with so many bytes fewer.
+    // Returns whether some are left to be asked for.
+    pub(crate) fn go_on(&mut self, from: u64, rows: usize, bytes: usize) -> bool
+        ensures from { self.new.from ≡ from }
+        ensures tag { self.new.tag ≡ self.old.tag }
+    {
+        self.from = from;
+        if rows >= self.limit || bytes >= self.bytes {
+            return false;
+        }
+        self.limit -= rows;
+        self.bytes -= bytes;
+        true
     }
 
     /// The least id that is asked for.
@@ -47,6 +65,13 @@ impl TupleQuery {
         ensures some { 1 ≤ result }
     {
         self.limit
+    }
+
+    /// With how many bytes it is enough, as the tuples are spelled in the second form.
+    pub fn bytes(&self) -> usize
+        ensures { result ≡ self.now.bytes }
+    {
+        self.bytes
     }
 }
 

@@ -1,4 +1,4 @@
-//! The tuples of a state, a page at a time.
+//! The tuples of a state, a piece of a page at a time.
 
 ghost use Rattle.std.specs.Prelude.{◌≡◌, ◌<◌, ◌≤◌, ◌+◌, ◌++◌, ◌∷◌, [], ℕ, IfOk, OnOk, All};
 ghost use Rattle.std.specs.Prelude.{map, true};
@@ -10,7 +10,7 @@ ghost use Rattle.linda_shared_listing.specs.Listing.{is_wanted, IsPage, IsRow};
 ghost use Rattle.linda_shared_listing.specs.Shapes.{is_found, shapes_in};
 
 use crate::found::next_found;
-use crate::limits::{MOST_BYTES, MOST_LOOKED};
+use crate::limits::{BYTES_AT_ONCE, MOST_AT_ONCE};
 use crate::listed::{ListedTuple, TuplePage, TupleQuery};
 use crate::shapes::shapes_for;
 use linda_bag::{Bag, IndexBag};
@@ -21,9 +21,9 @@ use linda_tuple::{Form, Template};
 use std::alloc::{AllocError, Global};
 
 /// The first tuples from an id on that are asked for, in rising order of ids, each with the request
-/// that it is held for: as many as are asked for at most, and never more than 1,000. It ends with
-/// the one by which they spell 262,144 bytes. Those of a tag are found by the index: it takes no
-/// walk over others.
+/// that it is held for: as many as are asked for at most, and never more than 64. It ends with the
+/// one by which they spell as many bytes as are asked for, or 65,536. Those of a tag are found by
+/// the index: it takes no walk over others.
 ///
 /// # Errors
 ///
@@ -55,7 +55,8 @@ fn page_of(
         ≡ is_wanted bag.now query.now.tag id }
     ensures { IfOk result (IsPage bag.now holds.now query.now) }
 {
-    let most = query.limit().min(MOST_LOOKED as usize);
+    let most = query.limit().min(MOST_AT_ONCE);
+    let enough = query.bytes().min(BYTES_AT_ONCE);
     let mut rows = Vec::new(alloc);
     let mut bytes: usize = 0;
     let mut next = next_found(bag, shapes, query.from());
@@ -66,7 +67,7 @@ fn page_of(
         let more = push_row(alloc, &mut rows, bag, holds, id)?;
         next = next_found(bag, shapes, id + 1);
         bytes = bytes.saturating_add(more);
-        if bytes >= MOST_BYTES {
+        if bytes >= enough {
             return Ok(TuplePage { rows, next });
         }
     }

@@ -1,1 +1,2 @@
 pub mod ListedLaws
+pub mod TaggedLaws

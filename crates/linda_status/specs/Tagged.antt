@@ -1,7 +1,9 @@
 -- Samples of the tags that are named: how many tuples have each.
 use Rattle.std.specs.Prelude.{ℕ, Bool, false, List, [], ◌∷◌, ◌++◌, ◌==◌, codes, if◌then◌else◌}
-use Rattle.std.specs.List.{flat_map}
+use Rattle.std.specs.Global.{String}
+use Rattle.std.specs.List.{flat_map, list_any}
 use Rattle.std.specs.Str.{bytes_eq}
+use Rattle.std.specs.String.{string_bytes}
 use Rattle.linda_tuple.specs.declared.atom.Atom.{Atom}
 use Rattle.linda_tuple.specs.declared.atom.Atom.TheVariants as atoms
 use Rattle.linda_inspect.specs.Json.{json_member}
@@ -13,6 +15,10 @@ abbrev pub is_text : Atom → List ℕ → Bool
 is_text (atoms.Int n) text = false
 is_text (atoms.Text own) text = bytes_eq own text
 is_text (atoms.Bool b) text = false
+
+-- Whether the tag of a row is one of these texts.
+abbrev pub is_named : List String → ListedKind → Bool
+is_named tags row = list_any (λ tag. is_text row.tag (string_bytes tag)) tags
 
 -- How many tuples a row has, if their tag is this text; else 0.
 abbrev pub tuples_if : List ℕ → ListedKind → ℕ

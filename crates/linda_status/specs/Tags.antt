@@ -1,12 +1,21 @@
 -- Tags as JSON: how many tuples there are of each tag and number of fields.
-use Rattle.std.specs.Prelude.{ℕ, ◌-◌, ◌^◌, Bool, true, false, List, [], ◌∷◌, ◌++◌, codes}
+use Rattle.std.specs.Prelude.{◌≡◌, ℕ, ◌-◌, ◌^◌, Bool, true, false, List, [], ◌∷◌, ◌++◌, codes}
+use Rattle.std.specs.Prelude.{take}
 use Rattle.std.specs.List.{flat_map}
+use Rattle.std.specs.List.Sorted.{IsPermutation, IsNonDecreasingBy}
 use Rattle.linda_shared_listing.specs.declared.kinds.ListedKind.{ListedKind}
 use Rattle.linda_inspect.specs.Json.{json_atom, json_member}
 
 -- How many tuples are missing to as many as there may be at most.
 abbrev pub to_go : ListedKind → ℕ
 to_go row = (2 ^ 64 - 1) - row.tuples
+
+-- The rows are the first of all these, so many at most, if those with more tuples come first.
+pub record AreMost (all : List ListedKind) (limit : ℕ) (rows : List ListedKind) : Type 0 where
+  pub sorted : List ListedKind
+  pub same : IsPermutation all sorted
+  pub most : IsNonDecreasingBy to_go sorted
+  pub first : rows ≡ take limit sorted
 
 -- A number of fields, and how many tuples there are, up to the end of the row.
 unfoldable pub json_of_kind : ℕ → ℕ → List ℕ

@@ -3,12 +3,14 @@
 use crate::listed::{push_client_page, push_tuple_page};
 use crate::pages::JSON;
 use crate::part::{Part, Wrong, read_part};
+use crate::pause::let_others;
 use linda_disk::Disk;
 use linda_net_watch::Told;
-use linda_shared::{Shared, TupleQuery};
+use linda_shared::{Gathered, MOST_LOOKED, Shared, TuplePage, TupleQuery};
 use std::alloc::{AllocError, Global};
 use std::sync::Wait;
 use std::sync::ledger::Ledger;
+use std::time::Clock;
 
 /// Writes those tuples that the query asks for after what is there; or what is wrong with it, or
 /// that the server is down.
@@ -16,7 +18,7 @@ use std::sync::ledger::Ledger;
 /// # Errors
 ///
 /// `AllocError` if memory runs out.
-pub(crate) fn spell_tuples<D: Disk, L: Ledger, R: Wait>(
+pub(crate) fn spell_tuples<D: Disk, L: Ledger, R: Wait + Clock>(
     rt: &R,
     alloc: Global,
     shared: &Shared<D, L>,
@@ -49,7 +51,7 @@ pub(crate) fn spell_clients<D: Disk, L: Ledger, R: Wait>(
 }
 
 // Writes this part of the tuples.
-fn spell_tuple_page<D: Disk, L: Ledger, R: Wait>(
+fn spell_tuple_page<D: Disk, L: Ledger, R: Wait + Clock>(
     rt: &R,
     alloc: Global,
     shared: &Shared<D, L>,
@@ -59,12 +61,34 @@ fn spell_tuple_page<D: Disk, L: Ledger, R: Wait>(
     let from = part.from();
     let limit = part.limit();
     let query = TupleQuery::new(from, part.into_tag(), limit);
-    let Some(found) = shared.list_tuples(rt, &query)? else {
+    let Some(found) = gather(rt, alloc, shared, query)? else {
         return spell_down(page);
     };
     let mut out = Vec::new(alloc);
     push_tuple_page(alloc, &mut out, &found)?;
     spell_bytes(&out, page)
+}
+
+// The tuples that are asked for, a piece at a time: others have the server between two of them.
+// Nothing if the server is down.
+fn gather<D: Disk, L: Ledger, R: Wait + Clock>(
+    rt: &R,
+    alloc: Global,
+    shared: &Shared<D, L>,
+    query: TupleQuery,
+) -> Result<Option<TuplePage>, AllocError> {
+    let mut gathered = Gathered::new(alloc, query);
+    // Each piece but the last one has a row at least.
+    for _ in 0..MOST_LOOKED {
+        let Some(piece) = shared.list_tuples(rt, gathered.query())? else {
+            return Ok(None);
+        };
+        if !gathered.add(piece)? {
+            break;
+        }
+        let_others(rt);
+    }
+    Ok(Some(gathered.into_page()))
 }
 
 // Writes this part of the clients.

@@ -1,20 +1,22 @@
 //! Samples of the tags that the command line names: how many tuples have each.
 
-ghost use Rattle.std.specs.Prelude.{◌≡◌, ◌^◌, ◌-◌, min, OnOk};
+ghost use Rattle.std.specs.Prelude.{◌≡◌, ◌++◌, ◌∷◌, [], ◌^◌, ◌-◌, filter, min, OnOk};
 ghost use Rattle.std.specs.List.{flat_map, sum_by};
 ghost use Rattle.linda_inspect.specs.Json.{IsPushed};
-ghost use Rattle.linda_status.specs.Tagged.{is_text, label_byte, sample_name};
+ghost use Rattle.linda_status.specs.Tagged.{is_named, is_text, label_byte, sample_name};
 ghost use Rattle.linda_status.specs.Tagged.{sample_to_end, tag_sample};
 ghost use Rattle.linda_status.specs.Tagged.{tuples_if, value_to_end};
 
+use crate::kinds::Kinds;
 use crate::lists::spell_text;
 use linda_disk::Disk;
 use linda_inspect::push_json_member;
-use linda_shared::{ListedKind, MOST_KINDS, Shared};
+use linda_shared::{ListedKind, Shared};
 use linda_tuple::Atom;
 use std::alloc::{AllocError, Global};
 use std::sync::Wait;
 use std::sync::ledger::Ledger;
+use std::time::Clock;
 
 /// What goes before the samples.
 const HEAD: &str = "# HELP linda_tagged_tuples Tuples of a tag, held ones too.\n\
@@ -34,7 +36,7 @@ const NEWLINE: u8 = b'\n';
 /// # Errors
 ///
 /// `AllocError` if memory runs out.
-pub(crate) fn spell_tagged<D: Disk, L: Ledger, R: Wait>(
+pub(crate) fn spell_tagged<D: Disk, L: Ledger, R: Wait + Clock>(
     rt: &R,
     alloc: Global,
     shared: &Shared<D, L>,
@@ -44,16 +46,75 @@ pub(crate) fn spell_tagged<D: Disk, L: Ledger, R: Wait>(
     if tags.is_empty() {
         return Ok(());
     }
-    let Some(found) = shared.list_kinds(rt, MOST_KINDS)? else {
+    let Some(rows) = named_kinds(rt, alloc, shared, tags)? else {
         return Ok(());
     };
-    if !found.is_whole {
-        return Ok(());
-    }
     page.push_str(HEAD)?;
     let mut out = Vec::new(alloc);
-    push_samples(&mut out, tags, &found.rows)?;
+    push_samples(&mut out, tags, &rows)?;
     spell_text(&out, page)
+}
+
+// The kinds of these texts; nothing if the server is down, or has more kinds than are looked at.
+fn named_kinds<D: Disk, L: Ledger, R: Wait + Clock>(
+    rt: &R,
+    alloc: Global,
+    shared: &Shared<D, L>,
+    tags: &[String],
+) -> Result<Option<Vec<ListedKind>>, AllocError> {
+    let mut kinds = Kinds::new();
+    let mut rows = Vec::new(alloc);
+    for _ in rt.forever() {
+        let Some(piece) = kinds.next(rt, alloc, shared)? else {
+            return Ok(None);
+        };
+        let is_whole = piece.is_whole;
+        keep_named(&mut rows, piece.rows, tags)?;
+        if is_whole {
+            return Ok(Some(rows));
+        }
+        if kinds.is_over() {
+            return Ok(None);
+        }
+    }
+    Ok(None)
+}
+
+// Puts those of these texts behind the rows.
+fn keep_named(
+    rows: &mut Vec<ListedKind>,
+    more: Vec<ListedKind>,
+    tags: &[String],
+) -> Result<(), AllocError>
+    ensures { OnOk result (rows.new.items
+        ≡ rows.old.items ++ filter (is_named tags.now) more.items) }
+{
+    for row in more {
+        keep_if_named(rows, row, tags)?;
+    }
+    Ok(())
+}
+
+// Puts the row behind the others if its tag is one of these texts.
+fn keep_if_named(
+    rows: &mut Vec<ListedKind>,
+    row: ListedKind,
+    tags: &[String],
+) -> Result<(), AllocError>
+    ensures { OnOk result (rows.new.items
+        ≡ rows.old.items ++ filter (is_named tags.now) (row ∷ [])) }
+{
+    if is_named(&row, tags) {
+        rows.push(row)?;
+    }
+    Ok(())
+}
+
+// Whether the tag of a row is one of these texts.
+fn is_named(row: &ListedKind, tags: &[String]) -> bool
+    ensures { result ≡ is_named tags.now row.now }
+{
+    tags.iter().any(|tag| is_text(&row.tag, tag.as_str()))
 }
 
 // A sample for each tag; one that comes again has none.

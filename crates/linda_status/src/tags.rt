@@ -1,22 +1,24 @@
 //! Tags as JSON: how many tuples there are of each tag and number of fields.
 
-ghost use Rattle.std.specs.Prelude.{◌≡◌, OnOk};
+ghost use Rattle.std.specs.Prelude.{◌≡◌, ◌++◌, ◌+◌, nat_lt, vec_len, OnOk, IfOk};
 ghost use Rattle.std.specs.List.{flat_map};
 ghost use Rattle.std.specs.List.Sorted.{IsPermutation, IsNonDecreasingBy};
 ghost use Rattle.linda_inspect.specs.Json.{IsPushed};
 ghost use Rattle.linda_status.specs.Tags.{json_first_tag, json_later_tag, json_of_kind, json_tag};
 ghost use Rattle.linda_status.specs.Tags.{json_tag_page, json_tags, json_tags_to_end, json_whole};
-ghost use Rattle.linda_status.specs.Tags.{to_go};
+ghost use Rattle.linda_status.specs.Tags.{to_go, AreMost};
 
+use crate::kinds::Kinds;
 use crate::lists::{spell_bytes, spell_down, spell_wrong};
 use crate::part::read_limit;
 use linda_disk::Disk;
 use linda_inspect::{push_json_atom, push_json_member};
 use linda_net_watch::Told;
-use linda_shared::{KindPage, ListedKind, MOST_KINDS, Shared};
+use linda_shared::{KindPage, ListedKind, Shared};
 use std::alloc::{AllocError, Global};
 use std::sync::Wait;
 use std::sync::ledger::Ledger;
+use std::time::Clock;
 
 /// Writes how many tuples there are of each tag and number of fields after what is there, most
 /// first, and as many as the query asks for; or what is wrong with it, or that the server is down.
@@ -24,7 +26,7 @@ use std::sync::ledger::Ledger;
 /// # Errors
 ///
 /// `AllocError` if memory runs out.
-pub(crate) fn spell_tags<D: Disk, L: Ledger, R: Wait>(
+pub(crate) fn spell_tags<D: Disk, L: Ledger, R: Wait + Clock>(
     rt: &R,
     alloc: Global,
     shared: &Shared<D, L>,
@@ -37,21 +39,64 @@ pub(crate) fn spell_tags<D: Disk, L: Ledger, R: Wait>(
     }
 }
 
-// Writes so many. They are put in order once the server is let go.
-fn spell_tag_page<D: Disk, L: Ledger, R: Wait>(
+// Writes so many.
+fn spell_tag_page<D: Disk, L: Ledger, R: Wait + Clock>(
     rt: &R,
     alloc: Global,
     shared: &Shared<D, L>,
     limit: usize,
     page: &mut String,
 ) -> Result<Told, AllocError> {
-    let Some(mut found) = shared.list_kinds(rt, MOST_KINDS)? else {
+    let Some(found) = most_kinds(rt, alloc, shared, limit)? else {
         return spell_down(page);
     };
-    put_most_first(&mut found.rows)?;
     let mut out = Vec::new(alloc);
-    push_first_tags(&mut out, &found, limit)?;
+    push_tag_page(&mut out, &found.rows, found.is_whole)?;
     spell_bytes(&out, page)
+}
+
+// Those of which there are most, so many at most, and whether they are all; nothing if the server is
+// down.
+fn most_kinds<D: Disk, L: Ledger, R: Wait + Clock>(
+    rt: &R,
+    alloc: Global,
+    shared: &Shared<D, L>,
+    limit: usize,
+) -> Result<Option<KindPage>, AllocError> {
+    let mut kinds = Kinds::new();
+    let mut rows = Vec::new(alloc);
+    let mut is_cut = false;
+    for _ in rt.forever() {
+        let Some(piece) = kinds.next(rt, alloc, shared)? else {
+            return Ok(None);
+        };
+        let is_whole = piece.is_whole;
+        let cuts = keep_most(&mut rows, piece.rows, limit)?;
+        is_cut = is_cut || cuts;
+        if is_whole || kinds.is_over() {
+            let is_whole = is_whole && !is_cut;
+            return Ok(Some(KindPage { rows, is_whole }));
+        }
+    }
+    Ok(None)
+}
+
+// Of the rows and more of them those of which there are most stay, so many at most, and come first.
+// Returns whether some do not stay.
+fn keep_most(
+    rows: &mut Vec<ListedKind>,
+    more: Vec<ListedKind>,
+    limit: usize,
+) -> Result<bool, AllocError>
+    ensures most { OnOk result (AreMost (rows.old.items ++ more.items) limit rows.new.items) }
+    ensures cut { IfOk result (λ cut. cut ≡ nat_lt limit (vec_len rows.old + vec_len more)) }
+{
+    let mut more = more;
+    rows.append(&mut more)?;
+    let is_cut = limit < rows.len();
+    put_most_first(rows)?;
+    rows.truncate(limit);
+    Ok(is_cut)
 }
 
 // Puts those of which there are more before those of which there are fewer. Those of which there
@@ -61,13 +106,6 @@ fn put_most_first(rows: &mut Vec<ListedKind>) -> Result<(), AllocError>
     ensures sorted { OnOk result (IsNonDecreasingBy to_go rows.new.items) }
 {
     rows.sort_by_key(|row| usize::MAX - row.tuples)
-}
-
-// Appends the first of them, so many at most, and whether those are all.
-fn push_first_tags(out: &mut Vec<u8>, page: &KindPage, limit: usize) -> Result<(), AllocError> {
-    let rows: &[ListedKind] = &page.rows;
-    let shown = rows.len().min(limit);
-    push_tag_page(out, &rows[..shown], page.is_whole && shown == rows.len())
 }
 
 // Appends these, and whether they are all.

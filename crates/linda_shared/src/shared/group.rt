@@ -75,6 +75,7 @@ impl<D: Disk, L: Ledger> Shared<D, L> {
         posts.begin();
         let served = group.serve(self.alloc, &mut locked.held);
         locked.post_all(rt, self.alloc, posts);
+        locked.forget(self.alloc, served.len());
         let is_down = locked.held.is_down();
         drop(guard);
         self.end_where(rt, is_down);

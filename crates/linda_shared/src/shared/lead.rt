@@ -35,10 +35,12 @@ impl<D: Disk, L: Ledger> Shared<D, L> {
         let mut locked = self.locked.lock(rt);
         locked.batch.fill(&mut self.queue.lock(rt));
         locked.serve(self.alloc);
+        let served = locked.batch.answers.len();
         let is_down = locked.held.is_down();
         let mut router = self.router.lock(rt);
         locked.batch.hand_over(rt, &mut router);
         locked.take_posted(rt, self.alloc, &mut router);
+        locked.forget(self.alloc, served);
         drop(locked);
         self.queue.lock(rt).pass_on(rt);
         router.deliver(rt);

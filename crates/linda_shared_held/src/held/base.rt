@@ -1,8 +1,7 @@
 //! Base of the receipts, which a snapshot moves, and what is always so.
 
-ghost use Rattle.std.specs.Prelude.{◌≡◌, ◌≤◌, ◌<◌, ◌+◌, ◌||◌, ◌⊎◌, nat_le, [], false, true};
-ghost use Rattle.std.specs.Prelude.{vec_len, OnOk, OnErr};
-ghost use Rattle.linda_shared_held.specs.declared.limits.TheConstants.{MANY_RECEIPTS};
+ghost use Rattle.std.specs.Prelude.{◌≡◌, ◌+◌, ◌||◌, ◌⊎◌, nat_le, [], false, true};
+ghost use Rattle.std.specs.Prelude.{OnOk, OnErr};
 ghost use Rattle.linda_store_step.specs.Store.{IsOrderly};
 ghost use Rattle.linda_server.specs.declared.limits.TheConstants.{SNAPSHOT_RECORDS};
 ghost use Rattle.linda_server.specs.Disks.{is_old};
@@ -19,8 +18,8 @@ ghost use Rattle.linda_shared_held.specs.Covered.{BoxesCovered};
 ghost use Rattle.linda_shared_held.specs.Snapshot.{TakesSnapshot};
 
 use super::Held;
+use super::forget::put_away;
 use super::recall::begin_anew;
-use crate::limits::MANY_RECEIPTS;
 use crate::pace::Pace;
 use linda_disk::Disk;
 use linda_moment::Moment;
@@ -168,37 +167,6 @@ impl<D: Disk, L: Ledger> Held<D, L> {
         Ok(())
     }
 
-    /// Forgets the receipts if there are 4,096 and the server is up: the state now is the base. For a
-    /// program that serves, and never calls `finish`. Nothing changes that a session sees.
-    pub fn forget(&mut self, alloc: Global)
-        ensures same { (self.new.server ≡ self.old.server)
-            × (self.new.opening.value ≡ self.old.opening.value)
-            × (self.new.count ≡ self.old.count) × (self.new.boxes ≡ self.old.boxes)
-            × (self.new.pace ≡ self.old.pace) }
-        // Then the base is the state now, and no place has a younger receipt;
-        ensures many { MANY_RECEIPTS ≤ vec_len self.old.receipts → self.old.server.down ≡ false
-            → (self.new.base.value ≡ self.new.server.store.state)
-            × (self.new.receipts.items ≡ [])
-            × AreShortened self.old.accounts.places self.new.accounts.places }
-        // else all is as before.
-        ensures few { vec_len self.old.receipts < MANY_RECEIPTS
-            → (self.new.base.value ≡ self.old.base.value)
-            × (self.new.receipts.items ≡ self.old.receipts.items)
-            × (self.new.accounts ≡ self.old.accounts)
-            × (self.new.recall ≡ self.old.recall) }
-        ensures down { self.old.server.down ≡ true
-            → (self.new.base.value ≡ self.old.base.value)
-            × (self.new.receipts.items ≡ self.old.receipts.items)
-            × (self.new.accounts ≡ self.old.accounts)
-            × (self.new.recall ≡ self.old.recall) }
-        ensures total { self.new.accounts.total ≡ self.old.accounts.total }
-    {
-        if self.receipts.len() < MANY_RECEIPTS || self.server.is_down() {
-            return;
-        }
-        self.move_base(alloc);
-    }
-
     // The state now is the base, from which on the receipts begin anew.
     pub(super) fn move_base(&mut self, alloc: Global)
         requires up { self.old.server.down ≡ false }
@@ -212,10 +180,11 @@ impl<D: Disk, L: Ledger> Held<D, L> {
         ensures shortened { AreShortened self.old.accounts.places self.new.accounts.places }
     {
         self.base = Moment::of(self.server.state());
-        self.receipts.clear();
+        put_away(&mut self.receipts, &mut self.gone);
         begin_anew(
             &mut self.accounts,
             &mut self.recall,
+            &self.boxes,
             alloc,
             self.server.state(),
         );

@@ -1,4 +1,4 @@
-//! The tuples and the clients of the server, a page at a time.
+//! The tuples and the clients of the server, a piece or a page at a time.
 
 ghost use Rattle.std.specs.Prelude.{IfOk};
 ghost use Rattle.linda_shared_outbox.specs.Waiting.{waits_for};

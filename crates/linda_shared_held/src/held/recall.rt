@@ -6,7 +6,7 @@
 //! older. A snapshot moves the base, and then no receipt is younger: those that came back since the
 //! one before keep only their last receipt.
 
-ghost use Rattle.std.specs.Prelude.{◌≡◌};
+ghost use Rattle.std.specs.Prelude.{◌≡◌, IfOk, OnOk};
 ghost use Rattle.std.specs.FinMap as map;
 ghost use Rattle.linda_shared_accounts.specs.Accounts.{AreShortened};
 ghost use Rattle.linda_shared_accounts.specs.Recall.{AreKept};
@@ -15,8 +15,9 @@ ghost use Rattle.linda_shared_held.specs.Parked.{ComesToPark};
 
 use linda_bag::IndexBag;
 use linda_shared_accounts::{Account, Accounts};
+use linda_shared_outbox::Outboxes;
 use linda_store_state::State;
-use std::alloc::Global;
+use std::alloc::{AllocError, Global};
 use std::collections::{BTreeMap, BTreeSet};
 use std::sync::ledger::Ledger;
 
@@ -85,6 +86,7 @@ pub(super) fn put_back<L: Ledger>(
 pub(super) fn begin_anew<L: Ledger>(
     accounts: &mut Accounts<L>,
     recall: &mut Recall,
+    boxes: &Outboxes,
     alloc: Global,
     state: &State<IndexBag>,
 )
@@ -92,22 +94,51 @@ pub(super) fn begin_anew<L: Ledger>(
     ensures shortened { AreShortened accounts.old.places accounts.new.places }
     ensures remembers { Remembers state.now recall.new }
 {
-    recall.floors = numbers_kept(accounts, alloc, state);
+    recall.floors = numbers_kept(boxes, alloc, state);
     shorten_all(accounts, &mut recall.long);
 }
 
-// For clients whose seat is out the numbers that are kept for them; for none if there is no memory.
-fn numbers_kept<L: Ledger>(
-    accounts: &Accounts<L>,
-    alloc: Global,
-    state: &State<IndexBag>,
-) -> BTreeMap<u32, u64>
+// For clients whose seat is out, which have an outbox, the numbers that are kept for them; for none
+// if there is no memory. Takes no walk over other clients.
+fn numbers_kept(boxes: &Outboxes, alloc: Global, state: &State<IndexBag>) -> BTreeMap<u32, u64>
     ensures { AreKept state.now result }
 {
-    match accounts.numbers_out(alloc, state) {
+    match numbers_out(boxes, alloc, state) {
         Ok(numbers) => numbers,
         Err(_) => BTreeMap::new(alloc),
     }
+}
+
+// For each client that has an outbox the number that is kept for it.
+fn numbers_out(
+    boxes: &Outboxes,
+    alloc: Global,
+    state: &State<IndexBag>,
+) -> Result<BTreeMap<u32, u64>, AllocError>
+    ensures { IfOk result (AreKept state.now) }
+{
+    let mut numbers = BTreeMap::new(alloc);
+    let mut last = None;
+    for _ in 0..u32::MAX {
+        let Some(client) = boxes.next_after(last) else {
+            return Ok(numbers);
+        };
+        note_number(&mut numbers, state, client)?;
+        last = Some(client);
+    }
+    Ok(numbers)
+}
+
+// Notes the number that is kept for the client.
+fn note_number(
+    numbers: &mut BTreeMap<u32, u64>,
+    state: &State<IndexBag>,
+    client: u32,
+) -> Result<(), AllocError>
+    ensures { OnOk result (AreKept state.now numbers.old → AreKept state.now numbers.new) }
+{
+    numbers.insert(client, state.book.last(client))?;
+    Ok(())
 }
 
 // The rings of these clients keep their last receipts alone.

@@ -26,8 +26,8 @@ loop-preserved c =
     (subst (λ (n : Option ℕ). AreListed c.args.bag.now c.args.holds.now c.args.query.now.tag c.args.query.now.from n c.loop.counter c.loop.rows.items) c.in-Some.is c.loop.invariant)
     c.in_ok-more.ensures.ids c.in_ok-more.ensures.rows c.next_found-next-in-loop.ensures
 
-pub returns-then-bytes-ge-MOST_BYTES : goal.returns-then-bytes-ge-MOST_BYTES
-returns-then-bytes-ge-MOST_BYTES c =
+pub returns-then-bytes-enough : goal.returns-then-bytes-enough
+returns-then-bytes-enough c =
     let page : TuplePage = record { rows = c.push_row.new.rows; next = c.next_found-next-in-loop.result } in
     let far = one_listed c.args.bag.now c.args.holds.now c.args.query.now.tag (is_found c.args.bag.now (shapes_in c.args.shapes.now)) c.args.query.now.from c.in-Some.id c.loop.counter c.next_found-next-in-loop.result c.loop.rows.items c.push_row.new.rows.items c.requires.found
     (subst (λ (n : Option ℕ). AreListed c.args.bag.now c.args.holds.now c.args.query.now.tag c.args.query.now.from n c.loop.counter c.loop.rows.items) c.in-Some.is c.loop.invariant)
