@@ -176,6 +176,10 @@ PLANTS = [
          f"{SERVE}/store.rt", "        Ok(FileDisk::with_front(alloc, file)?)\n", "        Ok(FileDisk::new(alloc, file)?)\n", build="two"),
     edit("receipts are never forgotten", "counts", f"{COUNTS} memory_over_many_puts", "each taken, leave",
          f"{NET}_watch/src/looking.rt", "        shared.forget(rt);\n", "", build="one"),
+    edit("a loop never forgets a client", "counts", f"{COUNTS} memory_of_clients_that_went", "that greeted and went leave",
+         f"{NET}_loops/src/sessions.rt", "            let _ = self.clients.remove(&client);\n            relays", "            relays", build="two"),
+    edit("what says which loop has a client never forgets one", "counts", f"{COUNTS} memory_of_clients_that_went", "that greeted and went leave",
+         f"{NET}_relays/src/relays.rt", "            let _ = routes.remove(&client);\n", "            let _ = &mut routes;\n", build="one"),
     # ---- the two loops
     edit("the other loop is not woken at a leave", "sockets", f"{SOCKETS} loops_wake_each_other", "has not sent what is due",
          f"{NET}_loops/src/turns.rt", "shared.depart(rt, account, &mut posting);\n    ring(rt, &posting);\n", "shared.depart(rt, account, &mut posting);\n",
@@ -241,6 +245,10 @@ PLANTS = [
     # ---- the libraries
     edit("a hold is not asked for again after its server was away", "python", f"{PYTHON}/test_linda_space.py", "FAIL: test_each_call_that_waits",
          f"{PYTHON}/linda_space/machine.py", "        self.sent += packets\n", "        self.sent += [] if isinstance(self.task, Syncing) and self.task.is_hold else packets\n"),
+    edit("a hold without a time is not asked for again after a stop", "simulate", SIMULATE, "waits for a job|have not come to rest",
+         f"{PYTHON}/linda_space/machine.py", "        packets = [packet for packet in self.unanswered(self.task) if packet[0] == server]\n        self.sent += packets\n",
+         "        packets = [packet for packet in self.unanswered(self.task) if packet[0] == server]\n"
+         "        self.sent += [] if isinstance(self.task, Syncing) and self.task.is_hold else packets\n"),
     edit("what an interrupted take took goes to the next take", "python", f"{PYTHON}/test_linda_space.py Waits.test_ctrl_c_while_a_tuple_is_taken", "AssertionError",
          f"{PYTHON}/linda_space/machine.py", "if base.leaf.fits(had.tuple or ()):", "if had.tuple and had.tuple[0] == base.leaf.template[0]:"),
     edit("a call of Python takes 5 ms more", "ratios", f"{RATIOS} calls_of_python", "FAILED",
