@@ -224,6 +224,8 @@ PLANTS = [
     Plant("each sync waits for 20 ms before", "ratios", f"{RATIOS} puts_against_syncs", "FAILED",
           "int fdatasync(int file) { usleep(20000); return NEXT(fdatasync)(file); }"),
     edit("no snapshot is in steps", "ratios", f"{RATIOS} replies_during_a_snapshot", "FAILED", f"{NET}_watch/src/snapshots.rt", ".used < STEP {", ".used > 0 {", build="two"),
+    edit("a snapshot takes its steps without a pause", "device", f"{DEVICE} others_have_the_server_between_steps", "the next one began at once",
+         f"{NET}_watch/src/snapshots.rt", "            Ok(Progress::Going) => thread::sleep(rt, pause()),\n", "            Ok(Progress::Going) => {}\n", build="one"),
     edit("alarms of a call come up to 50 ms late", "ratios", f"{RATIOS} alarms_of_a_call", "FAILED",
          "crates/linda_net_proxy/src/inbox.rt", "Duration::from_millis(1),", "Duration::from_millis(50),", build="two"),
     edit("each put is spelled a hundred times", "instructions", "bench/instructions", "instructions a put",
