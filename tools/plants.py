@@ -323,6 +323,14 @@ def misplaced() -> list[str]:
     return wrong
 
 
+def show(parts: list[str]) -> None:
+    """Prints by part what it sees, by which command."""
+    for part in dict.fromkeys(it.part for it in PLANTS if not parts or it.part in parts):
+        for plant in PLANTS:
+            if plant.part == part:
+                print(f"{part}: {plant.name}: {plant.command}{' (something is built for it)' * plant.is_dear()}")
+
+
 def said(*words: object, cwd: Path = TOP) -> str:
     return subprocess.run([str(it) for it in words], cwd=cwd, check=True, capture_output=True, text=True).stdout
 
