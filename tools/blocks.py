@@ -15,7 +15,7 @@ from typing import Callable, Iterator, Mapping, NamedTuple
 
 SECONDS = 300
 # How long what is printed in the background may come behind its command.
-LATE_SECONDS = 10.0
+LATE_SECONDS = 60.0
 # So many lines of a difference are told.
 MOST_LINES = 12
 NEWLINE = "\n"

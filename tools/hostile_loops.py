@@ -1,7 +1,8 @@
 #!/usr/bin/env python3
 """Peers that slow or end others, against one server each: for `tools/hostile`, which plays these checks.
 
-    tools/hostile_loops.py [--program FILE] [--port FIRST] [NAME..]      plays these checks alone; --program takes another program than ./linda
+    tools/hostile_loops.py [--program FILE] [--port FIRST] [NAME..]      plays these checks, or those of these groups: waits, ends; --program takes another program
+                                                                         than ./linda
 
 Each check is a function of a `Play`. It returns a line of figures, and raises a `Difference` if an aim is missed. An aim is a ratio of two figures of the same
 run, or a time that the pages promise: so it is the same on a slow machine. One that took too long is `Late` and is measured again, four times in all: it fails
@@ -574,12 +575,13 @@ def a_status_without_files(play: Play) -> str:
         return f"/metrics is answered with {server.files()} files open of 64"
 
 
-CHECKS: dict[str, Callable[[Play], str]] = {
-    check.__name__: check for check in (
-        one_reader_of_large_tuples, readers_of_large_tuples, putters_of_large_tuples, asks_that_look_at_all, leases_of_a_stopped_server,
-        ends_of_those_who_never_read, a_server_that_is_down, a_log_that_nobody_reads, a_crowd_at_once, a_socket_of_another_server,
-        a_status_without_files)
+# Those that measure how long others wait, and those that only wait for something to end.
+GROUPS: dict[str, tuple[Callable[[Play], str], ...]] = {
+    "waits": (one_reader_of_large_tuples, readers_of_large_tuples, putters_of_large_tuples, asks_that_look_at_all, a_crowd_at_once),
+    "ends": (leases_of_a_stopped_server, ends_of_those_who_never_read, a_server_that_is_down, a_log_that_nobody_reads, a_socket_of_another_server,
+             a_status_without_files),
 }
+CHECKS: dict[str, Callable[[Play], str]] = {check.__name__: check for group in GROUPS.values() for check in group}
 # Those that take a minute and more.
 LONG: dict[str, Callable[[Play], str]] = {check.__name__: check for check in (a_folder_that_is_gone,)}
 
@@ -595,10 +597,10 @@ def main() -> None:
     parser = argparse.ArgumentParser(description=__doc__, formatter_class=argparse.RawDescriptionHelpFormatter)
     parser.add_argument("--program", type=Path, default=PROGRAM)
     parser.add_argument("--port", type=int, default=0)
-    parser.add_argument("names", nargs="*", choices=[[], *every], metavar="NAME")
+    parser.add_argument("names", nargs="*", choices=[[], *every, *GROUPS], metavar="NAME")
     given = parser.parse_args()
     play, missed = Play(given.program, given.port), 0
-    for name in given.names or CHECKS:
+    for name in [it for name in given.names or CHECKS for it in ([check.__name__ for check in GROUPS[name]] if name in GROUPS else [name])]:
         for left in reversed(range(TRIES)):
             try:
                 print(f"{name}: {every[name](play)}", flush=True)

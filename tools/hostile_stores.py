@@ -58,8 +58,8 @@ def end(server: Server) -> None:
 
 def put_and_take(space: Space) -> None:
     """60 tuples of 127 KB each, and then none."""
-    space.out_many([("big", number, *[LARGE] * 31) for number in range(TUPLES)], timeout=20)
-    space.take_many("big", *[ANY] * 32, count=TUPLES, timeout=20)
+    space.out_many([("big", number, *[LARGE] * 31) for number in range(TUPLES)], timeout=120)
+    space.take_many("big", *[ANY] * 32, count=TUPLES, timeout=120)
 
 
 def lives(program: Path, folder: Path) -> str:
@@ -89,7 +89,7 @@ def small(program: Path, folder: Path) -> str:
             server = Server(folder, program=program)
             try:
                 with Space([server.port], client=1, patience=2) as space:
-                    space.purge("big", *[ANY] * 32, timeout=20)
+                    space.purge("big", *[ANY] * 32, timeout=120)
                     while pairs < PAIRS:
                         put_and_take(space)
                         pairs += TUPLES

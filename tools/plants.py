@@ -176,6 +176,10 @@ PLANTS = [
          f"{SERVE}/store.rt", "        Ok(FileDisk::with_front(alloc, file)?)\n", "        Ok(FileDisk::new(alloc, file)?)\n", build="two"),
     edit("receipts are never forgotten", "counts", f"{COUNTS} memory_over_many_puts", "each taken, leave",
          f"{NET}_watch/src/looking.rt", "        shared.forget(rt);\n", "", build="one"),
+    edit("a loop never forgets a client", "counts", f"{COUNTS} memory_of_clients_that_went", "that greeted and went leave",
+         f"{NET}_loops/src/sessions.rt", "            let _ = self.clients.remove(&client);\n            relays", "            relays", build="two"),
+    edit("what says which loop has a client never forgets one", "counts", f"{COUNTS} memory_of_clients_that_went", "that greeted and went leave",
+         f"{NET}_relays/src/relays.rt", "            let _ = routes.remove(&client);\n", "            let _ = &mut routes;\n", build="one"),
     # ---- room ahead of records
     edit("no room is written ahead", "sockets", f"{SOCKETS} room_is_written_ahead", "nothing is written ahead",
          f"{NET}_watch/src/looking.rt", "        ahead.look(rt, shared);\n", "        let _ = &mut ahead;\n", build="two"),
@@ -225,6 +229,8 @@ PLANTS = [
     Plant("each sync waits for 20 ms before", "ratios", f"{RATIOS} puts_against_syncs", "FAILED",
           "int fdatasync(int file) { usleep(20000); return NEXT(fdatasync)(file); }"),
     edit("no snapshot is in steps", "ratios", f"{RATIOS} replies_during_a_snapshot", "FAILED", f"{NET}_watch/src/snapshots.rt", ".used < STEP {", ".used > 0 {", build="two"),
+    edit("a snapshot takes its steps without a pause", "device", f"{DEVICE} others_have_the_server_between_steps", "the next one began at once",
+         f"{NET}_watch/src/snapshots.rt", "            Ok(Progress::Going) => thread::sleep(rt, pause()),\n", "            Ok(Progress::Going) => {}\n", build="one"),
     edit("alarms of a call come up to 50 ms late", "ratios", f"{RATIOS} alarms_of_a_call", "FAILED",
          "crates/linda_net_proxy/src/inbox.rt", "Duration::from_millis(1),", "Duration::from_millis(50),", build="two"),
     edit("each put is spelled a hundred times", "instructions", "bench/instructions", "instructions a put",
@@ -246,6 +252,10 @@ PLANTS = [
     # ---- the libraries
     edit("a hold is not asked for again after its server was away", "python", f"{PYTHON}/test_linda_space.py", "FAIL: test_each_call_that_waits",
          f"{PYTHON}/linda_space/machine.py", "        self.sent += packets\n", "        self.sent += [] if isinstance(self.task, Syncing) and self.task.is_hold else packets\n"),
+    edit("a hold without a time is not asked for again after a stop", "simulate", SIMULATE, "waits for a job|have not come to rest",
+         f"{PYTHON}/linda_space/machine.py", "        packets = [packet for packet in self.unanswered(self.task) if packet[0] == server]\n        self.sent += packets\n",
+         "        packets = [packet for packet in self.unanswered(self.task) if packet[0] == server]\n"
+         "        self.sent += [] if isinstance(self.task, Syncing) and self.task.is_hold else packets\n"),
     edit("what an interrupted take took goes to the next take", "python", f"{PYTHON}/test_linda_space.py Waits.test_ctrl_c_while_a_tuple_is_taken", "AssertionError",
          f"{PYTHON}/linda_space/machine.py", "if base.leaf.fits(had.tuple or ()):", "if had.tuple and had.tuple[0] == base.leaf.template[0]:"),
     edit("a call of Python takes 5 ms more", "ratios", f"{RATIOS} calls_of_python", "FAILED",
@@ -316,6 +326,14 @@ def misplaced() -> list[str]:
                 wrong.append(f"tools/plants.py: {plant.name}: {name} has its old text {count} times: {old.strip().splitlines()[0]}")
             texts[at] = texts[at].replace(old, new)
     return wrong
+
+
+def show(parts: list[str]) -> None:
+    """Prints by part what it sees, by which command."""
+    for part in dict.fromkeys(it.part for it in PLANTS if not parts or it.part in parts):
+        for plant in PLANTS:
+            if plant.part == part:
+                print(f"{part}: {plant.name}: {plant.command}{' (something is built for it)' * plant.is_dear()}")
 
 
 def said(*words: object, cwd: Path = TOP) -> str:

@@ -268,9 +268,9 @@ class OverServers(WithServers):
         space, other = self.space(server), self.space(server, client=8)
         begin = time.monotonic()
         self.assertIsNone(space.take("a", timeout=0.2))
-        self.assertTrue(0.19 <= time.monotonic() - begin < 5)
+        self.assertTrue(0.19 <= time.monotonic() - begin < PATIENCE)
         other.out("a")
-        self.assertEqual(other.take("a", timeout=5), ("a",))
+        self.assertEqual(other.take("a", timeout=PATIENCE), ("a",))
         self.assertIsNone(space.read("a", timeout=0))
 
     def test_kill_under_a_take(self) -> None:

@@ -1,13 +1,15 @@
-"""Clients by the Python library of clients/python: puts, takes, reads, choices, holds, second lives, and leaving."""
+"""Clients by the Python library of clients/python: puts, takes, reads, choices, holds, waits without a time, second
+lives, and leaving."""
 
 from __future__ import annotations
 
 import sys
+import threading
 import time
 from typing import Callable
 
 from served import TOP
-from simulator.clients import JOB, Around, Client
+from simulator.clients import JOB, PATIENCE, Around, Client, Over
 from simulator.wire import Fault
 
 sys.path.insert(0, str(TOP / "clients" / "python"))
@@ -16,6 +18,10 @@ from linda_space import INT, TEXT, In, Nack, Rd, Space, SpaceError, Wrap  # noqa
 
 PAUSE = 0.02
 FITS = JOB, INT, INT, TEXT
+# One that waits without a time has its tuple so many seconds after it was put, at the latest. It is put so many seconds
+# after the wait began, and another one each so many seconds after that, since others may take it.
+SOON = 40.0
+BEFORE_A_PUT, BETWEEN_PUTS = [0.0, 0.1, 0.5, 1.0], 0.2
 
 
 class LibraryClient(Client):
@@ -41,6 +47,8 @@ class LibraryClient(Client):
             self.ask_kept()
         elif what < 0.205:
             self.leave()
+        elif what < 0.235:
+            self.wait()
         elif self.puts_next():
             self.put()
         else:
@@ -142,8 +150,28 @@ class LibraryClient(Client):
 
     def hold(self) -> None:
         """Holds a tuple for a while, and takes it or gives it free."""
+        self.hold_one(FITS, 0.1)
+
+    def wait(self) -> None:
+        """Waits for a tuple, for as long as it takes, that another client puts after a while, and holds it. Servers that
+        stop meanwhile are asked again."""
+        self.alive()
+        putter, stops = Putter(self), self.around.counts["stops"]
+        putter.start()
         try:
-            with self.alive().hold(*FITS, timeout=0.1) as offer:
+            self.hold_one((JOB, putter.number, INT, TEXT), None, putter.is_enough)
+        finally:
+            putter.is_enough.set()
+            putter.join(PATIENCE)
+            self.puts += putter.puts
+        self.around.counts["holds without a time"] += 1
+        self.around.counts["of these over a stop"] += self.around.counts["stops"] > stops
+
+    def hold_one(self, template: tuple, timeout: float | None, is_there: threading.Event | None = None) -> None:
+        try:
+            with self.alive().hold(*template, timeout=timeout) as offer:
+                if is_there:
+                    is_there.set()
                 if offer is None:
                     return
                 self.was_read(offer.server, offer.id, offer.tuple)
@@ -175,3 +203,36 @@ class LibraryClient(Client):
                     raise Fault(f"left, and server {model.number} did not answer so")
         self.end()
         self.number, self.is_new = self.around.new_number(), True
+
+
+class Putter(LibraryClient):
+    """Puts jobs under a number of its own, after a while and then one after another, until one that waits has one. At
+    the end of a round too: else that one would wait for ever."""
+
+    kind = "one that puts"
+
+    def __init__(self, waiting: LibraryClient) -> None:
+        super().__init__(waiting.around, f"{waiting.dice.random()}", waiting.ports)
+        self.waiting, self.is_enough = waiting.number, threading.Event()
+
+    def run(self) -> None:
+        try:
+            self.is_enough.wait(self.dice.choice(BEFORE_A_PUT))
+            first = time.monotonic()
+            while not self.is_enough.is_set():
+                self.put()
+                self.is_enough.wait(BETWEEN_PUTS)
+                if time.monotonic() - first > SOON:
+                    raise Fault(f"client {self.waiting} waits for a job for {SOON:.0f} s, and {self.puts} were put")
+        except Over:
+            pass
+        except Exception as fault:  # noqa: BLE001
+            self.around.fail(f"{self.kind}, client {self.number}: {fault}")
+        finally:
+            self.end()
+
+    def check_time(self, began: float, what: str) -> None:
+        if self.around.network.is_over:
+            raise Over
+        if time.monotonic() - began > PATIENCE:
+            raise Fault(f"no end of {what} after {PATIENCE:.0f} s")
