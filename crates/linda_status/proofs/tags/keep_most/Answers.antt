@@ -5,8 +5,8 @@ use Rattle.linda_status.proofs.tags.keep_most.Goals as goal
 
 pub returns-clause-most : goal.returns-clause-most
 returns-clause-most c = record {
-    sorted = c.put_most_first.new.rows.items;
-    same = subst (λ (rs : List ListedKind). IsPermutation rs c.put_most_first.new.rows.items) c.in_ok-append.ensures.items c.in_ok-put_most_first.ensures.same;
-    most = c.in_ok-put_most_first.ensures.sorted;
-    first = c.truncate.ensures.items;
-  }
+  sorted = c.put_most_first.new.rows.items;
+  same = subst (λ (rs : List ListedKind). IsPermutation rs c.put_most_first.new.rows.items) c.in_ok-append.ensures.items c.in_ok-put_most_first.ensures.same;
+  most = c.in_ok-put_most_first.ensures.sorted;
+  first = c.truncate.ensures.items;
+}
