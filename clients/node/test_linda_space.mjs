@@ -239,7 +239,8 @@ async function patient(call) {
         try {
             return await call();
         } catch (fault) {
-            const isSlow = fault instanceof NoConnection || fault instanceof TimedOut;
+            // (a server may be so slow that it has not seen yet that a connection before ended)
+            const isSlow = fault instanceof NoConnection || fault instanceof TimedOut || (fault instanceof Refused && fault.reason === 'Busy');
             if (!isSlow || performance.now() > end) throw fault;
         }
     }
