@@ -239,7 +239,8 @@ async function patient(call) {
         try {
             return await call();
         } catch (fault) {
-            const isSlow = fault instanceof NoConnection || fault instanceof TimedOut;
+            // (a server may be so slow that it has not seen yet that a connection before ended)
+            const isSlow = fault instanceof NoConnection || fault instanceof TimedOut || (fault instanceof Refused && fault.reason === 'Busy');
             if (!isSlow || performance.now() > end) throw fault;
         }
     }
@@ -275,6 +276,17 @@ async function encrypted(scene, port) {
     scene.closed.push(() => listener.close());
     return listener.address().port;
 }
+
+/** What plays it in a folder of its own, and again, four times in all, if what was held is gone: on a busy machine this program may stand still for longer than a lease. */
+const unlessLate = (work) => async (scene) => {
+    for (let left = 3; ; left--) {
+        try {
+            return await work(scene, `try ${left}`);
+        } catch (fault) {
+            if (left === 0 || !(fault instanceof Gone)) throw fault;
+        }
+    }
+};
 
 /** A test with a scene of its own. */
 const play = (name, work) => test(name, { timeout: LIMIT }, (context) => work(new Scene(context)));
@@ -1774,8 +1786,8 @@ describe('holds', { concurrency: 4 }, () => {
         assert.equal(await one.look(['x']), null);
     });
 
-    play('what is held is renewed while a call waits', async (scene) => {
-        const server = await scene.serve('one', 0, '--lease', '2');
+    play('what is held is renewed while a call waits', unlessLate(async (scene, folder) => {
+        const server = await scene.serve(folder, 0, '--lease', '2');
         const one = await scene.space(server);
         await one.outMany([['job', 1], ['job', 2]]);
         const held = await one.hold(['job', 1]);
@@ -1786,17 +1798,17 @@ describe('holds', { concurrency: 4 }, () => {
         await sleep(5_500);
         assert.equal(other.isHeld, false);
         await fails(one.out(['x']), Gone);
-    });
+    }));
 
-    play('keep renews beside calls', async (scene) => {
-        const server = await scene.serve('one', 0, '--lease', '2');
+    play('keep renews beside calls', unlessLate(async (scene, folder) => {
+        const server = await scene.serve(folder, 0, '--lease', '2');
         const one = await scene.space(server);
         await one.out(['job', 1]);
         const held = await one.hold(['job', 1], { keep: 300 });
         await sleep(5_500);
         assert.deepEqual([held.isHeld, await held.accept()], [true, ['job', 1]]);
         for (const keep of [0, -1, '5', NaN]) await fails(one.hold(['job', 1], { keep }), OutOfRange);
-    });
+    }));
 
     play('keep ends with the hold', async (scene) => {
         const fake = await scene.fake(async (peer) => {

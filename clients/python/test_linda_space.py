@@ -853,7 +853,9 @@ class Waits(WithServers):
             listener.listen(16)
             self.assertEqual(self.timed(0.3, lambda: space.take("a"), NoConnection).server, 1)
             self.assertEqual((space.pending, space.out("a")), (None, (0, 1)))
-            fault = self.timed(0.2, lambda: space.out("b", timeout=0.2), TimedOut)
+            # (on a busy machine a short patience may be over as soon as the time)
+            with mock.patch.object(space, "_patience", PATIENCE):
+                fault = self.timed(0.2, lambda: space.out("b", timeout=0.2), TimedOut)
             self.assertEqual((fault.servers, fault.pending), ((1,), "out"))
         self.serve("right", right.port)
         self.assertEqual(space.again(), Stored(1, 1))
