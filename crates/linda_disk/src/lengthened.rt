@@ -1,4 +1,4 @@
-//! Bytes behind the end of a file, or the file as it was if the device has no room for them.
+//! Bytes after the end of a file, or the file as it was if the device has no room for them.
 
 ghost use Rattle.std.specs.Prelude.{◌≡◌, ◌⊎◌, ◌↔◌, ◌≤◌, ℕ, List, length, take, OnOk};
 ghost use Rattle.linda_disk.specs.View.{IsDurable};
@@ -9,7 +9,7 @@ ghost use Rattle.linda_disk.specs.Run.{LeavesOnly};
 use crate::disk::Disk;
 use crate::fault::DiskFault;
 
-/// Writes these bytes behind the end of the file, which is at this offset, and syncs them; returns
+/// Writes these bytes after the end of the file, which is at this offset, and syncs them; returns
 /// whether they are there. If the device does not take them, the file is cut to what it was, which
 /// is synced too. At each moment the file begins with what it had.
 ///

@@ -59,6 +59,8 @@ module _ {D : Type 0} {g : Ghosts D} where
         → IfOk result (λ b. b ≡ true → min to old.limit ≤ length (g.view new.disk).seen)
     pub within : g.honest old.disk → OnOk result (length (g.view new.disk).seen
         ≤ max (length (g.view old.disk).seen) (min to old.limit))
+    -- After a fault the bank is spent.
+    pub off : IfErr result (λ fault. new.is_spent ≡ true)
     pub cause : IfErr result
         (λ fault. TellsFailures Device fault (g.failures old.disk) (g.failures new.disk))
     pub honest : g.honest old.disk ↔ g.honest new.disk

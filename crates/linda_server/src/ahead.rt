@@ -11,7 +11,7 @@ use linda_journal::Bank;
 use std::alloc::Global;
 
 /// Sees to it that the file of the bank in use has so many bytes, or as many as its limit allows:
-/// closed gates behind what it has. Returns whether it has them; else it is as it was. The other
+/// closed gates after what it has. Returns whether it has them; else it is as it was. The other
 /// disk is not touched.
 ///
 /// # Errors

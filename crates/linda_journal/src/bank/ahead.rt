@@ -1,4 +1,4 @@
-//! Room behind the end of a bank, written ahead of its use: records that come there need no new
+//! Room after the end of a bank, written ahead of its use: records that come there need no new
 //! length of the file.
 
 ghost use Rattle.std.specs.Prelude.{◌≡◌, false};
@@ -14,8 +14,8 @@ impl<D: Disk> Bank<D> {
     ghost use Rattle.linda_journal.specs.Ahead.{WritesAhead};
 
     /// Sees to it that the bank's file has so many bytes, or as many as its limit allows: closed
-    /// gates are written behind what it has, and synced. Whoever reads the bank ends at the closed
-    /// gate before them. Returns whether it has them. If the device does not take them, or memory
+    /// gates are written after what it has, and synced. A reader of the bank ends at the closed gate
+    /// before them. Returns whether it has them. If the device does not take them, or memory
     /// runs out, the file is as it was.
     ///
     /// # Errors
@@ -37,7 +37,7 @@ impl<D: Disk> Bank<D> {
     }
 }
 
-// Sees to it that the file has so many bytes: writes closed gates behind what it has, and syncs
+// Sees to it that the file has so many bytes: writes closed gates after what it has, and syncs
 // them.
 fn reach<D: Disk>(alloc: Global, disk: &mut D, to: usize) -> Result<bool, DiskFault>
     requires { D.honest disk.old → IsDurable (D.view disk.old) }

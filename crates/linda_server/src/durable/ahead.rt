@@ -15,7 +15,7 @@ impl<D: Disk> Durable<D> {
     ghost use Rattle.linda_server.specs.Ahead.{IsAhead};
 
     /// Sees to it that the file of the bank in use has so many bytes, or as many as its limit
-    /// allows: closed gates are written behind what it has, and synced, so that records that come
+    /// allows: closed gates are written after what it has, and synced, so that records that come
     /// there need no new length of the file. Returns whether it has them. If the device does not
     /// take them, or memory runs out, the file is as it was, and the server goes on. Nothing
     /// changes that a client sees, nor what a snapshot in steps comes to.
@@ -28,7 +28,7 @@ impl<D: Disk> Durable<D> {
         ensures rewrites { Rewrites self.old result self.new }
         ensures falls { Falls self.old result self.new }
         ensures never_full { IsErrOf result NodeFault.Full → ⊥ }
-        // At Ok the bank in use is the same, with more closed gates behind its end or none, and the
+        // At Ok the bank in use is the same, with more closed gates after its end or none, and the
         // other disk is as it was.
         ensures ahead { IfOk result (λ b. IsAhead to b self.old.disks self.new.disks) }
         ensures next { self.new.next ≡ self.old.next }
@@ -51,7 +51,7 @@ impl<D: Disk> Durable<D> {
         ensures rewrites { Rewrites self.old result self.new }
         ensures fails { Fails self.old result self.new }
         ensures never_full { IsErrOf result ServeFault.Full → ⊥ }
-        // At Ok the bank in use is the same, with more closed gates behind its end or none, and the
+        // At Ok the bank in use is the same, with more closed gates after its end or none, and the
         // other disk is as it was.
         ensures ahead { IfOk result (λ b. IsAhead to b self.old.disks self.new.disks) }
         ensures next { self.new.next ≡ self.old.next }

@@ -14,6 +14,7 @@ returns-in-Err g c =
       more = search rules;
       long = search rules;
       within = search rules;
+      off = refl;
       cause = c.in-Err.ensures.cause;
       honest = c.in-Err.ensures.honest;
     }
@@ -31,6 +32,7 @@ returns-in-Ok g c =
       more = c.in-Ok.ensures.more;
       long = search (rules, c.min.ensures, c.in-Ok.ensures.long);
       within = search (rules, c.min.ensures, c.in-Ok.ensures.within);
+      off = search rules;
       cause = search rules;
       honest = c.in-Ok.ensures.honest;
     }
