@@ -1,6 +1,7 @@
 -- Samples of the tags that are named: how many tuples have each.
 use Rattle.std.specs.Prelude.{ℕ, Bool, false, List, [], ◌∷◌, ◌++◌, ◌==◌, codes, if◌then◌else◌}
 use Rattle.std.specs.Prelude.{String, string_bytes}
+use Rattle.std.specs.declared.alloc.Global.{Global}
 use Rattle.std.specs.List.{flat_map, list_any}
 use Rattle.std.specs.Str.{bytes_eq}
 use Rattle.linda_tuple.specs.declared.atom.Atom.{Atom}
@@ -16,7 +17,7 @@ is_text (atoms.Text own) text = bytes_eq own text
 is_text (atoms.Bool b) text = false
 
 -- Whether the tag of a row is one of these texts.
-abbrev pub is_named : List String → ListedKind → Bool
+abbrev pub is_named : List (String Global) → ListedKind → Bool
 is_named tags row = list_any (λ tag. is_text row.tag (string_bytes tag)) tags
 
 -- How many tuples a row has, if their tag is this text; else 0.
