@@ -209,6 +209,8 @@ class Bench:
             offer, take = (statistics.median(times) / 1e3 for times in zip(*lines["wake"]))
             return found | {"offer": offer, "take": take, "syncs": take * fast / 1e6}
         rates = rates_of(lines)
+        if not fast or not mean:
+            raise Missing("the loop had no sync: the disk stood still")
         return found | {"rate": rates[0], "fast": rates[0] / fast, "mean": rates[1] / mean}
 
     def hold(self, server: Server | redis.Redis, count: int, kind: str = "hold") -> Measures:
