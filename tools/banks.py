@@ -241,9 +241,9 @@ def spell_bank(generation: int, state: State) -> bytes:
 
     replies = {"Stored": 1, "Taken": 2, "Gone": 3, "Left": 4}
     snapshot = number(state.next) + number(len(state.bag), 4) + b"".join(number(place) + state.bag[place] for place in sorted(state.bag))
-    snapshot += number(len(state.book), 4)
-    for client, (last, (name, *parts)) in sorted(state.book.items()):
-        snapshot += number(client, 4) + number(last) + bytes([replies[name]]) + b"".join(part if isinstance(part, bytes) else number(part) for part in parts)
+    entries = [number(client, 4) + number(last) + bytes([replies[name]]) + b"".join(part if isinstance(part, bytes) else number(part) for part in parts)
+               for client, (last, (name, *parts)) in sorted(state.book.items())]
+    snapshot += number(len(entries), 4) + b"".join(entries)
     return b"\1" + LETTERS[NEW] + number(generation) + number(len(snapshot), 4) + snapshot + b"\0"
 
 

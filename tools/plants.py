@@ -156,6 +156,8 @@ PLANTS = [
          "crates/linda_server/src/durable/steps.rt", "                Ok(None) => Ok(Progress::Done),\n                Err(fault) => {\n"
          "                    self.before = Moment::of(self.store.state());\n                    self.down = true;\n",
          "                Ok(None) => Ok(Progress::Done),\n                Err(fault) => {\n                    self.before = Moment::of(self.store.state());\n"),
+    edit("a server goes on after a group for which memory ran out", "refused growths, tests", f"{REFUSED} sessions refused", "a_group_is_served_or_nobody_is_up: growth",
+         "crates/linda_server/src/durable/serve.rt", "            return Err(ServeFault::Memory);\n", "            self.down = false;\n            return Err(ServeFault::Memory);\n"),
     edit("a copy is not made anew", "sockets", f"{SOCKETS} a_copy_while_banks_change", "FAILED", "examples/backup.sh", '[ "$(heads "$1")" != "$before" ]', "false"),
     # ---- what is left open, busy or in memory
     Plant("a connection over a unix socket leaves a descriptor", "counts", f"{COUNTS} files_of_a_server", "over a unix socket",
@@ -231,6 +233,11 @@ PLANTS = [
     edit("no snapshot is in steps", "ratios", f"{RATIOS} replies_during_a_snapshot", "FAILED", f"{NET}_watch/src/snapshots.rt", ".used < STEP {", ".used > 0 {", build="two"),
     edit("a snapshot takes its steps without a pause", "device", f"{DEVICE} others_have_the_server_between_steps", "the next one began at once",
          f"{NET}_watch/src/snapshots.rt", "            Ok(Progress::Going) => thread::sleep(rt, pause()),\n", "            Ok(Progress::Going) => {}\n", build="one"),
+    edit("between two steps of a snapshot it is slept ten times as long", "device", f"{DEVICE} others_have_the_server_between_steps", "it was slept for more",
+         f"{NET}_watch/src/snapshots.rt", "            Ok(Progress::Going) => thread::sleep(rt, pause()),\n",
+         "            Ok(Progress::Going) => thread::sleep(rt, Duration::from_millis(10 * PAUSE)),\n", build="three"),
+    edit("notices are looked for once a second", "device", f"{DEVICE} others_have_the_server_between_steps", "what is looked for is late",
+         f"{NET}_watch/src/watching.rt", "        thread::sleep(rt, look());\n    }", "        thread::sleep(rt, std::time::Duration::from_millis(1_000));\n    }", build="one"),
     edit("alarms of a call come up to 50 ms late", "ratios", f"{RATIOS} alarms_of_a_call", "FAILED",
          "crates/linda_net_proxy/src/inbox.rt", "Duration::from_millis(1),", "Duration::from_millis(50),", build="two"),
     edit("each put is spelled a hundred times", "instructions", "bench/instructions", "instructions a put",

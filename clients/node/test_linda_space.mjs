@@ -1811,18 +1811,21 @@ describe('holds', { concurrency: 4 }, () => {
     }));
 
     play('keep ends with the hold', async (scene) => {
+        let isRenewed;
+        const renewed = new Promise((resolve) => { isRenewed = resolve; });
         const fake = await scene.fake(async (peer) => {
             await greets(peer, 0);
             await peer.expect(frames.ask(1, true, ['a']));
             peer.send(offer(1, 3, ['a']));
             await peer.expect(RENEWAL, RENEWAL, RENEWAL);
+            isRenewed();
             await peer.until(() => peer.came.includes(frames.cancel(1)));
             const rest = peer.came.subarray(peer.came.indexOf(frames.cancel(1)) + frames.cancel(1).length);
             peer.came = Buffer.from(rest);
             await peer.end();
         });
         const one = await scene.space(fake), held = await one.hold(['a'], { keep: 20 });
-        await sleep(300);
+        await renewed;
         held.release();
         await sleep(200);
         one.close();

@@ -1,32 +1,15 @@
 -- What has no keys has no rows, and the other way round.
-use Rattle.std.proofs.Common.{◌≡◌, ℕ, arith, ◌||◌, true, false, cond, List, [], ◌∷◌, Option, Some, None, is_some, length, ◌↔◌, refl, sym, ap, subst, ◌∙◌, nat_cmp, true≢false}
+use Rattle.std.proofs.Common.{◌≡◌, arith, true, false, cond, List, [], ◌∷◌, Option, Some, None, is_some, length, ◌↔◌, refl, sym, ap, subst, ◌∙◌, true≢false}
 use Rattle.std.specs.declared.cmp.Ordering.{Ordering}
 use Rattle.std.specs.Ordering.{is_eq}
-use Rattle.std.specs.List.{list_any}
 use Rattle.std.specs.Map.{lookup}
 use Rattle.std.specs.BTreeMap as tree
 use Rattle.std.specs.BTreeMap.{BTreeMap, is_at}
 use Rattle.linda_bag.specs.Filing.{Rows, IsBare, IsShelved, row_at, placed, IsFiled}
-use Rattle.linda_bag.proofs.OrderLaws.{number_itself}
 
 pub no_such : {T : Type 0} (o : Option T) → is_some o ≡ false → o ≡ None
 no_such None e = refl
 no_such (Some row) e = absurd (true≢false e)
-
--- Of a set of ids.
-none_among : (keys : List ℕ) → length keys ≡ 0 → (q : ℕ) → list_any (is_at (nat_cmp q)) keys ≡ false
-none_among [] none q = refl
-none_among (k ∷ keys) none q = absurd (omega arith)
-
-no_keys : (keys : List ℕ) → ((q : ℕ) → list_any (is_at (nat_cmp q)) keys ≡ false) → length keys ≡ 0
-no_keys [] none = refl
-no_keys (k ∷ keys) none = absurd (true≢false (sym (ap (λ b. b || list_any (is_at (nat_cmp k)) keys) (number_itself k)) ∙ none k))
-
-pub set_bare : {T : Type 0} (keys : List ℕ) (rows : Rows T) → ((q : ℕ) → list_any (is_at (nat_cmp q)) keys ≡ is_some (rows q)) → (length keys ≡ 0) ↔ IsBare rows
-set_bare keys rows same = (
-  (λ none q. no_such (rows q) (sym (same q) ∙ none_among keys none q)),
-  (λ bare. no_keys keys (λ q. same q ∙ ap is_some (bare q))),
-)
 
 -- Of shelves under keys, where each row has a key.
 module _ {K S T : Type 0} (cmp : K → K → Ordering) (itself : (k : K) → is_eq (cmp k k) ≡ true) (Has : S → Rows T → Type 0) where

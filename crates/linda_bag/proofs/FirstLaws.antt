@@ -9,8 +9,9 @@ use Rattle.std.specs.BTreeMap.{is_at}
 use Rattle.linda_tuple.specs.declared.atom.Atom.{Atom}
 use Rattle.linda_tuple.specs.declared.atom.Atom.TheVariants as atoms
 use Rattle.linda_tuple.specs.contracts.atom.AtomOrd.TheImpl as atom_ord
-use Rattle.linda_bag.specs.Filing.{Rows, with_row, IsBare, IsShelved, IsFiled, row_at, placed, keyed}
+use Rattle.linda_bag.specs.Filing.{Rows, with_row, IsBare, IsShelved, IsFound, IsFiled, row_at, placed, keyed}
 use Rattle.linda_bag.specs.Ids.{IsOf}
+use Rattle.linda_bag.specs.Ints.{ids_at}
 use Rattle.linda_bag.specs.declared.firsts.Firsts.{Firsts}
 use Rattle.linda_bag.specs.Firsts.{HasFirsts, int_in, int_of, other_in, other_of, if_keyed, keyed_in, keyed_of}
 use Rattle.linda_bag.proofs.FilingLaws.{key_itself}
@@ -26,7 +27,26 @@ no_other_in (Some (atoms.Bool b)) asked int is = absurd (true≢false (ap is_som
 pub no_other : {R : Type 0} (first_of : R → Option Atom) (asked : R) (int : ℤ × R) → Some int ≡ placed (int_of first_of) (Some asked) → None ≡ placed (other_of first_of) (Some asked)
 no_other first_of asked = no_other_in (first_of asked) asked
 
--- A map without keys has no row that has one, and the other way round.
+-- Where nothing is found, no row has a key, and the other way round.
+module _ {K S T : Type 0} (cmp : K → K → Ordering) (itself : (k : K) → is_eq (cmp k k) ≡ true) (Has : S → Rows T → Type 0) (key_of : T → Option K) (shelf_at : K → Option S) (rows : Rows T) (filed : IsFound cmp Has key_of shelf_at rows) where
+  none_placed : ((q : K) → shelf_at q ≡ None) → (id : ℕ) → placed key_of (rows id) ≡ None
+  none_placed none id = by (placed key_of (rows id)) refl
+    where
+      by : (o : Option (K × T)) → placed key_of (rows id) ≡ o → o ≡ None
+      by None is = refl
+      by (Some place) is =
+          let gone : row_at cmp place.0 (placed key_of (rows id)) ≡ None = subst (λ o. IsShelved Has o (λ x. row_at cmp place.0 (placed key_of (rows x)))) (none place.0) (filed place.0) id in
+          let here : row_at cmp place.0 (placed key_of (rows id)) ≡ Some place.1 = ap (row_at cmp place.0) is ∙ ap (λ b. cond b (Some place.1) None) (itself place.0) in
+          absurd (true≢false (ap is_some (sym here ∙ gone)))
+
+  shelf_none : (o : Option S) (part : Rows T) → IsBare part → IsShelved Has o part → o ≡ None
+  shelf_none None part bare known = refl
+  shelf_none (Some shelf) part bare known = absurd (known.1 bare)
+
+  none_found : ((id : ℕ) → placed key_of (rows id) ≡ None) → (q : K) → shelf_at q ≡ None
+  none_found bare q = shelf_none (shelf_at q) _ (λ id. ap (row_at cmp q) (bare id)) (filed q)
+
+-- So it is with a map without keys.
 module _ {K S T : Type 0} (cmp : K → K → Ordering) (itself : (k : K) → is_eq (cmp k k) ≡ true) (Has : S → Rows T → Type 0) (key_of : T → Option K) (m : BTreeMap K S) (rows : Rows T) (filed : IsFiled cmp Has key_of m rows) where
   none_under : (es : List (K × S)) → length es ≡ 0 → (q : K) → lookup (is_at (cmp q)) es ≡ None
   none_under [] none q = refl
@@ -38,22 +58,11 @@ module _ {K S T : Type 0} (cmp : K → K → Ordering) (itself : (k : K) → is_
       let found : lookup (is_at (cmp e.0)) (e ∷ es) ≡ Some e.1 = ap (λ b. cond b (Some e.1) (lookup (is_at (cmp e.0)) es)) (itself e.0) in
       absurd (true≢false (ap is_some (sym found ∙ none e.0)))
 
-  shelf_none : (o : Option S) (part : Rows T) → IsBare part → IsShelved Has o part → o ≡ None
-  shelf_none None part bare known = refl
-  shelf_none (Some shelf) part bare known = absurd (known.1 bare)
-
   pub unplaced : length m.entries ≡ 0 → (id : ℕ) → placed key_of (rows id) ≡ None
-  unplaced none id = by (placed key_of (rows id)) refl
-    where
-      by : (o : Option (K × T)) → placed key_of (rows id) ≡ o → o ≡ None
-      by None is = refl
-      by (Some place) is =
-          let gone : row_at cmp place.0 (placed key_of (rows id)) ≡ None = subst (λ o. IsShelved Has o (λ x. row_at cmp place.0 (placed key_of (rows x)))) (none_under m.entries none place.0) (filed place.0) id in
-          let here : row_at cmp place.0 (placed key_of (rows id)) ≡ Some place.1 = ap (row_at cmp place.0) is ∙ ap (λ b. cond b (Some place.1) None) (itself place.0) in
-          absurd (true≢false (ap is_some (sym here ∙ gone)))
+  unplaced none = none_placed cmp itself Has key_of (tree.get cmp m) rows filed (none_under m.entries none)
 
   pub no_keys : ((id : ℕ) → placed key_of (rows id) ≡ None) → length m.entries ≡ 0
-  no_keys bare = no_entries m.entries (λ q. shelf_none (tree.get cmp m q) _ (λ id. ap (row_at cmp q) (bare id)) (filed q))
+  no_keys bare = no_entries m.entries (none_found cmp itself Has key_of (tree.get cmp m) rows filed bare)
 
 unplaced_either : {R : Type 0} (first_of : R → Option Atom) (o : Option R) → placed (int_of first_of) o ≡ None → placed (other_of first_of) o ≡ None → keyed_in first_of o ≡ None
 unplaced_either first_of None int other = refl
@@ -73,17 +82,17 @@ neither first_of (Some asked) none = by (first_of asked) none
     by None none = (refl, refl)
     by (Some v) none = absurd (true≢false (ap is_some none))
 
--- Where there are no keys, no template begins with a value.
-pub firsts_bare : {R : Type 0} (first_of : R → Option Atom) (firsts : Firsts) (asked : Rows R) → HasFirsts first_of firsts asked → ((length firsts.ints.entries ≡ 0) × (length firsts.others.entries ≡ 0)) ↔ IsBare (keyed_of first_of asked)
+-- Where there are no keys, no row begins with a value.
+pub firsts_bare : {R : Type 0} (first_of : R → Option Atom) (firsts : Firsts) (asked : Rows R) → HasFirsts first_of firsts asked → (((q : ℤ) → ids_at firsts.ints q ≡ None) × (length firsts.others.entries ≡ 0)) ↔ IsBare (keyed_of first_of asked)
 firsts_bare first_of firsts asked has = (
-  (λ none id. unplaced_either first_of (asked id) (unplaced int_cmp (key_itself int_cmp_total) IsOf (int_of first_of) firsts.ints asked has.0 none.0 id) (unplaced atom_ord.ghosts.cmp atom_itself IsOf (other_of first_of) firsts.others asked has.1 none.1 id)),
-  (λ bare. (no_keys int_cmp (key_itself int_cmp_total) IsOf (int_of first_of) firsts.ints asked has.0 (λ id. (neither first_of (asked id) (bare id)).0), no_keys atom_ord.ghosts.cmp atom_itself IsOf (other_of first_of) firsts.others asked has.1 (λ id. (neither first_of (asked id) (bare id)).1))),
+  (λ none id. unplaced_either first_of (asked id) (none_placed int_cmp (key_itself int_cmp_total) IsOf (int_of first_of) (ids_at firsts.ints) asked has.0 none.0 id) (unplaced atom_ord.ghosts.cmp atom_itself IsOf (other_of first_of) firsts.others asked has.1 none.1 id)),
+  (λ bare. (none_found int_cmp (key_itself int_cmp_total) IsOf (int_of first_of) (ids_at firsts.ints) asked has.0 (λ id. (neither first_of (asked id) (bare id)).0), no_keys atom_ord.ghosts.cmp atom_itself IsOf (other_of first_of) firsts.others asked has.1 (λ id. (neither first_of (asked id) (bare id)).1))),
 )
 
 -- A row that begins with no value is filed under none.
 pub unfiled : {R : Type 0} (first_of : R → Option Atom) (firsts : Firsts) (asked : Rows R) (id : ℕ) (new : R) → first_of new ≡ None → HasFirsts first_of firsts (with_row asked id None) → HasFirsts first_of firsts (with_row asked id (Some new))
 unfiled {R} first_of firsts asked id new none has = (
-  (λ q. subst (IsShelved IsOf (tree.get int_cmp firsts.ints q)) (λ j. λ x. same int_cmp (int_of first_of) (ap (λ f. keyed (int_in f) new) none) q x j) (has.0 q)),
+  (λ q. subst (IsShelved IsOf (ids_at firsts.ints q)) (λ j. λ x. same int_cmp (int_of first_of) (ap (λ f. keyed (int_in f) new) none) q x j) (has.0 q)),
   (λ q. subst (IsShelved IsOf (tree.get atom_ord.ghosts.cmp firsts.others q)) (λ j. λ x. same atom_ord.ghosts.cmp (other_of first_of) (ap (λ f. keyed (other_in f) new) none) q x j) (has.1 q)),
 )
   where

@@ -5,6 +5,7 @@ pub mod FilingLaws
 pub mod HeadLaws
 pub mod OrderLaws
 pub mod SetLaws
+pub mod IntLaws
 pub mod BareLaws
 pub mod NotedLaws
 pub mod PlaceLaws

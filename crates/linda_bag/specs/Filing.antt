@@ -1,6 +1,6 @@
 -- Index of ids: the ids of some rows, each filed under what its row has. A row may be of any type,
 -- as a tuple or a request.
-use Rattle.std.specs.Prelude.{◌≡◌, ℕ, false, cond, Option, None, Some}
+use Rattle.std.specs.Prelude.{◌≡◌, ℕ, true, false, cond, Option, None, Some}
 use Rattle.std.specs.declared.cmp.Ordering.{Ordering}
 use Rattle.std.specs.Ordering.{is_eq, nat_cmp}
 use Rattle.std.specs.Borrow.{Bor}
@@ -75,24 +75,48 @@ module _ {K T : Type 0} (cmp : K → K → Ordering) where
   rows_at key_of q rows id = row_at q (placed key_of (rows id))
 
   module _ {S : Type 0} (Has : S → Rows T → Type 0) where
+    -- Under each key is found a shelf with the rows of that key, if there are any. What is found
+    -- under a key is said by a look-up, as shelves may be in a map of any kind.
+    abbrev pub IsFoundBy : (K → Option S) → (K → Rows T) → Type 0
+    IsFoundBy shelf_at parts = (q : K) → IsShelved Has (shelf_at q) (parts q)
+
+    -- Under each key is found a shelf with the rows to which `key_of` gives that key, if there are
+    -- any.
+    abbrev pub IsFound : (T → Option K) → (K → Option S) → Rows T → Type 0
+    IsFound key_of shelf_at rows = IsFoundBy shelf_at (λ q. rows_at key_of q rows)
+
+    -- The parts were found, and are found still, but for the id: it was filed by `before` and is
+    -- now by `after`.
+    abbrev pub RefilesFound : (K → Option S) → (K → Option S) → ℕ
+        → Option (K × T) → Option (K × T) → Type 0
+    RefilesFound old new id before after =
+        (parts : K → Rows T)
+        → ((q : K) → parts q id ≡ row_at q before)
+        → IsFoundBy old parts
+        → IsFoundBy new (λ q. with_row (parts q) id (row_at q after))
+
+    -- What is found under one key changed: there the id was filed by `before`, and is now by
+    -- `after`; under the others is found what was there.
+    pub record RefilesUnder (old new : K → Option S) (key : K) (id : ℕ) (before after : Option T)
+        : Type 0 where
+      pub here : (q : K) → is_eq (cmp key q) ≡ true
+          → Refiles (IsShelved Has (old q)) (IsShelved Has (new q)) id before after
+      pub apart : (q : K) → is_eq (cmp key q) ≡ false → new q ≡ old q
+
     -- Under each key stands a shelf with the rows of that key, where there are any.
     abbrev pub IsFiledBy : BTreeMap K S → (K → Rows T) → Type 0
-    IsFiledBy shelves parts = (q : K) → IsShelved Has (get cmp shelves q) (parts q)
+    IsFiledBy shelves parts = IsFoundBy (get cmp shelves) parts
 
     -- Under each key stands a shelf with the rows to which `key_of` gives that key, where there are
     -- any.
     abbrev pub IsFiled : (T → Option K) → BTreeMap K S → Rows T → Type 0
-    IsFiled key_of shelves rows = IsFiledBy shelves (λ q. rows_at key_of q rows)
+    IsFiled key_of shelves rows = IsFound key_of (get cmp shelves) rows
 
     -- The shelves had the parts, and have them still, but for the id: it was filed by `before` and
     -- is now by `after`.
     abbrev pub RefilesBy : BTreeMap K S → BTreeMap K S → ℕ → Option (K × T) → Option (K × T)
         → Type 0
-    RefilesBy old new id before after =
-        (parts : K → Rows T)
-        → ((q : K) → parts q id ≡ row_at q before)
-        → IsFiledBy old parts
-        → IsFiledBy new (λ q. with_row (parts q) id (row_at q after))
+    RefilesBy old new id before after = RefilesFound (get cmp old) (get cmp new) id before after
 
     -- One shelf changed: where it stands the id was filed by `before`, and is now by `after`; the
     -- others are as they were.

@@ -6,8 +6,9 @@ use Rattle.linda_tuple.specs.declared.atom.Atom.{Atom}
 use Rattle.linda_tuple.specs.declared.atom.Atom.TheVariants as atoms
 use Rattle.linda_tuple.specs.contracts.atom.AtomOrd.TheImpl as atom_ord
 use Rattle.linda_bag.specs.declared.firsts.Firsts.{Firsts}
-use Rattle.linda_bag.specs.Filing.{Rows, IsFiled}
+use Rattle.linda_bag.specs.Filing.{Rows, IsFound, IsFiled}
 use Rattle.linda_bag.specs.Ids.{IsOf}
+use Rattle.linda_bag.specs.Ints.{ids_at}
 
 -- the value, if it is an integer
 abbrev pub int_in : Option Atom → Option ℤ
@@ -46,5 +47,5 @@ module _ {R : Type 0} (first_of : R → Option Atom) where
   -- Under each such value stand the ids of the rows that begin with it.
   abbrev pub HasFirsts : Firsts → Rows R → Type 0
   HasFirsts firsts rows =
-      IsFiled int_cmp IsOf int_of firsts.ints rows
+      IsFound int_cmp IsOf int_of (ids_at firsts.ints) rows
       × IsFiled atom_ord.ghosts.cmp IsOf other_of firsts.others rows

@@ -3,6 +3,7 @@ pub mod FreeMatch
 pub mod Filing
 pub mod Heads
 pub mod Ids
+pub mod Ints
 pub mod Tuples
 pub mod Candidates
 pub mod Firsts

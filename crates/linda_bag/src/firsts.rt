@@ -1,6 +1,5 @@
 //! The values that rows of one tag and one number of fields begin with, and the ids under each.
-//! Most are integers: those are in a map of their own, whose entries are small, so that a look-up
-//! reads little memory.
+//! Most are integers: those are in a map of their own, by blocks, since most of them rise.
 
 ghost use Rattle.std.specs.Prelude.{◌≡◌, ◌↔◌, Some, None, OnOk, OnErr, IsTrue};
 ghost use Rattle.std.specs.Option.{option_copied};
@@ -12,7 +11,9 @@ ghost use Rattle.linda_bag.specs.Firsts.{HasFirsts, int_of, other_of, keyed_of};
 
 use crate::heads::Headed;
 use crate::ids::Ids;
+use crate::ints;
 use crate::shelf::{refile, unfile_if_any};
+use linda_rising::RisingMap;
 use linda_tuple::Atom;
 use std::alloc::{AllocError, Global};
 use std::collections::BTreeMap;
@@ -21,7 +22,7 @@ use std::collections::BTreeMap;
 /// none.
 #[derive(Drop)]
 pub struct Firsts {
-    ints: BTreeMap<i64, Ids>,
+    ints: RisingMap<Ids>,
     others: BTreeMap<Atom, Ids>,
 }
 
@@ -31,7 +32,7 @@ impl Firsts {
         ensures { HasFirsts R.first_of result no_rows }
     {
         Firsts {
-            ints: BTreeMap::new(alloc),
+            ints: RisingMap::new(alloc),
             others: BTreeMap::new(alloc),
         }
     }
@@ -43,7 +44,7 @@ impl Firsts {
             (option_copied result) }
     {
         match first {
-            Atom::Int(int) => self.ints.get(int),
+            Atom::Int(int) => ints::find(&self.ints, int),
             Atom::Text(_) => self.others.get(first),
             Atom::Bool(_) => self.others.get(first),
         }
@@ -71,14 +72,14 @@ impl Firsts {
     {
         // The map that the id goes into alone may want memory, so it comes first.
         match int_place(Some(new)) {
-            Some(int) => {
-                refile(&mut self.ints, alloc, id, int_place(old), Some(int))?;
+            Some((int, row)) => {
+                ints::refile(&mut self.ints, alloc, id, int_place(old), int, row)?;
                 unfile_if_any(&mut self.others, id, other_place(old));
             }
             None => {
                 let other = other_place(Some(new));
                 refile(&mut self.others, alloc, id, other_place(old), other)?;
-                unfile_if_any(&mut self.ints, id, int_place(old));
+                ints::unfile_if_any(&mut self.ints, id, int_place(old));
             }
         }
         Ok(())
@@ -89,7 +90,7 @@ impl Firsts {
         ensures { (rows : Rows R) → HasFirsts R.first_of self.now rows
             → (IsTrue result ↔ IsBare (keyed_of R.first_of rows)) }
     {
-        self.ints.is_empty() && self.others.is_empty()
+        ints::is_empty(&self.ints) && self.others.is_empty()
     }
 
     /// Takes out the id, which is filed by the row, where it is filed at all.
@@ -97,7 +98,7 @@ impl Firsts {
         ensures { Refiles (HasFirsts R.first_of self.old) (HasFirsts R.first_of self.new)
             id (option_copied old.entry) None }
     {
-        unfile_if_any(&mut self.ints, id, int_place(old));
+        ints::unfile_if_any(&mut self.ints, id, int_place(old));
         unfile_if_any(&mut self.others, id, other_place(old));
     }
 }

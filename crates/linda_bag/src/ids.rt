@@ -3,7 +3,8 @@
 
 ghost use Rattle.std.specs.Prelude.{◌≡◌, ◌≢◌, ℕ, true, false, IfOk, OnOk, OnErr};
 ghost use Rattle.linda_bag.specs.Filing.{Rows};
-ghost use Rattle.linda_bag.specs.Ids.{IsOf, IsCount, HasPair, SetsId};
+ghost use Rattle.std.specs.Ordering.{is_eq, nat_cmp};
+ghost use Rattle.linda_bag.specs.Ids.{IsOf, IsCount, HasPair, SetsId, has_id};
 
 use crate::shelf::Shelf;
 use linda_rising::RisingMap;
@@ -27,6 +28,17 @@ impl Ids {
             Ids::Nothing => 0,
             Ids::One(_) => 1,
             Ids::Many(ids) => ids.len(),
+        }
+    }
+
+    /// Whether it is known to be this id by itself.
+    pub(crate) fn is_only(&self, id: u64) -> bool
+        ensures { result ≡ true → (q : ℕ) → has_id self.now q ≡ is_eq (nat_cmp q id) }
+    {
+        match self {
+            Ids::Nothing => false,
+            Ids::One(only) => *only == id,
+            Ids::Many(_) => false,
         }
     }
 }
@@ -60,7 +72,7 @@ impl<T> Shelf<T> for Ids {
                 *self = Ids::Many(both);
                 Ok(())
             }
-            Ids::Many(ids) => add(&mut **ids, id),
+            Ids::Many(ids) => put_id(&mut **ids, id),
         }
     }
 
@@ -72,7 +84,7 @@ impl<T> Shelf<T> for Ids {
                     *self = Ids::Nothing;
                 }
             }
-            Ids::Many(ids) => take(&mut **ids, id),
+            Ids::Many(ids) => take_id(&mut **ids, id),
         }
     }
 
@@ -96,8 +108,12 @@ fn pair(alloc: Global, one: u64, other: u64) -> Result<Box<RisingMap<()>>, Alloc
     Ok(Box::new(alloc, both)?)
 }
 
-// Puts the id into the set, if it is not there.
-fn add(ids: &mut RisingMap<()>, id: u64) -> Result<(), AllocError>
+/// Puts the id into the set, if it is not there.
+///
+/// # Errors
+///
+/// `AllocError` if memory runs out, and then nothing changes.
+pub fn put_id(ids: &mut RisingMap<()>, id: u64) -> Result<(), AllocError>
     ensures ok { OnOk result (SetsId ids.old ids.new id true) }
     ensures err { OnErr result (ids.new ≡ ids.old) }
 {
@@ -107,8 +123,8 @@ fn add(ids: &mut RisingMap<()>, id: u64) -> Result<(), AllocError>
     ids.insert(id, ())
 }
 
-// Takes the id out of the set, if it is there.
-fn take(ids: &mut RisingMap<()>, id: u64)
+/// Takes the id out of the set, if it is there. Takes no memory.
+pub fn take_id(ids: &mut RisingMap<()>, id: u64)
     ensures { SetsId ids.old ids.new id false }
 {
     ids.remove(id);

@@ -2,58 +2,32 @@
 //! part is made of shelves that are under keys. A row may be of any type: in a bag it is a tuple.
 
 ghost use Rattle.std.specs.Prelude.{◌≡◌, ℕ, ◌↔◌, Option, None, Some, OnOk, OnErr, IfOk, IsTrue};
-ghost use Rattle.std.specs.Prelude.{IfSome};
 ghost use Rattle.std.specs.Option.{option_copied, option_map, is_some};
 ghost use Rattle.std.specs.Ordering.{nat_cmp};
-ghost use Rattle.std.specs.BTreeSet.{contains};
-ghost use Rattle.linda_bag.specs.Filing.{Rows, no_rows, place, HasIds, IsBare};
+ghost use Rattle.linda_bag.specs.Filing.{Rows, no_rows, place, IsBare};
 ghost use Rattle.linda_bag.specs.Filing.{Refiles, RefilesBy, RefilesAt};
 
 use linda_tuple::Atom;
 use std::alloc::{AllocError, Global};
 use std::cmp::Ordering;
-use std::collections::btree_map::Entry;
-use std::collections::{BTreeMap, BTreeSet};
+use std::collections::BTreeMap;
 
 /// What ids may be filed under.
 pub trait Key: Ord + Drop {
     /// A copy with memory of its own.
     fn copy(&self, alloc: Global) -> Result<Self, AllocError>
         ensures { IfOk result (λ key. key ≡ self.now) };
-
-    /// A copy, if it takes no memory and most ids have a key of their own: then one search finds
-    /// the shelf or the place of a new one.
-    fn own(&self) -> Option<Self>
-        ensures { IfSome result (λ key. key ≡ self.now) };
 }
 
 impl Key for Atom {
     fn copy(&self, alloc: Global) -> Result<Atom, AllocError> {
         self.try_clone(alloc)
     }
-
-    fn own(&self) -> Option<Atom> {
-        None
-    }
-}
-
-impl Key for i64 {
-    fn copy(&self, _alloc: Global) -> Result<i64, AllocError> {
-        Ok(*self)
-    }
-
-    fn own(&self) -> Option<i64> {
-        Some(*self)
-    }
 }
 
 impl Key for usize {
     fn copy(&self, _alloc: Global) -> Result<usize, AllocError> {
         Ok(*self)
-    }
-
-    fn own(&self) -> Option<usize> {
-        None
     }
 }
 
@@ -90,33 +64,6 @@ pub trait Shelf<T>: Drop {
     /// Whether there is no id.
     fn is_empty(&self) -> bool
         ensures { (rows : Rows T) → has self.now rows → (IsTrue result ↔ IsBare rows) };
-}
-
-impl<T> Shelf<T> for BTreeSet<u64> {
-    ghost has = { HasIds };
-
-    fn empty(alloc: Global) -> BTreeSet<u64> {
-        BTreeSet::new(alloc)
-    }
-
-    fn put<'a>(
-        &mut self,
-        _alloc: Global,
-        id: u64,
-        _old: Option<&'a T>,
-        _new: &'a T,
-    ) -> Result<(), AllocError> {
-        self.insert(id)?;
-        Ok(())
-    }
-
-    fn remove(&mut self, id: u64, _row: &T) {
-        self.remove(&id);
-    }
-
-    fn is_empty(&self) -> bool {
-        self.is_empty()
-    }
 }
 
 /// Files the id under one key in place of another: by `old` it was filed before, by `new` it is
@@ -168,9 +115,6 @@ fn file<'a, K: Key, T, S: Shelf<T>>(
     ensures err { OnErr result (RefilesAt K.cmp S.has shelves.old shelves.new key.now
         id (option_copied old.entry) (option_copied old.entry)) }
 {
-    if let Some(own) = key.own() {
-        return file_own(shelves, alloc, id, own, old, new);
-    }
     if let Some(shelf) = shelves.get_mut(key) {
         return shelf.put(alloc, id, old, new);
     }
@@ -178,32 +122,6 @@ fn file<'a, K: Key, T, S: Shelf<T>>(
     shelf.put(alloc, id, None, new)?;
     shelves.insert(key.copy(alloc)?, shelf)?;
     Ok(())
-}
-
-// The same with the key in hand.
-fn file_own<'a, K: Key, T, S: Shelf<T>>(
-    shelves: &mut BTreeMap<K, S>,
-    alloc: Global,
-    id: u64,
-    key: K,
-    old: Option<&'a T>,
-    new: &'a T,
-) -> Result<(), AllocError>
-    ensures ok { OnOk result (RefilesAt K.cmp S.has shelves.old shelves.new key
-        id (option_copied old.entry) (Some new.now)) }
-    ensures err { OnErr result (RefilesAt K.cmp S.has shelves.old shelves.new key
-        id (option_copied old.entry) (option_copied old.entry)) }
-{
-    let mut shelf = S::empty(alloc);
-    shelf.put(alloc, id, None, new)?;
-    match shelves.entry(key) {
-        Ok(Entry::Occupied(place)) => place.into_mut().put(alloc, id, old, new),
-        Ok(Entry::Vacant(place)) => {
-            place.insert(shelf);
-            Ok(())
-        }
-        Err(_) => Err(AllocError),
-    }
 }
 
 /// Takes out the id, which is filed under the key of the row, and the shelf there with it where

@@ -6,8 +6,10 @@ pub mod CountLaws
 pub mod ViewLaws
 pub mod PartLaws
 pub mod HoldLaws
+pub mod WalkLaws
 pub mod IndexLaws
 pub mod NumberedLaws
+pub mod RowLaws
 pub mod EntryLaws
 pub mod WaitLaws
 pub mod NextLaws

@@ -33,11 +33,11 @@ less orderings.Less is = refl
 less orderings.Equal is = absurd is
 less orderings.Greater is = absurd is
 
-below_told : (k : ℕ) (es : List (ℕ × Wait)) → T (below_all nat_cmp k es) → AllByRecursion (λ y. nat_cmp k y ≡ Less) (keys_of es)
+below_told : {X : Type 0} (k : ℕ) (es : List (ℕ × X)) → T (below_all nat_cmp k es) → AllByRecursion (λ y. nat_cmp k y ≡ Less) (keys_of es)
 below_told k [] below = tt
 below_told k (e ∷ es) below = (less (nat_cmp k e.0) (first _ _ below), below_told k es (second _ _ below))
 
-sorted_told : (es : List (ℕ × Wait)) → T (is_sorted nat_cmp es) → IsStrictlySortedBy nat_cmp (keys_of es)
+pub sorted_told : {X : Type 0} (es : List (ℕ × X)) → T (is_sorted nat_cmp es) → IsStrictlySortedBy nat_cmp (keys_of es)
 unfolding IsStrictlySortedBy
 sorted_told [] sorted = tt
 sorted_told (e ∷ es) sorted = (below_told e.0 es (first _ _ sorted), sorted_told es (second _ _ sorted))

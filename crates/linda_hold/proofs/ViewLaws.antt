@@ -1,18 +1,16 @@
 -- The holds as contracts see them, and the maps that keep them.
-use Rattle.std.proofs.Common.{◌≡◌, ℕ, Option, None, Some, BTreeMap, refl, sym, ap, ◌∙◌, nat_cmp}
-use Rattle.std.specs.BTreeMap as tree
+use Rattle.std.proofs.Common.{◌≡◌, ℕ, Option, None, Some, refl, sym, ap, ◌∙◌}
 use Rattle.std.specs.FinMap as map
-use Rattle.linda_maps.proofs.MapLaws.{get_is_lookup}
 use Rattle.linda_hold.specs.declared.request.Request.{Request}
 use Rattle.linda_hold.specs.Holds.{HeldFor, IsHeldAt, IsOneEach}
 use Rattle.linda_hold.specs.Named.{IsNumbered}
 
-module _ (by_id : BTreeMap ℕ Request) (holds : HeldFor) (view_is : map.from_entries by_id.entries ≡ holds) where
+module _ (by_id holds : HeldFor) (view_is : by_id ≡ holds) where
   -- A look-up in the holds is one in the map by id.
-  pub viewed : (id : ℕ) → map.get holds id ≡ tree.get nat_cmp by_id id
-  viewed id = sym (ap (λ m. map.get m id) view_is) ∙ get_is_lookup by_id id
+  pub viewed : (id : ℕ) → map.get holds id ≡ map.get by_id id
+  viewed id = sym (ap (λ m. map.get m id) view_is)
 
-  module _ {by_request : Request → Option ℕ} (numbered : IsNumbered by_request (tree.get nat_cmp by_id)) where
+  module _ {by_request : Request → Option ℕ} (numbered : IsNumbered by_request (map.get by_id)) where
     -- No request holds two tuples.
     pub one_each : IsOneEach holds
     one_each i k request first second =

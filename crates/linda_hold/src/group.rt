@@ -10,16 +10,16 @@ ghost use Rattle.linda_hold.specs.Group.{HasGroup, is_reached};
 
 use crate::asked::Asked;
 use crate::numbers::{next_in, next_of, sooner};
-use linda_bag::{Firsts, Shelf};
+use linda_bag::{Firsts, Shelf, put_id, take_id};
+use linda_rising::RisingMap;
 use linda_tuple::Atom;
 use std::alloc::{AllocError, Global};
-use std::collections::BTreeSet;
 
 /// The numbers of the requests.
 #[derive(Drop)]
 pub(crate) struct Group {
     firsts: Firsts,
-    unkeyed: BTreeSet<u64>,
+    unkeyed: RisingMap<()>,
 }
 
 impl Group {
@@ -48,7 +48,7 @@ impl Shelf<Asked> for Group {
     fn empty(alloc: Global) -> Group {
         Group {
             firsts: Firsts::empty::<Asked>(alloc),
-            unkeyed: BTreeSet::new(alloc),
+            unkeyed: RisingMap::new(alloc),
         }
     }
 
@@ -63,10 +63,10 @@ impl Shelf<Asked> for Group {
         match new.first() {
             Some(_) => {
                 self.firsts.put(alloc, id, old, new)?;
-                self.unkeyed.remove(&id);
+                take_id(&mut self.unkeyed, id);
             }
             None => {
-                self.unkeyed.insert(id)?;
+                put_id(&mut self.unkeyed, id)?;
                 self.firsts.remove(id, old);
             }
         }
@@ -75,10 +75,10 @@ impl Shelf<Asked> for Group {
 
     fn remove(&mut self, id: u64, asked: &Asked) {
         self.firsts.remove(id, Some(asked));
-        self.unkeyed.remove(&id);
+        take_id(&mut self.unkeyed, id);
     }
 
     fn is_empty(&self) -> bool {
-        self.firsts.is_empty::<Asked>() && self.unkeyed.is_empty()
+        self.firsts.is_empty::<Asked>() && self.unkeyed.len() == 0
     }
 }

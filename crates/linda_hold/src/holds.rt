@@ -1,11 +1,12 @@
 //! The tuples that are held for requests.
 
-ghost use Rattle.std.specs.Prelude.{◌≡◌, ◌≤◌, ℕ, None, Some, All, length};
+ghost use Rattle.std.specs.Prelude.{◌≡◌, ◌≤◌, ◌||◌, ℕ, None, Some, All, length};
 ghost use Rattle.std.specs.Prelude.{IfOk, IfSome, OnOk, OnErr};
 ghost use Rattle.std.specs.Option.{is_some};
 ghost use Rattle.std.specs.Ordering.{nat_cmp};
 ghost use Rattle.std.specs.FinMap as map;
 ghost use Rattle.std.specs.BTreeSet as set;
+ghost use Rattle.linda_rising.specs.Rows.{at};
 ghost use Rattle.linda_hold.specs.Holds.{IsHeldAt, IsHold, IsOneEach, held_in};
 
 use crate::ages::{Age, Ages};
@@ -13,15 +14,16 @@ use crate::long::LongHold;
 use crate::names::Names;
 use crate::request::Request;
 use linda_bag::IdSet;
+use linda_rising::RisingMap;
 use std::alloc::{AllocError, Global};
-use std::collections::{BTreeMap, BTreeSet};
+use std::collections::BTreeSet;
 use std::marker::Model;
 
 /// Which tuple is held for which request: each tuple, named by its id, for at most one request, and
 /// for each request at most one tuple. Any 64-bit number may be an id.
 pub struct Holds {
     alloc: Global,
-    by_id: BTreeMap<u64, Request>,
+    by_id: RisingMap<Request>,
     names: Names,
     // Since when tuples are held, by their ids.
     ages: Ages,
@@ -42,7 +44,6 @@ impl Model for Holds {
     ghost use Rattle.std.specs.Coded.{coded_ℕ};
     ghost use Rattle.std.specs.Ordering.{nat_cmp};
     ghost use Rattle.std.specs.FinMap as map;
-    ghost use Rattle.std.specs.BTreeMap as tree;
     ghost use Rattle.linda_hold.specs.Request.{request_code};
     ghost use Rattle.linda_hold.specs.Holds.{HeldFor};
     ghost use Rattle.linda_hold.specs.Named.{HasNames};
@@ -51,10 +52,9 @@ impl Model for Holds {
 
     ghost coded = { map.code coded_ℕ request_code };
 
-    ghost view = { λ h. map.from_entries h.by_id.entries };
+    ghost view = { λ h. h.by_id };
 
-    ghost invariant = { λ h. tree.IsOrdered nat_cmp h.by_id
-        × HasNames h.names (tree.get nat_cmp h.by_id) };
+    ghost invariant = { λ h. HasNames h.names (map.get h.by_id) };
 }
 
 impl Holds {
@@ -64,7 +64,7 @@ impl Holds {
     {
         Holds {
             alloc,
-            by_id: BTreeMap::new(alloc),
+            by_id: RisingMap::new(alloc),
             names: Names::empty(alloc),
             ages: Ages::none(alloc),
         }
@@ -128,7 +128,7 @@ impl Holds {
         ensures value { result ≡ map.get self.now id }
         ensures one_each { IsOneEach self.now }
     {
-        self.by_id.get(&id).copied()
+        self.by_id.get(id).copied()
     }
 
     /// The id of the tuple that is held for the request.
@@ -155,11 +155,7 @@ impl Holds {
         ensures { IfOk result (λ ids. (id : ℕ)
             → set.contains nat_cmp ids id ≡ is_some (map.get self.now id)) }
     {
-        let mut ids = BTreeSet::new(alloc);
-        for id in self.by_id.keys() {
-            ids.insert(*id)?;
-        }
-        Ok(ids)
+        all_ids(alloc, &self.by_id)
     }
 
     /// The ids that are held for the client, rising. It looks only at the holds of this client.
@@ -193,12 +189,15 @@ impl Holds {
         ensures err { OnErr result (self.new ≡ self.old) }
     {
         self.names.put(self.alloc, id, request)?;
+        if self.by_id.contains(id) {
+            let old = self.by_id.replace(id, request);
+            self.names.remove(old);
+            self.ages.note(id);
+            return Ok(());
+        }
         match self.by_id.insert(id, request) {
-            Ok(old) => {
+            Ok(()) => {
                 self.ages.note(id);
-                if let Some(old) = old {
-                    self.names.remove(old);
-                }
                 Ok(())
             }
             Err(_) => {
@@ -213,7 +212,7 @@ impl Holds {
     pub fn remove(&mut self, id: u64)
         ensures { self.new ≡ map.remove self.old id }
     {
-        if let Some(request) = self.by_id.remove(&id) {
+        if let Some(request) = self.by_id.remove(id) {
             self.names.remove(request);
             self.ages.forget(id);
         }
@@ -227,8 +226,36 @@ impl IdSet for Holds {
     ghost has = { λ holds id. is_some (map.get holds id) };
 
     fn has(&self, id: u64) -> bool {
-        self.by_id.contains_key(&id)
+        self.by_id.contains(id)
     }
+}
+
+// The ids of the map.
+fn all_ids(alloc: Global, by_id: &RisingMap<Request>) -> Result<BTreeSet<u64>, AllocError>
+    ensures { IfOk result (λ ids. (id : ℕ)
+        → set.contains nat_cmp ids id ≡ is_some (map.get by_id.now id)) }
+{
+    let mut ids = BTreeSet::new(alloc);
+    let mut from = 0;
+    while let Some(part) = by_id.run_from(from) {
+        put_ids(&mut ids, part.rows)?;
+        let Some(next) = part.next else {
+            return Ok(ids);
+        };
+        from = next;
+    }
+    Ok(ids)
+}
+
+// Puts the ids of the rows into the set.
+fn put_ids(ids: &mut BTreeSet<u64>, rows: &[(u64, Request)]) -> Result<(), AllocError>
+    ensures { OnOk result ((q : ℕ) → set.contains nat_cmp ids.new q
+        ≡ (set.contains nat_cmp ids.old q || is_some (at rows.now q))) }
+{
+    for row in rows {
+        ids.insert(row.0)?;
+    }
+    Ok(())
 }
 
 // The numbers of the set, rising.

@@ -1,22 +1,18 @@
 //! The least number of a set from one on: what comes next in order of arrival.
 
 ghost use Rattle.std.specs.Prelude.{◌≡◌, ℕ, Bool, ◌||◌};
-ghost use Rattle.std.specs.Ordering.{nat_cmp};
-ghost use Rattle.std.specs.BTreeSet.{contains};
+ghost use Rattle.std.specs.FinMap.{contains_key};
 ghost use Rattle.linda_bag.specs.Ids.{has_id};
 ghost use Rattle.linda_hold.specs.Arrivals.{IsNext};
 
 use linda_bag::Ids;
-use std::collections::BTreeSet;
+use linda_rising::RisingMap;
 
 /// The least number of the set from one on.
-pub(crate) fn next_in(numbers: &BTreeSet<u64>, from: u64) -> Option<u64>
-    ensures { IsNext (contains nat_cmp numbers.now) from result }
+pub(crate) fn next_in(numbers: &RisingMap<()>, from: u64) -> Option<u64>
+    ensures { IsNext (contains_key numbers.now) from result }
 {
-    match numbers.range(from..).next() {
-        Some(number) => Some(*number),
-        None => None,
-    }
+    numbers.next_from(from)
 }
 
 /// The least of the numbers from one on.
@@ -31,7 +27,7 @@ pub(crate) fn next_of(numbers: &Ids, from: u64) -> Option<u64>
             }
             Some(*only)
         }
-        Ids::Many(many) => many.next_from(from),
+        Ids::Many(many) => next_in(many, from),
     }
 }
 

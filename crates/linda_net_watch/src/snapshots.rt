@@ -14,7 +14,10 @@ use std::time::{Clock, Duration};
 /// bank of fewer bytes has a snapshot of hardly more, which is taken at once.
 const STEP: usize = 262_144;
 
-/// For how many milliseconds others have the server between two steps.
+/// So many clients are copied at a time, before a snapshot in steps begins.
+const PIECE: u32 = 1_024;
+
+/// For how many milliseconds others have the server between two steps, and between two pieces.
 const PAUSE: u64 = 1;
 
 /// Takes a snapshot: in steps, or at once if the bank is short, or if one in steps was given up.
@@ -27,7 +30,12 @@ pub(crate) fn snapshot<D: Disk, L: Ledger, R: Wait + Clock>(
     if shared.gauge(rt).used < STEP {
         return Some(shared.snapshot(rt));
     }
+    if !copy_clients(rt, shared, is_over) {
+        shared.forget_copy(rt);
+        return None;
+    }
     if let Err(fault) = shared.begin_steps(rt) {
+        shared.forget_copy(rt);
         return Some(Err(fault));
     }
     let (mut used, mut most) = (shared.gauge(rt).used, STEP);
@@ -46,6 +54,25 @@ pub(crate) fn snapshot<D: Disk, L: Ledger, R: Wait + Clock>(
         used = now;
     }
     None
+}
+
+// Copies the clients, so many at a time, while others have the server between two pieces. Returns
+// false if it was over before all were copied.
+fn copy_clients<D: Disk, L: Ledger, R: Wait + Clock>(
+    rt: &R,
+    shared: &Shared<D, L>,
+    is_over: &Mutex<bool>,
+) -> bool {
+    for _ in rt.forever() {
+        if *is_over.lock(rt) {
+            return false;
+        }
+        if shared.copy_clients(rt, PIECE) {
+            return true;
+        }
+        thread::sleep(rt, pause());
+    }
+    false
 }
 
 // About how many bytes the next step writes, if the bank in use had so many bytes before the last

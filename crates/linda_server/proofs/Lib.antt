@@ -19,3 +19,4 @@ mod GoingLaws
 mod HandledLaws
 mod CommitLaws
 mod CauseLaws
+mod CopyingLaws

@@ -21,6 +21,7 @@ ghost use Rattle.linda_server.specs.Server.{records_in_use, limit_in_use, BothHo
 ghost use Rattle.linda_server.specs.Server.{StandNow};
 ghost use Rattle.linda_server.specs.Calls.{IsLimit, IsWithOrWithout};
 ghost use Rattle.linda_server.specs.Next.{IsNextFor};
+ghost use Rattle.linda_snap.specs.BookCopy.{IsCopyFor};
 
 use crate::disks::{Disks, InUse, is_old};
 use crate::limits::SNAPSHOT_RECORDS;
@@ -30,6 +31,7 @@ use linda_disk::Disk;
 use linda_hold::{Holds, Waits};
 use linda_journal::Bank;
 use linda_moment::Moment;
+use linda_snap::BookCopy;
 use linda_store_state::{Deed, State};
 use linda_store_step::Store;
 use std::hash::RandomState;
@@ -42,7 +44,8 @@ use std::hash::RandomState;
 /// down, or the one after the deeds of that call.
 ///
 /// A snapshot may be written in steps, while the server goes on: then the other disk has a part of
-/// the next bank behind a first gate that is closed, and that bank follows the state.
+/// the next bank behind a first gate that is closed, and that bank follows the state. Before it
+/// begins its clients may be copied in pieces, and that copy follows the state too.
 #[derive(Drop)]
 pub struct Durable<D: Disk> {
     store: Store<IndexBag>,
@@ -55,6 +58,8 @@ pub struct Durable<D: Disk> {
     lost: Vec<Deed>,
     // The next bank, while a snapshot is written in steps.
     next: Option<NextBank>,
+    // A copy of the clients for the next snapshot in steps, while it is made and until that begins.
+    copy: Option<BookCopy>,
     ghost there: { is_there disks ≡ true },
     ghost bounded: { IsLimit limit },
     ghost live: { down ≡ false → store.is_spent ≡ false },
@@ -63,6 +68,7 @@ pub struct Durable<D: Disk> {
     ghost none_lost: { down ≡ false → lost.items ≡ [] },
     ghost kept: { down ≡ false → ∥ IsKeptFor disks store.state ∥₁ },
     ghost begun: { down ≡ false → ∥ IsNextFor next disks store.state ∥₁ },
+    ghost copied: { down ≡ false → ∥ IsCopyFor copy store.state.book ∥₁ },
     ghost fallen: { down ≡ true → BothHonest disks
         → PairsNow (both_of disks)
         (IsWithOrWithout before.value lost.items) },

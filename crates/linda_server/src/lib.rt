@@ -4,6 +4,7 @@
 mod ahead;
 mod clearing;
 mod commit;
+mod copying;
 mod disks;
 mod durable;
 mod empty;

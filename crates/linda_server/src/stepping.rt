@@ -1,10 +1,11 @@
 //! Steps of a snapshot: the next bank is written on the disk that is not in use, and is taken into
 //! use.
 
-ghost use Rattle.std.specs.Prelude.{◌≡◌, ◌≤◌, ◌<◌, ◌+◌, ◌++◌, ◌^◌, ℕ, List, true, length};
+ghost use Rattle.std.specs.Prelude.{◌≡◌, ◌≤◌, ◌<◌, ◌+◌, ◌++◌, ◌^◌, ℕ, List, true, None, length};
 ghost use Rattle.std.specs.Prelude.{IfOk, OnOk, IfSome, IsErrOf};
 ghost use Rattle.linda_store_state.specs.State as states;
 ghost use Rattle.linda_store_state.specs.State.{IsState};
+ghost use Rattle.linda_snap.specs.BookCopy.{IsCopyFor};
 ghost use Rattle.linda_disk.specs.View.{IsDurable};
 ghost use Rattle.linda_disk.specs.Runs.{Runs, anything};
 ghost use Rattle.linda_journal.specs.Renewal.{IsNoBank, IsFilled, shuts};
@@ -21,12 +22,13 @@ use crate::renewal::of_switch;
 use linda_bag::Bag;
 use linda_disk::{Disk, DiskFault};
 use linda_journal::{Bank, Filling, shut};
-use linda_snap::{Part, Successor, take_over};
+use linda_snap::{BookCopy, Part, Successor, take_over};
 use linda_store_state::State;
 use std::alloc::Global;
 
 /// Begins the next bank, with a snapshot of the state, on the disk that is not in use: its first
-/// gate is closed, and the first bytes are written behind it.
+/// gate is closed, and the first bytes are written behind it. If it is given a whole copy of the
+/// clients, it takes that.
 ///
 /// # Errors
 ///
@@ -36,8 +38,10 @@ pub(crate) fn start<B: Bag, D: Disk>(
     disks: &mut Disks<Bank<D>, D>,
     alloc: Global,
     state: &State<B>,
+    copy: &mut Option<BookCopy>,
 ) -> Result<NextBank, ServeFault>
     requires ranges { IsState state.now }
+    requires copied { IsCopyFor copy.old state.now.book }
     requires ready { is_usable disks.old ≡ true }
     requires short { limit_in_use disks.old < 2 ^ 32 }
     requires durable { IsOtherDurable disks.old }
@@ -49,6 +53,8 @@ pub(crate) fn start<B: Bag, D: Disk>(
         × HasNoNext state.now (limit_in_use disks.old) (generation_in_use disks.old) }
     ensures room { OnOk result (HasNoNext state.now (limit_in_use disks.old)
         (generation_in_use disks.old) → ⊥) }
+    ensures taken { OnOk result (copy.new ≡ None) }
+    ensures copy { IsErrOf result ServeFault.Full → copy.new ≡ copy.old }
     ensures known { IsErrOf result ServeFault.Down → ⊥ }
 {
     let Pair {
@@ -56,7 +62,7 @@ pub(crate) fn start<B: Bag, D: Disk>(
         other,
         is_right,
     } = disks.lend();
-    let (told, other) = start_on(other, alloc, state, bank.generation(), bank.limit());
+    let (told, other) = start_on(other, alloc, state, bank.generation(), bank.limit(), copy);
     *disks = Disks::InUse(Pair {
         bank,
         other,
@@ -72,8 +78,10 @@ fn start_on<B: Bag, D: Disk>(
     state: &State<B>,
     generation: u64,
     limit: usize,
+    copy: &mut Option<BookCopy>,
 ) -> (Result<NextBank, ServeFault>, D)
     requires ranges { IsState state.now }
+    requires copied { IsCopyFor copy.old state.now.book }
     requires short { limit < 2 ^ 32 }
     requires durable { D.honest other → IsDurable (D.view other) }
     ensures none { D.honest other → OnOk result.0 (IsNoBank (D.view result.1).seen) }
@@ -84,13 +92,15 @@ fn start_on<B: Bag, D: Disk>(
     ensures full { IsErrOf result.0 ServeFault.Full → (result.1 ≡ other)
         × HasNoNext state.now limit generation }
     ensures room { OnOk result.0 (HasNoNext state.now limit generation → ⊥) }
+    ensures taken { OnOk result.0 (copy.new ≡ None) }
+    ensures copy { IsErrOf result.0 ServeFault.Full → copy.new ≡ copy.old }
     ensures runs { Runs D.Disk shuts anything ServeFault.Disk other result.0 result.1 }
     ensures known { IsErrOf result.0 ServeFault.Down → ⊥ }
 {
     let Some(generation) = generation.checked_add(1) else {
         return (Err(ServeFault::Full), other);
     };
-    match Successor::begin(alloc, state, generation, limit) {
+    match Successor::begin(alloc, state, generation, limit, copy) {
         Err(fault) => (Err(of_switch(fault)), other),
         Ok((successor, bytes)) => match lay(other, &bytes) {
             (Err(fault), other) => (Err(of_disk(fault)), other),

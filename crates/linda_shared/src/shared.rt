@@ -145,7 +145,21 @@ impl<D: Disk, L: Ledger> Shared<D, L> {
         answer
     }
 
-    /// Begins a snapshot in steps, between which sessions go on.
+    /// Copies the next clients, so many at most, for a snapshot in steps that is begun later: it
+    /// walks over no client then. Returns whether nothing is left to copy, or the copy was given up
+    /// as memory ran out. Nothing changes that a session sees.
+    pub fn copy_clients<R: Wait>(&self, rt: &R, most: u32) -> bool {
+        self.locked.lock(rt).held.copy_clients(self.alloc, most)
+    }
+
+    /// Gives up the copy of the clients, for a snapshot that is not begun after all. Nothing changes
+    /// that a session sees.
+    pub fn forget_copy<R: Wait>(&self, rt: &R) {
+        self.locked.lock(rt).held.forget_copy();
+    }
+
+    /// Begins a snapshot in steps, between which sessions go on. It takes what was copied of the
+    /// clients, if all are, and else copies all of them at once.
     ///
     /// # Errors
     ///

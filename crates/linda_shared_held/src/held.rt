@@ -4,6 +4,7 @@ mod age;
 mod ahead;
 mod alone;
 mod base;
+mod copy;
 mod drain;
 mod end;
 mod finish;

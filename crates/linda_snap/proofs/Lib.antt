@@ -11,4 +11,5 @@ pub mod ChoiceLaws
 pub mod AppendLaws
 pub mod DraftLaws
 pub mod ClientsLaws
+pub mod BookCopyLaws
 mod CauseLaws

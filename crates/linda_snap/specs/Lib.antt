@@ -8,3 +8,4 @@ pub mod Choice
 pub mod Clients
 pub mod Draft
 pub mod Successor
+pub mod BookCopy

@@ -1,13 +1,15 @@
 -- The format of a state in each of the two forms of values: a snapshot.
 use Rattle.std.specs.Prelude.{◌≡◌, ℕ, List, ◌++◌, All, length}
 use Rattle.std.specs.List.{flat_map}
-use Rattle.std.specs.FinMap.{entries}
+use Rattle.std.specs.Ordering.{nat_cmp}
+use Rattle.std.specs.FinMap.{FinMap, entries}
 use Rattle.linda_tuple.specs.declared.form.Form.{Form}
 use Rattle.linda_tuple.specs.Tuple.{Tuple}
 use Rattle.linda_codec.specs.Steps.{◌>>=◌, many_at}
 use Rattle.linda_codec.specs.Formats.{Format, short_number, number, both}
 use Rattle.linda_book.specs.Entries.{Entry}
 pub use Rattle.linda_book.specs.ReplyFormat.{placed, reply}
+use Rattle.linda_store_state.specs.DeedFormat.{written}
 use Rattle.linda_store_state.specs.State.{State, IsState}
 
 -- ---- entries
@@ -15,6 +17,10 @@ use Rattle.linda_store_state.specs.State.{State, IsState}
 -- A client, its last number, and the reply to it.
 abbrev pub kept : Form → Format (ℕ × Entry)
 kept form = both short_number (both number (reply form))
+
+-- how many bytes the clients of a book spell in the form of new banks, without their count
+abbrev pub clients_bytes : FinMap nat_cmp Entry → ℕ
+clients_bytes book = length (flat_map (kept written).spell (entries book))
 
 -- ---- states
 

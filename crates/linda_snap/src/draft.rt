@@ -14,10 +14,12 @@ ghost use Rattle.linda_store_state.specs.State.{IsState};
 ghost use Rattle.linda_store_state.specs.DeedFormat.{written};
 ghost use Rattle.linda_snap.specs.Draft.{Tuples, Owes, IsThrough, IsFirst, IsFirstOwed};
 ghost use Rattle.linda_snap.specs.Draft.{seen, earlier_of, IsSafe};
+ghost use Rattle.linda_snap.specs.BookCopy.{Clients, Copies, IsCopyFor};
 ghost use Rattle.linda_snap.specs.Clients.{HasTuples};
-ghost use Rattle.linda_snap.specs.Snapshot.{spell_state};
+ghost use Rattle.linda_snap.specs.Snapshot.{clients_bytes, spell_state};
 ghost use Rattle.linda_snap.specs.declared.entry.TheConstants.{MAX_KEPT_BYTES};
 
+use crate::book_copy::BookCopy;
 use crate::clients::copied;
 use crate::entry::push_placed;
 use crate::putting::push_count;
@@ -27,6 +29,7 @@ use linda_book::Book;
 use linda_store_state::State;
 use linda_tuple::Tuple;
 use std::alloc::{AllocError, Global};
+use std::mem;
 
 /// How many tuples a step looks at, at most.
 pub const STEP_TUPLES: u32 = 4_096;
@@ -49,19 +52,22 @@ pub struct Draft {
 
 impl Draft {
     /// Begins a snapshot of the state, for a bank of this limit. Returns it with its first bytes,
-    /// which are to be written. It walks over the clients, and over no tuple.
+    /// which are to be written. If it is given a whole copy of the clients, it takes that, and else
+    /// it walks over them; it walks over no tuple.
     ///
     /// # Errors
     ///
-    /// `BankFull` exactly if a bank with this snapshot would be longer than the limit; else
-    /// `Memory` if memory runs out.
+    /// `BankFull` exactly if a bank with this snapshot would be longer than the limit: the copy is
+    /// as it was. Else `Memory` if memory runs out.
     pub fn begin<B: Bag>(
         alloc: Global,
         state: &State<B>,
         limit: usize,
+        copy: &mut Option<BookCopy>,
     ) -> Result<(Draft, Vec<u8>), SwitchFault>
         requires ranges { IsState state.now }
         requires short { limit < 2 ^ 32 }
+        requires copied { IsCopyFor copy.old state.now.book }
         ensures begun { IfOk result (λ d. Owes state.now d.0 d.1.items state.now.bag) }
         ensures len { IfOk result (λ d. d.0.len ≡ length (spell_state written state.now)) }
         ensures next { IfOk result (λ d. d.0.next ≡ state.now.next) }
@@ -71,11 +77,13 @@ impl Draft {
             → limit < MIN_BYTES + 1 + length (spell_state written state.now) }
         ensures fault { IfErr result (λ fault. (fault ≡ SwitchFault.BankFull)
             ⊎ (fault ≡ SwitchFault.Memory)) }
+        ensures taken { OnOk result (copy.new ≡ None) }
+        ensures kept { IsErrOf result SwitchFault.BankFull → copy.new ≡ copy.old }
     {
-        let Some(len) = len_within(state, limit) else {
+        let Some(len) = len_within(state, bytes_copied(copy.as_ref()), limit) else {
             return Err(SwitchFault::BankFull);
         };
-        match spell_first(alloc, state, len) {
+        match spell_first(alloc, state, take_whole(copy), len) {
             Ok(begun) => Ok(begun),
             Err(_) => Err(SwitchFault::Memory),
         }
@@ -189,19 +197,22 @@ impl Draft {
     }
 }
 
-// A snapshot of so many bytes, and its first ones: the next id and the count of tuples.
+// A snapshot of so many bytes, and its first ones: the next id and the count of tuples. The clients
+// are those that were copied before, if they were.
 fn spell_first<B: Bag>(
     alloc: Global,
     state: &State<B>,
+    clients: Option<Book>,
     len: usize,
 ) -> Result<(Draft, Vec<u8>), AllocError>
     requires ranges { IsState state.now }
     requires short { length (spell_state written state.now) < 2 ^ 32 }
+    requires copied { IfSome clients (λ book. book ≡ state.now.book) }
     ensures begun { IfOk result (λ d. Owes state.now d.0 d.1.items state.now.bag) }
     ensures len { IfOk result (λ d. d.0.len ≡ len) }
     ensures next { IfOk result (λ d. d.0.next ≡ state.now.next) }
 {
-    let book = copied(alloc, &state.book)?;
+    let book = unless_copied(alloc, clients, &state.book)?;
     let count = as_count(state.book.len());
     let mut bytes = Vec::new(alloc);
     bytes.extend_from_slice(&state.next.to_be_bytes())?;
@@ -215,6 +226,40 @@ fn spell_first<B: Bag>(
         len,
     };
     Ok((draft, bytes))
+}
+
+// How many bytes the clients spell, if there is a whole copy of them.
+fn bytes_copied(copy: Option<&BookCopy>) -> Option<usize>
+    ensures { (book : Clients) → IfSome copy.entry (λ c. Copies c.now book)
+        → IfSome result (λ bytes. bytes ≡ clients_bytes book) }
+{
+    match copy {
+        None => None,
+        Some(copy) => copy.bytes(),
+    }
+}
+
+// Takes the copy, and gives the book that is copied if it is whole.
+fn take_whole(copy: &mut Option<BookCopy>) -> Option<Book>
+    ensures taken { copy.new ≡ None }
+    ensures whole { (book : Clients) → IsCopyFor copy.old book
+        → IfSome result (λ whole. whole ≡ book) }
+{
+    match mem::replace(copy, None) {
+        None => None,
+        Some(copy) => copy.into_whole(),
+    }
+}
+
+// The clients that were copied before, or a copy of them.
+fn unless_copied(alloc: Global, before: Option<Book>, book: &Book) -> Result<Book, AllocError>
+    requires { IfSome before (λ copy. copy ≡ book.now) }
+    ensures { IfOk result (λ copy. copy ≡ book.now) }
+{
+    match before {
+        Some(copy) => Ok(copy),
+        None => copied(alloc, book),
+    }
 }
 
 // A count that has four bytes.

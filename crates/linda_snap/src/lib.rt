@@ -9,6 +9,7 @@
 //!   leaves anything but what has the same state.
 #![tactic(auto)]
 
+mod book_copy;
 mod choice;
 mod clients;
 mod cursor;
@@ -23,6 +24,7 @@ mod successor;
 mod tail;
 mod takeover;
 
+pub use book_copy::BookCopy;
 pub use choice::{ChoiceFault, Chosen, choose, choose_bank};
 pub use cursor::{kept_after, next_entry, tuple_from};
 pub use draft::{Draft, STEP_TUPLES};

@@ -5,10 +5,11 @@ ghost use Rattle.std.specs.Prelude.{IfNone};
 ghost use Rattle.std.specs.List.{flat_map};
 ghost use Rattle.std.specs.FinMap.{entries};
 ghost use Rattle.linda_codec.specs.Formats.{short_number};
+ghost use Rattle.linda_codec.specs.declared.limits.TheConstants.{SHORT_NUMBER_BYTES};
 ghost use Rattle.linda_store_state.specs.State.{IsState};
 ghost use Rattle.linda_store_state.specs.DeedFormat.{written};
 ghost use Rattle.linda_snap.specs.Snapshot as format;
-ghost use Rattle.linda_snap.specs.Snapshot.{listed, spell_state, FitsState};
+ghost use Rattle.linda_snap.specs.Snapshot.{clients_bytes, listed, spell_state, FitsState};
 
 use crate::cursor::{kept_after, tuple_from};
 use crate::entry::{kept_len, push_kept, push_placed};
@@ -84,15 +85,33 @@ pub(crate) fn push_count(out: &mut Vec<u8>, count: usize) -> Result<(), AllocErr
 }
 
 /// What is left of so many bytes once the state is spelled in them; None where it spells more. No
-/// memory is taken. It walks over the clients, and not over the tuples: the bag keeps their bytes.
-pub(crate) fn room_after<B: Bag>(state: &State<B>, room: usize) -> Option<usize>
-    requires { IsState state.now }
+/// memory is taken. It walks over the clients, if it is not given how many bytes they spell, and not
+/// over the tuples: the bag keeps their bytes.
+pub(crate) fn room_after<B: Bag>(
+    state: &State<B>,
+    clients: Option<usize>,
+    room: usize,
+) -> Option<usize>
+    requires ranges { IsState state.now }
+    requires clients { IfSome clients (λ bytes. bytes ≡ clients_bytes state.now.book) }
     ensures some { IfSome result (λ left. left + length (spell_state written state.now) ≡ room) }
     ensures none { IfNone result (room < length (spell_state written state.now)) }
 {
     let room = room.checked_sub(NUMBER_BYTES)?;
     let room = room_after_tuples(state, room)?;
-    room_after_book(&state.book, room)
+    match clients {
+        None => room_after_book(&state.book, room),
+        Some(bytes) => room_after_bytes(room, bytes),
+    }
+}
+
+// What is left of so many bytes behind a count and so many bytes.
+fn room_after_bytes(room: usize, bytes: usize) -> Option<usize>
+    ensures some { IfSome result (λ left. left + (SHORT_NUMBER_BYTES + bytes) ≡ room) }
+    ensures none { IfNone result (room < SHORT_NUMBER_BYTES + bytes) }
+{
+    let left = room.checked_sub(SHORT_NUMBER_BYTES)?;
+    left.checked_sub(bytes)
 }
 
 // The same of the tuples with their count.

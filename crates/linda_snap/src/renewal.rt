@@ -11,7 +11,7 @@ ghost use Rattle.linda_journal.specs.declared.kinds.TheConstants.{CLOSED};
 ghost use Rattle.linda_journal.specs.declared.limits.TheConstants.{MIN_BYTES};
 ghost use Rattle.linda_journal.specs.Bank.{behind_gate, IsSettled};
 ghost use Rattle.linda_journal.specs.Renewal.{pieces, TakesCalls};
-ghost use Rattle.linda_snap.specs.Snapshot.{spell_state, FitsState};
+ghost use Rattle.linda_snap.specs.Snapshot.{clients_bytes, spell_state, FitsState};
 ghost use Rattle.linda_snap.specs.Stands.{IsStored, IsUp};
 ghost use Rattle.linda_snap.specs.Switch.{fault_of_disk, renews, switches};
 
@@ -110,7 +110,7 @@ pub fn switch<B: Bag, D: Disk>(
         SwitchFault.Disk other result }
 {
     let limit = current.limit();
-    let Some(len) = len_within(state, limit) else {
+    let Some(len) = len_within(state, None, limit) else {
         return Err((SwitchFault::BankFull, current, other));
     };
     let Some(generation) = current.generation().checked_add(1) else {
@@ -159,15 +159,21 @@ fn renew<D: Disk>(
     }
 }
 
-// How many bytes the state spells; nothing if a new bank for it would be longer than the limit.
-pub(crate) fn len_within<B: Bag>(state: &State<B>, limit: usize) -> Option<usize>
-    requires { IsState state.now }
+// How many bytes the state spells; nothing if a new bank for it would be longer than the limit. It
+// may be given how many of them its clients spell.
+pub(crate) fn len_within<B: Bag>(
+    state: &State<B>,
+    clients: Option<usize>,
+    limit: usize,
+) -> Option<usize>
+    requires ranges { IsState state.now }
+    requires clients { IfSome clients (λ bytes. bytes ≡ clients_bytes state.now.book) }
     ensures exact { IfSome result (λ len. len ≡ length (spell_state written state.now)) }
     ensures fits { OnSome result (MIN_BYTES + 1 + length (spell_state written state.now) ≤ limit) }
     ensures none { IfNone result (limit < MIN_BYTES + 1 + length (spell_state written state.now)) }
 {
     let room = limit.checked_sub(MIN_BYTES + 1)?;
-    let left = room_after(state, room)?;
+    let left = room_after(state, clients, room)?;
     Some(room - left)
 }
 

@@ -10,12 +10,14 @@ ghost use Rattle.linda_store_state.specs.State as states;
 ghost use Rattle.linda_store_state.specs.State.{IsState};
 ghost use Rattle.linda_store_state.specs.Deed.{is_taken};
 ghost use Rattle.linda_store_state.specs.DeedFormat.{written};
+ghost use Rattle.linda_snap.specs.BookCopy.{IsCopyFor};
 ghost use Rattle.linda_snap.specs.Replay.{GoesOn};
 ghost use Rattle.linda_snap.specs.Snapshot.{spell_state};
 ghost use Rattle.linda_snap.specs.Successor.{Follows, IsBehindTuples, IsSafeFor, IsNext};
 ghost use Rattle.linda_snap.specs.Successor.{HasNoRoomFor, bytes_in, heading};
 ghost use Rattle.linda_snap.specs.declared.entry.TheConstants.{MAX_KEPT_BYTES};
 
+use crate::book_copy::BookCopy;
 use crate::clients::Clients;
 use crate::draft::Draft;
 use crate::renewal::SwitchFault;
@@ -52,22 +54,24 @@ pub enum Part {
 
 impl Successor {
     /// Begins a bank of this generation and limit with a snapshot of the state. Returns it with the
-    /// first bytes behind its first gate, which are to be written. It walks over the clients, and
-    /// over no tuple.
+    /// first bytes behind its first gate, which are to be written. If it is given a whole copy of the
+    /// clients, it takes that, and else it walks over them; it walks over no tuple.
     ///
     /// # Errors
     ///
-    /// `BankFull` exactly if a bank with this snapshot would be longer than the limit; else
-    /// `Memory` if memory runs out.
+    /// `BankFull` exactly if a bank with this snapshot would be longer than the limit: the copy is
+    /// as it was. Else `Memory` if memory runs out.
     pub fn begin<B: Bag>(
         alloc: Global,
         state: &State<B>,
         generation: u64,
         limit: usize,
+        copy: &mut Option<BookCopy>,
     ) -> Result<(Successor, Vec<u8>), SwitchFault>
         requires ranges { IsState state.now }
         requires low { 1 ≤ generation }
         requires short { limit < 2 ^ 32 }
+        requires copied { IsCopyFor copy.old state.now.book }
         ensures follows { IfOk result (λ x. Follows x.0 x.1.items state.now) }
         ensures generation { IfOk result (λ x. x.0.generation ≡ generation) }
         ensures limit { IfOk result (λ x. x.0.limit ≡ limit) }
@@ -77,8 +81,10 @@ impl Successor {
             → limit < MIN_BYTES + 1 + length (spell_state written state.now) }
         ensures fault { IfErr result (λ fault. (fault ≡ SwitchFault.BankFull)
             ⊎ (fault ≡ SwitchFault.Memory)) }
+        ensures taken { OnOk result (copy.new ≡ None) }
+        ensures kept { IsErrOf result SwitchFault.BankFull → copy.new ≡ copy.old }
     {
-        match Draft::begin(alloc, state, limit) {
+        match Draft::begin(alloc, state, limit, copy) {
             Err(fault) => Err(fault),
             Ok((draft, first)) => {
                 let len = draft.len();

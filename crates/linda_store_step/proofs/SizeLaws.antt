@@ -1,6 +1,8 @@
 -- The bytes that the deeds of messages spell are those that were counted.
-use Rattle.std.proofs.Common.{◌≡◌, ℕ, ◌+◌, ◌<◌, ◌≤◌, Bool, true, false, cond, ◌&&◌, ◌||◌, ◌==◌, nat_le, List, [], ◌∷◌, ◌++◌, Option, Some, None, refl, sym, ap, ◌∙◌, subst, inl, inr, eq-eqb, ne_eqb, leb-false, add_assoc, suc, length, drop, get_or, drop-cons, arith}
-use Rattle.std.proofs.lemmas.Bool.{cond-true, cond-false, cases_eq, eqb-false, or_parts}
+use Rattle.std.proofs.Common.{◌≡◌, ℕ, ◌+◌, ◌<◌, ◌≤◌, Bool, true, false, cond, ◌&&◌, ◌||◌, ◌==◌, nat_le, List, [], ◌∷◌, ◌++◌, Option, Some, None, refl, sym, ap, ◌∙◌, subst, inl, inr, eq-eqb, ne_eqb, leb-false, add_assoc, suc, length, drop, get_or, drop-cons, arith, ◌%◌, ◌-◌, set, take}
+use Rattle.std.proofs.lemmas.List.{get_or-set_same, get_or-set_other, take_more}
+use Rattle.std.proofs.Math.Seq.{take-length}
+use Rattle.std.proofs.lemmas.Bool.{false≢true, cond-true, cond-false, cases_eq, eqb-false, or_parts}
 use mir.Val.{bool_byte}
 use Rattle.std.proofs.lemmas.Option.{none-some, same_Some}
 use Rattle.linda_tuple.specs.declared.form.Form.{Form}
@@ -14,7 +16,8 @@ use Rattle.linda_store_step.specs.declared.judge.Verdict.{Verdict}
 use Rattle.linda_store_step.specs.declared.judge.Verdict.TheVariants.{Refused, Repeated, Done}
 use Rattle.linda_store_step.specs.Judge.{demand_of, judge, puts, leaves}
 use Rattle.linda_store_step.proofs.JudgeLaws.{IsFresh, IsVerdict, verdict_means}
-use Rattle.linda_store_step.specs.Size.{Latest, Numbers, latest_of, if_done, done_by, done_of, deed_bytes, numbers_after, bytes_of, bytes_from, count_of, count_from, SuitsIfDone, Suits, AllSuit, last_behind}
+use Rattle.linda_store_step.specs.Size.{Latest, Numbers, latest_of, if_done, done_by, done_of, deed_bytes, numbers_after, bytes_of, bytes_from, count_of, count_from, SuitsIfDone, Suits, AllSuit, last_behind, AreMarked}
+use Rattle.linda_store_step.specs.declared.size.TheConstants.{PLACES}
 
 -- ---- what was counted so far
 
@@ -25,6 +28,29 @@ numbers_behind st es clients next = record { last = λ c. last_behind es c (late
 last_of_more : (es : List (ℕ × Latest)) (k : ℕ) (n : Latest) (c : ℕ) (last : Latest) → last_behind (es ++ (k, n) ∷ []) c last ≡ cond (k == c) n (last_behind es c last)
 last_of_more [] k n c last = refl
 last_of_more (e ∷ es) k n c last = last_of_more es k n c (cond (e.0 == c) e.1 last)
+
+-- The same with the last one first.
+pub last_of_last : (es : List (ℕ × Latest)) (e : ℕ × Latest) (c : ℕ) (last : Latest) → last_behind (es ++ e ∷ []) c last ≡ cond (e.0 == c) e.1 (last_behind es c last)
+last_of_last es e c last = last_of_more es e.0 e.1 c last
+
+-- The same of some: by their last one, and those before it.
+pub last_at_end : (es : List (ℕ × Latest)) (d : ℕ × Latest) (c : ℕ) (last : Latest) → 0 < length es
+    → last_behind es c last ≡ cond ((get_or es (length es - 1) d).0 == c) (get_or es (length es - 1) d).1 (last_behind (take (length es - 1) es) c last)
+last_at_end es d c last some =
+    let back : length es ≡ (length es - 1) + 1 = omega (arith, some) in
+    ap (λ xs. last_behind xs c last) (sym (take-length es) ∙ ap (λ n. take n es) back ∙ take_more es (length es - 1) d (omega (arith, some)))
+    ∙ last_of_last (take (length es - 1) es) (get_or es (length es - 1) d) c last
+
+-- With one more of a client whose place gets a mark all are marked.
+pub marked_more : (met : List Bool) (es : List (ℕ × Latest)) (k : ℕ) (n : Latest) → k % PLACES < length met → AreMarked met es
+    → AreMarked (set met (k % PLACES) true) (es ++ (k, n) ∷ [])
+marked_more met es k n within marked c last unmarked =
+    elim (cases_eq (c % PLACES) (k % PLACES)) [
+      | inl same ↦ absurd (false≢true (sym unmarked ∙ ap (λ i. get_or (set met (k % PLACES) true) i false) same ∙ get_or-set_same met (k % PLACES) true false within))
+      | inr apart ↦
+          last_of_more es k n c last ∙ cond-false (k == c) n (last_behind es c last) (ne_eqb k c (λ e. apart (ap (λ i. i % PLACES) (sym e))))
+          ∙ marked c last (sym (get_or-set_other met (k % PLACES) (c % PLACES) true false apart) ∙ unmarked)
+    ]
 
 turned_test : {A : Type 0} (a b : ℕ) (x y : A) → cond (a == b) x y ≡ cond (b == a) x y
 turned_test a b x y =

@@ -1,7 +1,7 @@
 -- Sizes of deeds: which messages do one, whether it has a spelling in a form, and how many bytes.
 -- That follows from numbers, from tuples and from who left, so it is known before anything is done.
 use Rattle.std.specs.Prelude.{◌≡◌, ℕ, Bool, ◌+◌, ◌==◌, if◌then◌else◌, All}
-use Rattle.std.specs.Prelude.{List, [], ◌∷◌, length, Option, Some, None}
+use Rattle.std.specs.Prelude.{List, [], ◌∷◌, length, Option, Some, None, get_or, ◌%◌, false}
 use Rattle.std.specs.FinMap as map
 use Rattle.linda_tuple.specs.declared.form.Form.{Form}
 use Rattle.linda_tuple.specs.Tuple.{FitsIn}
@@ -14,6 +14,7 @@ use Rattle.linda_store_state.specs.declared.deed.Deed.{Deed}
 use Rattle.linda_store_state.specs.DeedFormat.{HasLeaves, payload, SuitsForm, IsUnspelled}
 use Rattle.linda_book.specs.Entries.{Entry, left_in, number_in}
 use Rattle.linda_store_step.specs.declared.size.Need.{Need}
+use Rattle.linda_store_step.specs.declared.size.TheConstants.{PLACES}
 use Rattle.linda_store_step.specs.declared.judge.Demand.{Demand}
 use Rattle.linda_store_step.specs.declared.judge.Standing.{Standing}
 use Rattle.linda_store_step.specs.declared.judge.Verdict.{Verdict}
@@ -120,6 +121,12 @@ AllSuit form ns (m ∷ ms) =
 abbrev pub last_behind : List (ℕ × Latest) → ℕ → Latest → Latest
 last_behind [] c last = last
 last_behind (e ∷ es) c last = last_behind es c (if e.0 == c then e.1 else last)
+
+-- Of a client whose place has no mark nothing is among these.
+abbrev pub AreMarked : List Bool → List (ℕ × Latest) → Type 0
+AreMarked met es =
+    (c : ℕ) (last : Latest) → get_or met (c % PLACES) false ≡ false
+    → last_behind es c last ≡ last
 
 -- This is what the deeds need on a bank in the form: how many they are, and how many bytes they
 -- spell; it is none if one of them has no spelling there.

@@ -5,12 +5,13 @@
 //! last number of its client, how many clients are kept, and the next id. So these are counted on
 //! from message to message.
 
-ghost use Rattle.std.specs.Prelude.{◌≡◌, ◌≤◌, ◌∷◌, [], length, IfSome, IfNone};
+ghost use Rattle.std.specs.Prelude.{◌≡◌, ◌≤◌, ◌<◌, ◌%◌, ◌∷◌, [], length, IfSome, IfNone};
 ghost use Rattle.linda_store_state.specs.declared.limits.TheConstants.{MAX_DEED_BYTES};
 ghost use Rattle.linda_store_state.specs.State.{IsState};
 ghost use Rattle.linda_store_step.specs.Judge.{demand_of};
 ghost use Rattle.linda_store_step.specs.Size as spec;
 ghost use Rattle.linda_store_step.specs.Size.{bytes_from, count_from, numbers_of, AllSuit, Suits};
+ghost use Rattle.linda_store_step.specs.Size.{AreMarked};
 
 use crate::judge::{self, Demand, Standing, Verdict};
 use linda_bag::Bag;
@@ -24,6 +25,12 @@ pub const MAX_BATCH: usize = linda_store_state::MAX_DEEDS;
 /// How many messages are served together at most, those of many clients, whose deeds may take
 /// several records.
 pub const MAX_GROUP: usize = 1024;
+
+// For so many messages the room for what is last of their clients is small.
+const FEW: usize = 64;
+
+// How many places there are for marks of clients that did a deed.
+const PLACES: usize = 4096;
 
 /// What deeds need on a bank.
 #[derive(Clone, Copy, Debug, PartialEq, Eq)]
@@ -51,13 +58,37 @@ pub(crate) fn need_of<B: Bag>(
     ensures suit { IfSome result (λ need. AllSuit form (numbers_of state.now) messages.now) }
     ensures none { IfNone result (AllSuit form (numbers_of state.now) messages.now → ⊥) }
 {
-    let mut lasts = [(0, (0, false)); MAX_GROUP];
+    if messages.len() <= FEW {
+        return need_within(form, state, messages, &mut [(0, (0, false)); FEW]);
+    }
+    need_within(form, state, messages, &mut [(0, (0, false)); MAX_GROUP])
+}
+
+// The same. What is last of each client so far is kept in `lasts`.
+fn need_within<B: Bag>(
+    form: Form,
+    state: &State<B>,
+    messages: &[(u32, Message)],
+    lasts: &mut [(u32, (u64, bool))],
+) -> Option<Need>
+    requires ranges { IsState state.now }
+    requires few { length messages.now ≤ MAX_GROUP }
+    requires room { length messages.now ≤ length lasts.old }
+    ensures bytes { IfSome result (λ need.
+        need.bytes ≡ bytes_from form (numbers_of state.now) messages.now) }
+    ensures deeds { IfSome result (λ need.
+        need.deeds ≡ count_from (numbers_of state.now) messages.now) }
+    ensures few { IfSome result (λ need. need.deeds ≤ MAX_GROUP) }
+    ensures suit { IfSome result (λ need. AllSuit form (numbers_of state.now) messages.now) }
+    ensures none { IfNone result (AllSuit form (numbers_of state.now) messages.now → ⊥) }
+{
+    let mut met = [false; PLACES];
     let mut count = 0;
     let mut clients = state.book.len();
     let mut next = state.next;
     let mut bytes = 0;
     for (client, message) in messages {
-        let (last, left) = last_behind(&lasts[..count], *client, state.book.standing(*client));
+        let (last, left) = latest(&met, &lasts[..count], *client, state.book.standing(*client));
         let at = Standing {
             last,
             left,
@@ -69,6 +100,7 @@ pub(crate) fn need_of<B: Bag>(
         };
         let size = deed_bytes(form, message)?;
         lasts[count] = (*client, (done.n, done.leaves()));
+        met[place_of(*client)] = true;
         count += 1;
         clients += usize::from(last == 0);
         next += u64::from(done.puts());
@@ -144,15 +176,38 @@ fn deed_bytes(form: Form, message: &Message) -> Option<usize>
 }
 
 // What is last of the client after these, each a client with its number and whether it left; or
-// else this one.
+// else this one. They are gone through only if the client's place is marked, so a group of many
+// clients takes no more for each of them than a small one.
+fn latest(met: &[bool], lasts: &[(u32, (u64, bool))], client: u32, last: (u64, bool)) -> (u64, bool)
+    requires places { length met.now ≡ PLACES }
+    requires marked { AreMarked met.now lasts.now }
+    ensures { result ≡ spec.last_behind lasts.now client last }
+{
+    if met[place_of(client)] {
+        return last_behind(lasts, client, last);
+    }
+    last
+}
+
+// The client's place among the marks.
+fn place_of(client: u32) -> usize
+    ensures exact { result ≡ client % PLACES }
+    ensures within { result < PLACES }
+{
+    client as usize % PLACES
+}
+
+// The same, found from the end.
 fn last_behind(lasts: &[(u32, (u64, bool))], client: u32, last: (u64, bool)) -> (u64, bool)
     ensures { result ≡ spec.last_behind lasts.now client last }
 {
     match lasts {
         [] => last,
-        [(other, latest), rest @ ..] => {
-            let last = if *other == client { *latest } else { last };
-            last_behind(rest, client, last)
+        [before @ .., (other, latest)] => {
+            if *other == client {
+                return *latest;
+            }
+            last_behind(before, client, last)
         }
     }
 }

@@ -1,3 +1,4 @@
+mod copies;
 mod groups;
 mod memory;
 mod script;

@@ -23,7 +23,7 @@ const CLIENTS: [u32; 3] = [7, 8, 9];
 
 /// A put of 7 and one of 8, what 9 asks for after them, a wrong number of 7, and the put of 8 once
 /// more.
-const MIXED: &str =
+pub(crate) const MIXED: &str =
     "7 out 1 (\"a\", 3); 8 out 1 (\"b\", 4); 9 in 1 (\"b\", ?i); 7 out 3 (\"a\", 5); \
      8 out 1 (\"b\", 4)";
 
@@ -31,7 +31,8 @@ const MIXED: &str =
 /// it put.
 const TAKEN: &str = "9 accept 1 1 2; 7 in 1 (\"c\", ?i); 7 in 2 (\"a\", ?i)";
 
-const TOLD: &str = "7 has 1\n8 has 1\n9 has 0\n7 has 1\n8 has 1\n\
+/// What comes of both groups, and of the end.
+pub(crate) const TOLD: &str = "7 has 1\n8 has 1\n9 has 0\n7 has 1\n8 has 1\n\
     > 7 stored 1 1\n> 7 refused 5 1\n> 8 stored 1 2\n> 8 stored 1 2\n> 9 offer 1 2 (\"b\", 4)\n\
     up, 1 records\n\
     9 has 1\n7 has 1\n7 has 1\n\
@@ -45,7 +46,8 @@ const STOPS: Stand = Stand {
     stops_in: Some(0),
 };
 
-const DOWN: &str = "7 down\n8 down\n9 down\n7 down\n8 down\nnobody is up\n";
+/// What comes of the first group if the server goes down in it.
+pub(crate) const DOWN: &str = "7 down\n8 down\n9 down\n7 down\n8 down\nnobody is up\n";
 
 /// What was posted.
 #[derive(Drop)]
@@ -92,8 +94,8 @@ fn tell_sent(alloc: Global, told: &mut String, sent: Sent) -> Result<(), AllocEr
     Ok(())
 }
 
-// The accounts of the clients, by place.
-fn admitted<L: Ledger, R: Wait>(
+/// The accounts of the clients, by place.
+pub(crate) fn admitted<L: Ledger, R: Wait>(
     rt: &R,
     alloc: Global,
     shared: &Shared<MemDisk, L>,
@@ -135,9 +137,9 @@ fn put_in<L: Ledger>(
     Ok(())
 }
 
-// Serves what the words say as one group, and writes of each answer how many deeds its client was
-// told of then, or the fault; then what was posted.
-fn play_group<L: Ledger, R: Wait>(
+/// Serves what the words say as one group, and writes of each answer how many deeds its client was
+/// told of then, or the fault; then what was posted.
+pub(crate) fn play_group<L: Ledger, R: Wait>(
     rt: &R,
     alloc: Global,
     shared: &Shared<MemDisk, L>,
@@ -180,6 +182,7 @@ fn tell_answer<L: Ledger>(
     match hear_answer(account, &message, answered) {
         Ok(()) => Ok(writeln!(told, "{} has {}", account.client(), account.deeds())?),
         Err(SharedFault::Down) => Ok(writeln!(told, "{} down", account.client())?),
+        Err(SharedFault::Memory) => Ok(writeln!(told, "{} memory", account.client())?),
         Err(_) => Err(AllocError),
     }
 }

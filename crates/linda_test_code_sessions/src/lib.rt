@@ -19,6 +19,8 @@ mod life;
 #[cfg(test)]
 mod pacing;
 #[cfg(test)]
+mod refused;
+#[cfg(test)]
 mod script;
 #[cfg(test)]
 mod snapshots;

@@ -1,7 +1,8 @@
 //! Client of a run: its number, what it asked for, and what it makes of replies.
 
 use crate::dice::Dice;
-use crate::words::{Bad, Field, Form, SPOKEN, Said, Told, Value, WORDS};
+use crate::draw::{bad_of, form_of, value_of};
+use crate::words::{SPOKEN, Said, Told};
 use std::alloc::{AllocError, Global};
 use std::collections::VecDeque;
 
@@ -27,6 +28,8 @@ pub struct Client {
     // The last number that was answered, and messages after it.
     last: u64,
     pending: VecDeque<Said>,
+    // So many numbered messages are still to be refused, as one before them was.
+    gaps: usize,
     ticket: u64,
     tickets: Vec<u64>,
     offers: Vec<(u64, u64)>,
@@ -46,6 +49,7 @@ impl Client {
             has_left: false,
             last: 0,
             pending: VecDeque::new(alloc),
+            gaps: 0,
             ticket: 0,
             tickets: Vec::new(alloc),
             offers: Vec::new(alloc),
@@ -57,6 +61,7 @@ impl Client {
         self.conn = None;
         self.has_hailed = false;
         self.is_greeted = false;
+        self.gaps = 0;
         self.tickets.clear();
         self.offers.clear();
     }
@@ -319,6 +324,21 @@ impl Client {
         }
     }
 
+    // Its first numbered message without an answer found no room. Those after it are refused, as
+    // their numbers do not come next; what it asks for it may ask for again.
+    fn find_no_room(&mut self) {
+        if !self.is_rude {
+            let after = self.pending.len().saturating_sub(1);
+            self.gaps = self.gaps.saturating_add(after);
+        }
+        if let Some(Said::Accept { ticket, id, .. }) = self.pending.front().copied() {
+            // Without memory it is forgotten, which is no fault of the server.
+            let _ = self.offers.push((ticket, id));
+        }
+        self.has_left = false;
+        self.pending.clear();
+    }
+
     fn refused(&mut self, code: u8, detail: u64) -> Option<&'static str> {
         match code {
             // It greets again.
@@ -333,6 +353,10 @@ impl Client {
                 self.is_known = true;
                 None
             }
+            5 if self.gaps > 0 => {
+                self.gaps = self.gaps.saturating_sub(1);
+                None
+            }
             4 | 5 => {
                 self.last = detail;
                 self.pending.clear();
@@ -341,6 +365,10 @@ impl Client {
                 } else {
                     Some("a client that counts was refused a number")
                 }
+            }
+            6 => {
+                self.find_no_room();
+                None
             }
             10 => {
                 self.forget(detail);
@@ -353,40 +381,5 @@ impl Client {
             }
             _ => None,
         }
-    }
-}
-
-fn value_of(dice: &mut Dice) -> Value {
-    Value {
-        word: word_of(dice),
-        number: i64::from(dice.below(3)),
-    }
-}
-
-fn word_of(dice: &mut Dice) -> u8 {
-    u8::try_from(dice.below(WORDS)).unwrap_or(0)
-}
-
-fn form_of(dice: &mut Dice) -> Form {
-    let field = match dice.below(8) {
-        0 => Field::Any,
-        1 => Field::AnyText,
-        2 => Field::AnyInt,
-        _ => Field::Is(i64::from(dice.below(3))),
-    };
-    Form {
-        word: word_of(dice),
-        field,
-    }
-}
-
-fn bad_of(dice: &mut Dice) -> Bad {
-    match dice.below(6) {
-        0 => Bad::Empty,
-        1 => Bad::Long,
-        2 => Bad::Kind(0x17),
-        3 => Bad::Short(u8::try_from(dice.below(8)).unwrap_or(0)),
-        4 => Bad::More,
-        _ => Bad::Flag,
     }
 }

@@ -69,7 +69,9 @@ pub fn compare<S: Side, R: Wait>(rt: &R, side: &S, world: &mut World, turned: Op
         && counts.waits == model.waiting()
         && counts.clients == model.lasts.len()
         && counts.next == model.next
-        && counts.deeds == model.deeds;
+        && counts.deeds == model.deeds
+        && counts.used == model.bank.now.used
+        && counts.records == model.bank.now.records;
     if !is_so {
         world.blame("the server counts otherwise");
     }

@@ -8,6 +8,8 @@ use std::alloc::{AllocError, Global};
 #[derive(Drop)]
 pub struct Course {
     pub seed: u64,
+    /// Memory is scarce.
+    pub is_scarce: bool,
     // So many events from 0 on, if there is no list.
     count: u64,
     list: Option<Vec<u64>>,
@@ -15,21 +17,28 @@ pub struct Course {
 
 impl Course {
     /// So many events.
-    pub fn whole(seed: u64, count: u64) -> Course {
+    pub fn whole(seed: u64, is_scarce: bool, count: u64) -> Course {
         Course {
             seed,
+            is_scarce,
             count,
             list: None,
         }
     }
 
     /// These events.
-    pub fn of(seed: u64, list: Vec<u64>) -> Course {
+    pub fn of(seed: u64, is_scarce: bool, list: Vec<u64>) -> Course {
         Course {
             seed,
+            is_scarce,
             count: list.len() as u64,
             list: Some(list),
         }
+    }
+
+    /// The same run with these events.
+    pub fn with(&self, list: Vec<u64>) -> Course {
+        Course::of(self.seed, self.is_scarce, list)
     }
 
     /// How many events there are.

@@ -1,6 +1,7 @@
 //! Events of a run: what may happen next, drawn by its dice.
 
 use crate::compare::compare;
+use crate::keep::keep;
 use crate::machine::Machine;
 use crate::net::Pipe;
 use crate::rest::rest;
@@ -25,6 +26,16 @@ pub fn happen<S: Side, R: Wait>(
     world: &mut World,
 ) -> Result<bool, AllocError> {
     world.tally.events = world.tally.events.saturating_add(1);
+    let goes_on = happen_some(rt, side, world)?;
+    Ok(goes_on && !world.is_over)
+}
+
+// The next thing. Says whether the server goes on.
+fn happen_some<S: Side, R: Wait>(
+    rt: &Machine<'_, R>,
+    side: &mut S,
+    world: &mut World,
+) -> Result<bool, AllocError> {
     let choice = world.dice.below(64);
     if choice < 20 {
         speak(rt, side, world)?;
@@ -163,10 +174,14 @@ fn connect<S: Side>(side: &mut S, world: &mut World, index: usize, now: u64) {
 pub fn turn<S: Side, R: Wait>(rt: &Machine<'_, R>, side: &mut S, world: &mut World, which: Loop) {
     if side.count(rt).is_down {
         world.is_down = true;
+        world.was_down = true;
     }
+    world.begin_call();
     side.turn(rt, which);
+    world.end_call();
     world.hear_notes(rt.now());
     compare(rt, side, world, Some(which));
+    world.shaky = world.shaky.saturating_sub(1);
 }
 
 /// Each loop makes a turn.
@@ -201,26 +216,6 @@ fn disturb<S: Side>(side: &mut S, world: &mut World) {
         }
     }
     side.wake(conn.place, true, choice == 2);
-}
-
-// A snapshot begins, goes on or is taken whole, and what nobody needs is forgotten.
-fn keep<S: Side, R: Wait>(rt: &Machine<'_, R>, side: &mut S, world: &mut World) {
-    world.tally.snapshots = world.tally.snapshots.saturating_add(1);
-    match world.dice.below(8) {
-        0 => side.snapshot(rt),
-        1 => side.begin_steps(rt),
-        2 => {
-            if side.pays(rt) {
-                side.snapshot(rt);
-            }
-        }
-        3 => side.forget(rt),
-        _ => {
-            let most = world.dice.below(256) as usize;
-            side.step(rt, most);
-        }
-    }
-    compare(rt, side, world, None);
 }
 
 // A second goes by: clients that hold a tuple and say nothing may be late.

@@ -16,8 +16,8 @@ pub enum How {
     Shrink,
 }
 
-/// The run that a line says: `SEED EVENTS`, or `SEED only NUMBER ..`, after a word for how it is
-/// played, if there is one.
+/// The run that a line says: `SEED EVENTS`, or `SEED only NUMBER ..`, after the word `scarce`, if
+/// memory is, and after a word for how it is played, if there is one.
 pub fn read_line(alloc: Global, line: &str) -> Result<Option<(How, Course)>, AllocError> {
     let line = line.trim();
     let (how, words) = match line.split_once(' ') {
@@ -33,6 +33,10 @@ pub fn read_line(alloc: Global, line: &str) -> Result<Option<(How, Course)>, All
 }
 
 fn read_course(alloc: Global, words: &str) -> Result<Option<Course>, AllocError> {
+    let (is_scarce, words) = match words.strip_prefix("scarce ") {
+        Some(words) => (true, words),
+        None => (false, words),
+    };
     let Some((seed, rest)) = words.split_once(' ') else {
         return Ok(None);
     };
@@ -41,12 +45,12 @@ fn read_course(alloc: Global, words: &str) -> Result<Option<Course>, AllocError>
     };
     if let Some(numbers) = rest.strip_prefix("only ") {
         return match read_numbers(alloc, numbers)? {
-            Some(list) => Ok(Some(Course::of(seed, list))),
+            Some(list) => Ok(Some(Course::of(seed, is_scarce, list))),
             None => Ok(None),
         };
     }
     match rest.parse::<u64>() {
-        Ok(count) => Ok(Some(Course::whole(seed, count))),
+        Ok(count) => Ok(Some(Course::whole(seed, is_scarce, count))),
         Err(_) => Ok(None),
     }
 }

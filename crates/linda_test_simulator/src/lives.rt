@@ -3,14 +3,17 @@
 ghost use Rattle.std.specs.Prelude.{◌≡◌, false, IfSome};
 ghost use Rattle.linda_shared_accounts.specs.declared.limits.TheConstants.{PARTS};
 
+use crate::bank::{Bank, Taken};
 use crate::check::is_kept;
 use crate::course::Course;
+use crate::disk::TornDisk;
 use crate::events::happen;
 use crate::machine::Machine;
+use crate::model::Model;
 use crate::rig::{Rig, relays_of};
+use crate::scarce::Scarce;
 use crate::side::Side;
 use crate::world::World;
-use linda_disk::{MemDisk, Torn};
 use linda_server::Durable;
 use linda_shared::Shared;
 use linda_shared_accounts::PARTS;
@@ -20,15 +23,15 @@ use std::net::Net;
 use std::sync::Wait;
 use std::sync::ledger::{Blank, Ledger};
 
-/// The most bytes of a bank.
-const LIMIT: usize = 4_194_304;
-
 /// How often a server is opened again at most that stops while it is opened.
-const MOST_TRIES: u32 = 8;
+const MOST_TRIES: u32 = 16;
 
 /// Plays a run.
 pub fn play<R: Wait + Net>(rt: &R, alloc: Global, course: &Course) -> Result<World, AllocError> {
     let mut world = World::new(alloc, course.seed, clients_of(course.seed))?;
+    if course.is_scarce {
+        world.scarce = Some(Scarce::new(alloc));
+    }
     let machine = Machine::new(rt);
     let mut disks = None;
     for _ in 0..course.len() {
@@ -53,6 +56,7 @@ pub fn play<R: Wait + Net>(rt: &R, alloc: Global, course: &Course) -> Result<Wor
             break;
         }
     }
+    world.tally.given_up = world.model.bank.given_up;
     Ok(world)
 }
 
@@ -70,9 +74,9 @@ fn clients_of(seed: u64) -> u32 {
 // not as it has to be.
 fn begin(
     alloc: Global,
-    disks: Option<(MemDisk, MemDisk)>,
+    disks: Option<(TornDisk, TornDisk)>,
     world: &mut World,
-) -> Option<Durable<MemDisk>>
+) -> Option<Durable<TornDisk>>
     ensures { IfSome result (λ s. s.down ≡ false) }
 {
     match disks {
@@ -82,12 +86,20 @@ fn begin(
 }
 
 // A server that was never used.
-fn create(alloc: Global, world: &mut World) -> Option<Durable<MemDisk>>
+fn create(alloc: Global, world: &mut World) -> Option<Durable<TornDisk>>
     ensures { IfSome result (λ s. s.down ≡ false) }
 {
-    match Durable::create(alloc, MemDisk::new(alloc), MemDisk::new(alloc), LIMIT) {
-        Ok(server) => Some(server),
-        Err(_) => {
+    let limit = world.draw_limit();
+    world.model.bank = Bank::new(limit);
+    match (TornDisk::new(alloc), TornDisk::new(alloc)) {
+        (Ok(left), Ok(right)) => match Durable::create(alloc, left, right, limit) {
+            Ok(server) => Some(server),
+            Err(_) => {
+                world.blame("the run has no memory");
+                None
+            }
+        },
+        _ => {
             world.blame("the run has no memory");
             None
         }
@@ -95,19 +107,29 @@ fn create(alloc: Global, world: &mut World) -> Option<Durable<MemDisk>>
 }
 
 // The server is opened on what a stop leaves of its disks, while it may stop again.
-fn open(alloc: Global, left: MemDisk, right: MemDisk, world: &mut World) -> Option<Durable<MemDisk>>
+fn open(
+    alloc: Global,
+    left: TornDisk,
+    right: TornDisk,
+    world: &mut World,
+) -> Option<Durable<TornDisk>>
     ensures { IfSome result (λ s. s.down ≡ false) }
 {
     let mut left = left;
     let mut right = right;
+    let limit = world.draw_limit();
     for _ in 0..MOST_TRIES {
         crash(&mut left, world);
         crash(&mut right, world);
         trouble(&mut left, world);
         trouble(&mut right, world);
-        match Durable::open(alloc, left, right, LIMIT) {
+        world.begin_call();
+        let opened = Durable::open(alloc, left, right, limit);
+        world.end_call();
+        world.shaky = 0;
+        match opened {
             Ok(server) => {
-                find(&server, world);
+                find(&server, limit, world);
                 return Some(server);
             }
             Err((_, one, other)) => {
@@ -125,17 +147,17 @@ fn live<L: Ledger, R: Wait + Net>(
     rt: &Machine<'_, R>,
     alloc: Global,
     blank: Blank,
-    server: Durable<MemDisk>,
+    server: Durable<TornDisk>,
     world: &mut World,
     course: &Course,
-) -> Option<(MemDisk, MemDisk)>
+) -> Option<(TornDisk, TornDisk)>
     requires up { server.down ≡ false }
     requires blank { (blank.name ≡ L.name) × (blank.parts ≡ L.parts) × (L.parts ≡ PARTS) }
 {
     let Ok(relays) = relays_of(rt.runtime(), alloc) else {
         return None;
     };
-    match Shared::<MemDisk, L>::new(alloc, server, blank) {
+    match Shared::<TornDisk, L>::new(alloc, server, blank) {
         Ok(shared) => match Rig::new(alloc, shared, relays) {
             Ok(rig) => {
                 let mut rig = rig;
@@ -167,20 +189,15 @@ fn work<S: Side, R: Wait>(rt: &Machine<'_, R>, side: &mut S, world: &mut World, 
 }
 
 // What a crash leaves of a disk.
-fn crash(disk: &mut MemDisk, world: &mut World) {
-    let torn = match world.dice.below(4) {
-        0 => Torn::Kept,
-        1 => Torn::Lost,
-        2 => Torn::Filled(0),
-        _ => Torn::Filled(u8::try_from(world.dice.below(256)).unwrap_or(1)),
-    };
-    if disk.crash(torn).is_err() {
-        world.blame("the run has no memory");
+fn crash(disk: &mut TornDisk, world: &mut World) {
+    match disk.crash(&mut world.dice) {
+        Ok(count) => world.tally.torn = world.tally.torn.saturating_add(count),
+        Err(_) => world.blame("the run has no memory"),
     }
 }
 
 // What goes wrong with a disk in the next life.
-fn trouble(disk: &mut MemDisk, world: &mut World) {
+fn trouble(disk: &mut TornDisk, world: &mut World) {
     if world.dice.one_in(2) {
         let most = if world.dice.one_in(2) { 40 } else { 400 };
         let calls = world.dice.below(most);
@@ -193,13 +210,22 @@ fn trouble(disk: &mut MemDisk, world: &mut World) {
 }
 
 // Looks whether the server keeps what was answered, and some first of the unanswered messages.
-fn find(server: &Durable<MemDisk>, world: &mut World) {
+fn find(server: &Durable<TornDisk>, limit: usize, world: &mut World) {
+    let taken = Taken {
+        used: server.used(),
+        records: server.records(),
+    };
     for at in 0..=world.unanswered.len() {
-        if is_kept(server.state(), &world.model) {
-            world.settle(at);
+        if is_kept(server.state(), &world.model) && is_taken(taken, &world.model) {
+            world.settle(at, limit, taken);
             return;
         }
         world.do_unanswered(at);
     }
     world.blame("a server was opened that keeps other than was answered");
+}
+
+// Whether this may be taken of the bank of a server that keeps what the model does.
+fn is_taken(taken: Taken, model: &Model) -> bool {
+    model.bank.may_be(taken, model.snapshot_len())
 }

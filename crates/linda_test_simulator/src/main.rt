@@ -4,13 +4,18 @@
 #![tactic(auto)]
 
 mod asks;
+mod bank;
 mod check;
 mod client;
 mod compare;
 mod conn;
 mod course;
 mod dice;
+mod disk;
+mod draw;
 mod events;
+mod group;
+mod keep;
 mod lines;
 mod lives;
 mod machine;
@@ -20,6 +25,7 @@ mod notes;
 mod print;
 mod rest;
 mod rig;
+mod scarce;
 mod shrink;
 mod side;
 mod tally;

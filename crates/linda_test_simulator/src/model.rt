@@ -1,11 +1,12 @@
 //! Model of a server, by the table "What a server answers" of `docs/FORMATS.md`: a list of tuples,
 //! a list of kept replies, and a queue of waits.
 
+use crate::bank::{Bank, deed_len, last_len, snapshot_len};
 use crate::words::{Form, SPOKEN, Said, Told, Value};
 use std::alloc::{AllocError, Global};
 
 /// The number from which on no number and no id is given.
-const SPENT: u64 = 9_223_372_036_854_775_808;
+pub const SPENT: u64 = 9_223_372_036_854_775_808;
 
 /// A tuple, and for whom it is held: a client and a ticket.
 #[derive(Clone, Copy)]
@@ -46,17 +47,19 @@ pub struct Model {
     pub lasts: Vec<Last>,
     /// In order of arrival.
     pub waits: Vec<Waiting>,
+    pub bank: Bank,
 }
 
 impl Model {
-    /// A server that was never used.
-    pub fn new(alloc: Global) -> Model {
+    /// A server that was never used, whose bank takes so many bytes at most.
+    pub fn new(alloc: Global, limit: usize) -> Model {
         Model {
             next: 1,
             deeds: 0,
             items: Vec::new(alloc),
             lasts: Vec::new(alloc),
             waits: Vec::new(alloc),
+            bank: Bank::new(limit),
         }
     }
 
@@ -87,6 +90,14 @@ impl Model {
         None
     }
 
+    /// Whether the client has left.
+    pub fn has_left(&self, client: u32) -> bool {
+        match self.find_last(client) {
+            Some(last) => matches!(last.reply, Told::Left { .. }),
+            None => false,
+        }
+    }
+
     /// Whether the client holds a tuple.
     pub fn holds_any(&self, client: u32) -> bool {
         for item in self.items.iter() {
@@ -108,6 +119,15 @@ impl Model {
             }
         }
         count
+    }
+
+    /// How many bytes a snapshot has.
+    pub fn snapshot_len(&self) -> usize {
+        let mut lasts: usize = 0;
+        for last in self.lasts.iter() {
+            lasts = lasts.saturating_add(last_len(last.reply));
+        }
+        snapshot_len(self.items.len(), lasts)
     }
 
     /// How many asks wait.
@@ -178,6 +198,11 @@ impl Model {
         if n >= SPENT || (is_out && self.next >= SPENT) {
             return tell(sends, client, refused(6, 1));
         }
+        let len = deed_len(said).unwrap_or(0);
+        if self.bank.refuses(len) {
+            return tell(sends, client, refused(6, 0));
+        }
+        self.bank.add(len);
         match said {
             Said::Out { value, .. } => self.put(client, n, value, sends),
             Said::Accept { ticket, id, .. } => self.accept(client, n, ticket, id, sends),

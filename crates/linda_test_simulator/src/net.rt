@@ -15,6 +15,9 @@ use std::rc::Rc;
 /// How many connections there are at most.
 pub const MOST_LINES: usize = 160;
 
+/// How many notes have room.
+const NOTES: usize = 16_384;
+
 /// What a connection noted.
 #[derive(Clone, Copy)]
 pub enum Noted {
@@ -67,6 +70,8 @@ impl Wire {
     pub fn begin(&mut self, room: usize) {
         self.inbox.clear();
         self.outbox.clear();
+        // Without memory a write fails.
+        let _ = self.outbox.reserve(room);
         self.room = room;
         self.is_shut = false;
         self.is_cut = false;
@@ -138,7 +143,8 @@ impl Net {
         }
         Ok(Net {
             wires,
-            notes: VecDeque::new(alloc),
+            // A server that has no memory left has what it does noted all the same.
+            notes: VecDeque::with_capacity(alloc, NOTES)?,
             is_lost: false,
         })
     }

@@ -14,8 +14,12 @@ const SECOND: u64 = 1_000_000_000;
 impl World {
     /// Hears what connections noted until now.
     pub fn hear_notes(&mut self, now: u64) {
+        self.group.is_begun = false;
         for _ in 0..MOST_NOTES {
             let Some((at, noted)) = self.next_note() else {
+                if !self.is_noted {
+                    self.blame("the run has no memory");
+                }
                 return;
             };
             self.hear(at, noted, now);
@@ -27,6 +31,7 @@ impl World {
             return None;
         };
         let net = &mut *net;
+        self.is_noted = self.is_noted && !net.is_lost;
         net.notes.pop_front()
     }
 
@@ -97,6 +102,7 @@ impl World {
         };
         let Some(answer) = answer else {
             self.is_down = true;
+            self.is_over = self.is_over || self.shaky > 0;
             return;
         };
         let client = match said {
@@ -142,8 +148,10 @@ impl World {
             self.blame("a message was served of a connection that was not greeted");
             return;
         };
+        self.begin_group(client, said);
         if !is_done {
             self.is_down = true;
+            self.is_over = self.is_over || self.shaky > 0 || self.model.bank.is_tight();
             if self.unanswered.push((client, said)).is_err() {
                 self.blame("the run has no memory");
             }

@@ -12,12 +12,20 @@ pub fn print_tally<R: Print>(rt: &R, it: &Tally) -> io::Result<()> {
         it.events, it.greetings, it.messages, it.stored, it.offers, it.reads, it.taken
     )?;
     println!(rt;
-        "  {} gone, {} refused, {} left, {} cuts, {} leases, {} snapshots and steps, {} rests",
-        it.gone, it.refused, it.left, it.cuts, it.lapses, it.snapshots, it.rests
+        "  {} gone, {} refused, {} of these for room, {} left, {} cuts, {} leases, {} rests",
+        it.gone, it.refused, it.full, it.left, it.cuts, it.lapses, it.rests
+    )?;
+    println!(rt;
+        "  {} snapshots and steps, {} snapshots given up for room, {} times memory was refused",
+        it.snapshots, it.given_up, it.refusals
     )?;
     println!(rt;
         "  {} stops, {} within a call, {} of {} unanswered messages were done; sum {}",
         it.stops, it.falls, it.done, it.unanswered, it.sum
+    )?;
+    println!(rt;
+        "  {} writes and cuts kept, lost or torn by themselves",
+        it.torn
     )
 }
 
@@ -52,7 +60,8 @@ pub fn print_difference<R: Print>(rt: &R, world: &World, fault: &str) -> io::Res
 
 /// Prints the run as a line that plays it.
 pub fn print_course<R: Print>(rt: &R, course: &Course) -> io::Result<()> {
-    print!(rt; "tell {} only", course.seed)?;
+    let scarce = if course.is_scarce { "scarce " } else { "" };
+    print!(rt; "tell {}{} only", scarce, course.seed)?;
     for at in 0..course.len() {
         print!(rt; " {}", course.number(at))?;
     }

@@ -26,6 +26,9 @@ pub fn rest<S: Side, R: Wait>(
             deliver_some(side, world, at, usize::MAX);
         }
         turn_both(rt, side, world);
+        if world.is_over {
+            return Ok(());
+        }
         for at in 0..world.conns.len() {
             fetch_some(side, world, at, usize::MAX)?;
         }

@@ -1,11 +1,11 @@
 //! Rig: a server on two disks in memory, with the connections of two loops.
 
+use crate::disk::TornDisk;
 use crate::net::Pipe;
-use crate::side::{Counts, Loop, Place, Side};
-use linda_disk::MemDisk;
+use crate::side::{Counts, Loop, Place, Renewal, Side};
 use linda_net_loops::Serving;
 use linda_net_relays::{Look, Relay, Relays};
-use linda_shared::Shared;
+use linda_shared::{Progress, Shared, SharedFault};
 use mio::{Poll, Token, Waker};
 use std::alloc::Global;
 use std::io;
@@ -17,7 +17,7 @@ use std::time::Clock;
 /// A server and its connections. Its loops take turns, so nobody waits for their bells.
 #[derive(Drop)]
 pub struct Rig<L: Ledger> {
-    shared: Shared<MemDisk, L>,
+    shared: Shared<TornDisk, L>,
     relays: Relays,
     first: Serving<Pipe, L>,
     second: Serving<Pipe, L>,
@@ -25,7 +25,7 @@ pub struct Rig<L: Ledger> {
 
 impl<L: Ledger> Rig<L> {
     /// A server without connections.
-    pub fn new(alloc: Global, shared: Shared<MemDisk, L>, relays: Relays) -> io::Result<Rig<L>> {
+    pub fn new(alloc: Global, shared: Shared<TornDisk, L>, relays: Relays) -> io::Result<Rig<L>> {
         let first = Serving::new(alloc, 0)?;
         let second = Serving::new(alloc, 1)?;
         Ok(Rig {
@@ -37,7 +37,7 @@ impl<L: Ledger> Rig<L> {
     }
 
     /// The disks of the server.
-    pub fn into_disks(self) -> (MemDisk, MemDisk) {
+    pub fn into_disks(self) -> (TornDisk, TornDisk) {
         let Rig { shared, .. } = self;
         shared.into_server().into_disks()
     }
@@ -52,6 +52,15 @@ pub fn relays_of<R: Net>(rt: &R, alloc: Global) -> io::Result<Relays> {
         relays.push(Relay::new(alloc, bell))?;
     }
     Ok(Relays::new(alloc, relays))
+}
+
+// What came of a snapshot that was not taken.
+fn refused(fault: SharedFault) -> Renewal {
+    if fault == SharedFault::Full {
+        Renewal::Full
+    } else {
+        Renewal::Down
+    }
 }
 
 impl<L: Ledger> Side for Rig<L> {
@@ -95,16 +104,31 @@ impl<L: Ledger> Side for Rig<L> {
         }
     }
 
-    fn begin_steps<R: Wait>(&mut self, rt: &R) {
-        let _ = self.shared.begin_steps(rt);
+    fn begin_steps<R: Wait>(&mut self, rt: &R) -> Renewal {
+        match self.shared.begin_steps(rt) {
+            Ok(()) => Renewal::Going,
+            Err(fault) => refused(fault),
+        }
     }
 
-    fn step<R: Wait>(&mut self, rt: &R, most: usize) {
-        let _ = self.shared.step(rt, most);
+    fn copy_clients<R: Wait>(&mut self, rt: &R, most: u32) {
+        let _ = self.shared.copy_clients(rt, most);
     }
 
-    fn snapshot<R: Wait>(&mut self, rt: &R) {
-        let _ = self.shared.snapshot(rt);
+    fn step<R: Wait>(&mut self, rt: &R, most: usize) -> Renewal {
+        match self.shared.step(rt, most) {
+            Ok(Progress::Idle) => Renewal::Idle,
+            Ok(Progress::Going) => Renewal::Going,
+            Ok(Progress::Done) => Renewal::Done,
+            Err(fault) => refused(fault),
+        }
+    }
+
+    fn snapshot<R: Wait>(&mut self, rt: &R) -> Renewal {
+        match self.shared.snapshot(rt) {
+            Ok(()) => Renewal::Done,
+            Err(fault) => refused(fault),
+        }
     }
 
     fn pays<R: Wait>(&self, rt: &R) -> bool {
@@ -124,6 +148,8 @@ impl<L: Ledger> Side for Rig<L> {
             clients: gauge.clients,
             next: gauge.next,
             deeds: gauge.deeds,
+            used: gauge.used,
+            records: gauge.records,
             is_down: gauge.is_down,
         }
     }

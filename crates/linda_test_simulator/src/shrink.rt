@@ -29,13 +29,13 @@ pub fn shrink<R: Wait + Net>(
             start = 0;
             piece /= 2;
         }
-        let shorter = Course::of(course.seed, without(alloc, &list, start, piece.max(1))?);
+        let shorter = course.with(without(alloc, &list, start, piece.max(1))?);
         match difference(rt, alloc, &shorter)? {
             Some(count) => list = shorter.first(alloc, count)?,
             None => start = start.saturating_add(piece.max(1)),
         }
     }
-    Ok(Some(Course::of(course.seed, list)))
+    Ok(Some(course.with(list)))
 }
 
 // After how many events the run differs, if it does.

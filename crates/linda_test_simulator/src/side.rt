@@ -38,11 +38,14 @@ pub trait Side {
     fn look<R: Wait>(&mut self, rt: &R, which: Loop, look: Look, seconds: u32);
 
     /// Begins a snapshot in steps, takes a step of so many bytes, or takes one whole.
-    fn begin_steps<R: Wait>(&mut self, rt: &R);
+    fn begin_steps<R: Wait>(&mut self, rt: &R) -> Renewal;
 
-    fn step<R: Wait>(&mut self, rt: &R, most: usize);
+    /// Copies so many clients at most for a snapshot in steps that begins later.
+    fn copy_clients<R: Wait>(&mut self, rt: &R, most: u32);
 
-    fn snapshot<R: Wait>(&mut self, rt: &R);
+    fn step<R: Wait>(&mut self, rt: &R, most: usize) -> Renewal;
+
+    fn snapshot<R: Wait>(&mut self, rt: &R) -> Renewal;
 
     /// Whether a snapshot pays for itself.
     fn pays<R: Wait>(&self, rt: &R) -> bool;
@@ -54,6 +57,21 @@ pub trait Side {
     fn count<R: Wait>(&self, rt: &R) -> Counts;
 }
 
+/// What came of a snapshot, or of a step of one.
+#[derive(Clone, Copy, PartialEq, Eq)]
+pub enum Renewal {
+    /// The new bank is in use.
+    Done,
+    /// It goes on.
+    Going,
+    /// None is begun.
+    Idle,
+    /// There is no room for it.
+    Full,
+    /// The server is down.
+    Down,
+}
+
 /// What a server counts.
 #[derive(Clone, Copy)]
 pub struct Counts {
@@ -63,5 +81,8 @@ pub struct Counts {
     pub clients: usize,
     pub next: u64,
     pub deeds: u64,
+    /// Bytes and records of the bank in use.
+    pub used: usize,
+    pub records: usize,
     pub is_down: bool,
 }

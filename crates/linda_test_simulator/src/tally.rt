@@ -14,17 +14,25 @@ pub struct Tally {
     pub taken: u64,
     pub gone: u64,
     pub refused: u64,
+    /// Of these, messages that found no room on the bank.
+    pub full: u64,
     pub left: u64,
     pub cuts: u64,
     pub lapses: u64,
     pub snapshots: u64,
+    /// Snapshots in steps that were given up for room.
+    pub given_up: u64,
     pub rests: u64,
+    /// Calls of the server for which memory was short.
+    pub refusals: u64,
     pub stops: u64,
     /// Stops within a call.
     pub falls: u64,
     /// Unanswered messages at stops, and how many of these were done.
     pub unanswered: u64,
     pub done: u64,
+    /// Writes and cuts that a stop kept, lost or tore each by itself.
+    pub torn: u64,
     /// Of all bytes that went out.
     pub sum: u64,
 }
@@ -42,21 +50,28 @@ impl Tally {
             taken: 0,
             gone: 0,
             refused: 0,
+            full: 0,
             left: 0,
             cuts: 0,
             lapses: 0,
             snapshots: 0,
+            given_up: 0,
             rests: 0,
+            refusals: 0,
             stops: 0,
             falls: 0,
             unanswered: 0,
             done: 0,
+            torn: 0,
             sum: 0,
         }
     }
 
     /// A server answered this.
     pub fn hear(&mut self, told: Told) {
+        if matches!(told, Told::Refused { code: 6, .. }) {
+            self.full = self.full.saturating_add(1);
+        }
         let count = match told {
             Told::Stored { .. } => &mut self.stored,
             Told::Offer { .. } => &mut self.offers,
@@ -86,13 +101,16 @@ impl Tally {
         add(&mut self.taken, other.taken);
         add(&mut self.gone, other.gone);
         add(&mut self.refused, other.refused);
+        add(&mut self.full, other.full);
         add(&mut self.left, other.left);
         add(&mut self.cuts, other.cuts);
         add(&mut self.lapses, other.lapses);
+        add(&mut self.given_up, other.given_up);
         add(&mut self.rests, other.rests);
         add(&mut self.falls, other.falls);
         add(&mut self.unanswered, other.unanswered);
         add(&mut self.done, other.done);
+        add(&mut self.torn, other.torn);
     }
 
     /// What did not happen, if something did not.
@@ -105,6 +123,10 @@ impl Tally {
             Some("no connection was cut, no lease ran out, or there was no rest")
         } else if self.falls == 0 || self.done == 0 || self.done >= self.unanswered {
             Some("no stop within a call, or of unanswered messages all were done, or none")
+        } else if self.torn == 0 {
+            Some("no stop kept, lost or tore a write by itself")
+        } else if self.full == 0 || self.given_up == 0 {
+            Some("no message found no room, or no snapshot in steps was given up for that")
         } else {
             None
         }

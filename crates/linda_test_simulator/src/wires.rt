@@ -121,6 +121,7 @@ fn read(world: &mut World, at: usize) -> Result<(), AllocError> {
         return Ok(());
     };
     let owner = conn.owner;
+    let mut wrong = None;
     for _ in 0..conn.coming.len() {
         let Some(told) = conn.next_whole() else {
             break;
@@ -131,7 +132,7 @@ fn read(world: &mut World, at: usize) -> Result<(), AllocError> {
         let Some(client) = world.clients.get_mut(owner) else {
             break;
         };
-        let wrong = client.hear(told)?;
+        wrong = client.hear(told)?.or(wrong);
         if let Told::Welcome { .. } = told {
             for index in 0..MOST_AGAIN {
                 if let Some(said) = client.pending(index) {
@@ -139,11 +140,9 @@ fn read(world: &mut World, at: usize) -> Result<(), AllocError> {
                 }
             }
         }
-        if let Some(wrong) = wrong {
-            if world.fault.is_none() {
-                world.fault = Some(wrong);
-            }
-        }
+    }
+    if let Some(wrong) = wrong {
+        world.blame(wrong);
     }
     Ok(())
 }

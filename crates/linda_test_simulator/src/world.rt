@@ -1,15 +1,24 @@
 //! World of a run: clients, their connections, and what a server has to answer.
 
+use crate::bank::Taken;
 use crate::client::Client;
 use crate::conn::Conn;
 use crate::dice::Dice;
+use crate::group::Group;
 use crate::model::{Model, Sends};
 use crate::net::{MOST_LINES, Net, Shared};
+use crate::scarce::Scarce;
 use crate::tally::Tally;
 use crate::words::Said;
 use std::alloc::{AllocError, Global};
 use std::cell::RefCell;
 use std::rc::Rc;
+
+/// The most bytes of a bank that has much room.
+const MOST_BYTES: usize = 4_194_304;
+
+/// In so many turns after memory was refused the server may do other than it should.
+const SHAKY: u32 = 8;
 
 /// The clients of a run, the network, and the model of the server.
 #[derive(Drop)]
@@ -24,10 +33,26 @@ pub struct World {
     pub lease: Option<u32>,
     /// Connections come to both loops.
     pub has_two_loops: bool,
+    /// Banks have little room.
+    pub is_short: bool,
+    /// The numbered messages that were served last.
+    pub group: Group,
     /// Messages that the server did not answer since it went down, each with its client.
     pub unanswered: Vec<(u32, Said)>,
     /// The server is down.
     pub is_down: bool,
+    /// It was down before its last turn.
+    pub was_down: bool,
+    /// It went down amid messages that went one by one, and which of them were answered is not
+    /// known; or it does other than it should, as memory was refused. So what is written is not
+    /// compared, and the server stops at once.
+    pub is_over: bool,
+    /// In so many turns more it may do other than it should, as memory was refused.
+    pub shaky: u32,
+    /// What refuses memory, if that is scarce.
+    pub scarce: Option<Scarce>,
+    /// All that connections noted was heard.
+    pub is_noted: bool,
     /// The first difference.
     pub fault: Option<&'static str>,
     /// Where answers of the model are put.
@@ -51,26 +76,37 @@ impl World {
         }
         let lease = if dice.one_in(2) { Some(3) } else { None };
         let has_two_loops = !dice.one_in(4);
+        let is_short = dice.one_in(3);
         let net = Rc::new(alloc, RefCell::new(Net::new(alloc)?))?;
         Ok(World {
             dice,
-            model: Model::new(alloc),
+            model: Model::new(alloc, MOST_BYTES),
             net,
             conns,
             clients,
             tally: Tally::new(),
             lease,
             has_two_loops,
+            is_short,
+            group: Group::new(alloc),
             unanswered: Vec::new(alloc),
             is_down: false,
+            was_down: false,
+            is_over: false,
+            shaky: 0,
+            scarce: None,
+            is_noted: true,
             fault: None,
             sends: Vec::new(alloc),
         })
     }
 
-    /// This differs from what has to be, unless something did before.
+    /// This differs from what has to be, unless something did before. If memory was refused a while
+    /// ago that may be so, and the server stops.
     pub fn blame(&mut self, what: &'static str) {
-        if self.fault.is_none() {
+        if self.is_over || self.shaky > 0 {
+            self.is_over = true;
+        } else if self.fault.is_none() {
             self.fault = Some(what);
         }
     }
@@ -113,6 +149,9 @@ impl World {
             self.tally.falls = self.tally.falls.saturating_add(1);
         }
         self.is_down = false;
+        self.was_down = false;
+        self.is_over = false;
+        self.shaky = 0;
         for conn in self.conns.iter_mut() {
             conn.clear();
         }
@@ -125,13 +164,54 @@ impl World {
         }
     }
 
-    /// The server was opened, and of the messages that were not answered so many were done.
-    pub fn settle(&mut self, done: usize) {
+    /// The most bytes of a bank, from now on.
+    pub fn draw_limit(&mut self) -> usize {
+        if !self.is_short {
+            return MOST_BYTES;
+        }
+        let more = self.dice.below(1_500) as usize;
+        self.model
+            .snapshot_len()
+            .saturating_add(18)
+            .saturating_add(more)
+    }
+
+    /// Memory may be short for the next call of the server.
+    pub fn begin_call(&mut self) {
+        let Some(scarce) = &mut self.scarce else {
+            return;
+        };
+        if !self.dice.one_in(16) {
+            return;
+        }
+        let most = if self.dice.one_in(2) { 16 } else { 256 };
+        let number = self.dice.below(most).saturating_add(1);
+        if !scarce.refuse(number) {
+            self.blame("nothing refuses memory: tools/simulate --scarce plays this");
+        }
+    }
+
+    /// The call has ended. If memory was short for it the server may do other than it should.
+    pub fn end_call(&mut self) {
+        let Some(scarce) = &mut self.scarce else {
+            return;
+        };
+        if scarce.relent() {
+            self.tally.refusals = self.tally.refusals.saturating_add(1);
+            self.shaky = SHAKY;
+            self.model.bank.may_lack_next = true;
+        }
+    }
+
+    /// The server was opened, with this limit, on a bank of which this is taken; of the messages
+    /// that were not answered so many were done.
+    pub fn settle(&mut self, done: usize, limit: usize, taken: Taken) {
         let count = self.unanswered.len() as u64;
         self.tally.unanswered = self.tally.unanswered.saturating_add(count);
         self.tally.done = self.tally.done.saturating_add(done as u64);
         self.unanswered.clear();
         self.model.reopen();
+        self.model.bank.reopen(limit, taken);
     }
 
     /// What the server did not answer, after a stop: the model does the next of it.

@@ -93,6 +93,7 @@ impl<D: Disk> Durable<D> {
                 self.store = store;
                 self.disks = disks;
                 self.next = None;
+                self.copy = None;
                 self.down = false;
                 let lost = mem::replace(&mut self.lost, Vec::new(alloc));
                 if has_done(self.store.state(), &lost) {

@@ -98,6 +98,7 @@ impl<D: Disk> Durable<D> {
                     before,
                     lost: Vec::new(alloc),
                     next: None,
+                    copy: None,
                 })
             }
         }

@@ -13,6 +13,7 @@ ghost use Rattle.linda_server.specs.Server.{failures_of, IsKeptFor, IsPutOn, Alw
 
 use super::Durable;
 use crate::commit::commit;
+use crate::copying::renewed;
 use crate::fault::ServeFault;
 use crate::next::{noted, spared, unless_spent};
 use crate::served::Served;
@@ -37,6 +38,7 @@ impl<D: Disk> Durable<D> {
     ghost use Rattle.linda_server.specs.Handled.{Serves};
     ghost use Rattle.linda_store_state.specs.Deed.{is_taken};
     ghost use Rattle.linda_server.specs.Next.{IsNextFor, IsSafeIn};
+    ghost use Rattle.linda_snap.specs.BookCopy.{IsCopyFor};
 
     /// Does what the messages ask, one after another, each of its client, and says for each of
     /// them which deed it did and what is sent. All deeds come onto the bank in use at once, 64 of
@@ -138,7 +140,7 @@ impl<D: Disk> Durable<D> {
         ensures before { self.new.before.value ≡ self.old.store.state }
         ensures same { (self.new.store ≡ self.old.store) × (self.new.disks ≡ self.old.disks)
             × (self.new.limit ≡ self.old.limit) × (self.new.lost.items ≡ [])
-            × (self.new.next ≡ self.old.next) }
+            × (self.new.next ≡ self.old.next) × (self.new.copy ≡ self.old.copy) }
         // What the type keeps of a server that is up is not lost.
         ensures live { self.new.store.is_spent ≡ false }
         ensures ranges { IsState self.new.store.state }
@@ -146,6 +148,7 @@ impl<D: Disk> Durable<D> {
         ensures limited { limit_in_use self.new.disks ≡ self.new.limit }
         ensures kept { ∥ IsKeptFor self.new.disks self.old.store.state ∥₁ }
         ensures begun { ∥ IsNextFor self.new.next self.new.disks self.old.store.state ∥₁ }
+        ensures copied { ∥ IsCopyFor self.new.copy self.old.store.state.book ∥₁ }
     {
         self.before = Moment::of(self.store.state());
         self.down = true;
@@ -161,6 +164,7 @@ impl<D: Disk> Durable<D> {
         requires limited { limit_in_use self.old.disks ≡ self.old.limit }
         requires kept { ∥ IsKeptFor self.old.disks self.old.before.value ∥₁ }
         requires begun { ∥ IsNextFor self.old.next self.old.disks self.old.before.value ∥₁ }
+        requires copied { ∥ IsCopyFor self.old.copy self.old.before.value.book ∥₁ }
         requires safe { (id : ℕ) → is_taken id served.deeds.items ≡ true
             → IsSafeIn self.old.next self.old.before.value.bag id }
         requires leads { LeadTo self.old.before.value served.deeds.items self.old.store.state }
@@ -190,6 +194,8 @@ impl<D: Disk> Durable<D> {
             Ok(()) => {
                 let next = mem::replace(&mut self.next, None);
                 self.next = unless_spent(noted(next, alloc, &served.deeds));
+                let copy = mem::replace(&mut self.copy, None);
+                self.copy = renewed(copy, alloc, self.store.state(), &served.deeds);
                 self.down = false;
                 Ok(served)
             }

@@ -1,8 +1,9 @@
 //! A snapshot in steps, while the server goes on between them.
 
-ghost use Rattle.std.specs.Prelude.{◌≡◌, true, IfOk, OnOk, IsErrOf};
+ghost use Rattle.std.specs.Prelude.{◌≡◌, true, None, IfOk, OnOk, IsErrOf};
 
 use super::Durable;
+use crate::copying::{is_over, with_more};
 use crate::fault::{ServeFault, node_fault};
 use crate::progress::Progress;
 use crate::stepping::{advance, start};
@@ -22,6 +23,41 @@ impl<D: Disk> Durable<D> {
         ensures { result ≡ is_some self.now.next }
     {
         self.next.is_some()
+    }
+
+    /// Copies the next clients, so many at most, for a snapshot in steps that is begun later: it
+    /// walks over no client then. Until that the copy follows what is done; if memory runs out it is
+    /// given up, and nothing else is. Returns whether nothing is left to copy, or it is given up. No
+    /// device call is made, and nothing changes that a call answers.
+    pub fn copy_clients(&mut self, alloc: Global, most: u32) -> bool
+        ensures store { self.new.store ≡ self.old.store }
+        ensures disks { (self.new.disks ≡ self.old.disks) × (self.new.limit ≡ self.old.limit) }
+        ensures down { (self.new.down ≡ self.old.down)
+            × (self.new.before.value ≡ self.old.before.value)
+            × (self.new.lost.items ≡ self.old.lost.items) }
+        ensures next { self.new.next ≡ self.old.next }
+        ensures given_up { self.new.copy ≡ None → result ≡ true }
+    {
+        if self.down {
+            return true;
+        }
+        let copy = mem::replace(&mut self.copy, None);
+        self.copy = with_more(copy, alloc, self.store.state(), most);
+        is_over(self.copy.as_ref())
+    }
+
+    /// Gives up the copy of the clients, if there is one: for a snapshot in steps that is not begun
+    /// after all. Nothing changes that a call answers.
+    pub fn forget_copy(&mut self)
+        ensures store { self.new.store ≡ self.old.store }
+        ensures disks { (self.new.disks ≡ self.old.disks) × (self.new.limit ≡ self.old.limit) }
+        ensures down { (self.new.down ≡ self.old.down)
+            × (self.new.before.value ≡ self.old.before.value)
+            × (self.new.lost.items ≡ self.old.lost.items) }
+        ensures next { self.new.next ≡ self.old.next }
+        ensures forgotten { self.new.copy ≡ None }
+    {
+        self.copy = None;
     }
 
     /// Begins a snapshot in steps: the next bank is laid on the disk that is not in use, behind a
@@ -71,7 +107,7 @@ impl<D: Disk> Durable<D> {
         if self.down {
             return Err(ServeFault::Down);
         }
-        match start(&mut self.disks, alloc, self.store.state()) {
+        match start(&mut self.disks, alloc, self.store.state(), &mut self.copy) {
             Ok(next) => {
                 self.next = Some(next);
                 Ok(())

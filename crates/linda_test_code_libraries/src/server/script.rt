@@ -34,6 +34,8 @@ pub(super) enum Do {
     /// connection ends.
     Take(u64),
     Snapshot,
+    /// So many more clients at most are copied for a snapshot in steps that is begun later.
+    Copy(u32),
     /// A snapshot in steps is begun.
     Begin,
     /// The next step of it, which writes some 40 bytes.
@@ -62,6 +64,8 @@ pub(super) enum Told {
     Deeds(usize),
     /// The client's last number, and whether it left by that.
     Standing(u64, bool),
+    /// Whether nothing is left to copy for a snapshot in steps.
+    Copied(bool),
     /// A snapshot in steps goes on.
     Going,
     /// No snapshot in steps is begun.
@@ -172,6 +176,7 @@ fn ask(alloc: Global, server: &mut Durable<MemDisk>, what: Do) -> Result<Told, A
         Do::PutBoth => send_all(alloc, server, &put_both(alloc)?),
         Do::Ask => Ok(send(alloc, server, 8, &take_any(alloc)?)),
         Do::Take(id) => take(alloc, server, id),
+        Do::Copy(most) => Ok(Told::Copied(server.copy_clients(alloc, most))),
         Do::Begin => Ok(of_nothing(server.begin_steps(alloc))),
         Do::Step => Ok(of_progress(server.step(alloc, 40))),
         Do::Leave(client, n) => Ok(send(alloc, server, client, &Message::Leave { n })),

@@ -3,9 +3,9 @@ use Rattle.std.proofs.lemmas.Result.{on_err_weaker}
 use Rattle.linda_bag.proofs.FilingLaws.{kept_shelf, written}
 use Rattle.linda_bag.proofs.shelf.file.Goals as goal
 
-pub returns-in-Some-get_mut-clause-err : goal.returns-in-Some-get_mut-clause-err
-returns-in-Some-get_mut-clause-err g c =
-    let updates = (c.get_mut.follows.holds c.put.new.self).3 (subst (λ s. IsSome s) c.in-Some-get_mut.ensures.value refl) in
+pub returns-in-Some-clause-err : goal.returns-in-Some-clause-err
+returns-in-Some-clause-err g c =
+    let updates = (c.get_mut.follows.holds c.put.new.self).3 (subst (λ s. IsSome s) c.in-Some.ensures.value refl) in
     on_err_weaker c.put.result
-    (λ kept. written g.S.Shelf.has g.K.Ord.cmp _ _ _ _ _ _ _ _ c.in-Some-get_mut.ensures.value updates (kept_shelf g.S.Shelf.has _ _ _ _ kept))
+    (λ kept. written g.S.Shelf.has g.K.Ord.cmp _ _ _ _ _ _ _ _ c.in-Some.ensures.value updates (kept_shelf g.S.Shelf.has _ _ _ _ kept))
     c.put.ensures.err

@@ -1,10 +1,11 @@
 use Rattle.std.proofs.Common.{refl}
+use Rattle.linda_bag.specs.Ints.{ids_at}
 use Rattle.linda_bag.specs.Firsts.{int_of, other_of}
-use Rattle.linda_bag.proofs.FilingLaws.{refiled_as}
+use Rattle.linda_bag.proofs.FilingLaws.{refiled_as, refound_as}
 use Rattle.linda_bag.proofs.firsts.Firsts.remove.Goals as goal
 
 pub returns : goal.returns
 returns g c = λ rows there known. (
-  refiled_as _ _ (int_of g.R.Headed.first_of) c.args.self.now.ints c.unfile_if_any.new.shelves _ _ _ _ _ c.int_place.ensures refl c.unfile_if_any.ensures rows there known.0,
+  refound_as _ _ (int_of g.R.Headed.first_of) (ids_at c.args.self.now.ints) (ids_at c.unfile_if_any.new.sets) _ _ _ _ _ c.int_place.ensures refl c.unfile_if_any.ensures rows there known.0,
   refiled_as _ _ (other_of g.R.Headed.first_of) c.args.self.now.others c.unfile_if_any-2.new.shelves _ _ _ _ _ c.other_place.ensures refl c.unfile_if_any-2.ensures rows there known.1,
 )

@@ -5,5 +5,5 @@ use Rattle.linda_hold.proofs.group.GroupShelfAsked.remove.Goals as goal
 pub returns : goal.returns
 returns c = λ rows there known. (
   c.remove.ensures rows there known.0,
-  unkeyed_with c.args.self.now.unkeyed c.remove-2.new.self rows c.args.id None false known.1 c.remove-2.ensures.updates.0 refl,
+  unkeyed_with c.args.self.now.unkeyed c.take_id.new.ids rows c.args.id None false known.1 c.take_id.ensures refl,
 )

@@ -8,7 +8,7 @@ returns-clause-value c =
     subst
     (IsHeldAt c.args.self.now c.args.request)
     (sym c.number_of.ensures)
-    (held_at c.self.inside.by_id c.args.self.now c.self.view_is c.self.invariant.1.0 c.args.request)
+    (held_at c.self.inside.by_id c.args.self.now c.self.view_is c.self.invariant.0 c.args.request)
 
 pub returns-clause-one_each : goal.returns-clause-one_each
-returns-clause-one_each c = one_each c.self.inside.by_id c.args.self.now c.self.view_is c.self.invariant.1.0
+returns-clause-one_each c = one_each c.self.inside.by_id c.args.self.now c.self.view_is c.self.invariant.0

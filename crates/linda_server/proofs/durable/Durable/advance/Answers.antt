@@ -28,6 +28,7 @@ invariant_of-self-in-Ok-Some g c =
       begun = λ up.
           steps_begun g.met.D.Disk.timed next c.in-Ok-Some.next s.disks c.advance.new.disks s.store.state now same there
           (λ b. subst (λ o. IfSome o (λ n. IsBegunOn n c.advance.new.disks now)) c.in-Ok-Some.field-0-is (c.in-Ok-Some.ensures.begun b));
+      copied = s.copied;
       fallen = λ down. absurd (true≢false (sym down ∙ c.if-self.false));
     }
 
@@ -48,6 +49,7 @@ invariant_of-self-in-Ok-None g c =
       none_lost = s.none_lost;
       kept = λ up. runs_kept g.met.D.Disk.timed Disk (IsBegunOn next s.disks now) now begun s same c.if-self.false _ c.advance.new.disks c.in-Ok-None.ensures.runs;
       begun = λ up. subst (λ o. ∥ IsNextFor o c.advance.new.disks s.store.state ∥₁) (sym c.in-Some.ensures.after) ∣ tt ∣₁;
+      copied = s.copied;
       fallen = λ down. absurd (true≢false (sym down ∙ c.if-self.false));
     }
 
@@ -68,6 +70,7 @@ invariant_of-self-in-Err g c =
       none_lost = λ up. absurd (true≢false up);
       kept = λ up. absurd (true≢false up);
       begun = λ up. absurd (true≢false up);
+      copied = λ up. absurd (true≢false up);
       fallen = λ down are.
           fell g.met.D.Disk.timed Disk (IsBegunOn next s.disks now) now begun s same c.if-self.false c.in-Err.fault c.advance.new.disks _ c.in-Err.ensures.runs (c.of.ensures ∙ c.state-in-Err.ensures.state) c.state.ensures.ranges are;
     }

@@ -1,10 +1,13 @@
 -- The deeds are put onto the bank in use, or may be.
 use Rattle.std.proofs.Common.{◌≡◌, true, sym, subst, ap}
+use Rattle.std.proofs.Math.Logic.{∥∥₁_map}
 use Rattle.std.specs.Global.{Vec}
 use Rattle.linda_store_state.specs.declared.deed.Deed.{Deed}
 use Rattle.linda_server.specs.Calls.{LeadTo, IsEither, IsWithOrWithout}
 use Rattle.linda_server.proofs.CallLaws.{put_either, kept_after, now_since, with_or_without}
+use Rattle.linda_store_state.specs.State.{State}
 use Rattle.linda_store_state.specs.Deed.{is_taken}
+use Rattle.linda_snap.specs.BookCopy.{IsCopyFor}
 use Rattle.linda_server.specs.Next.{IsNextFor, IsSafeIn}
 use Rattle.linda_server.proofs.NextLaws.{next_up, next_beside, if_kept}
 use Rattle.linda_server.proofs.durable.Durable.settle.Goals as goal
@@ -42,3 +45,12 @@ pub returns-in-Err-clause-any_moment : goal.returns-in-Err-clause-any_moment
 returns-in-Err-clause-any_moment g c are =
     let s = c.args.self.now in
     put_either g.met.D.Disk.timed s.disks c.commit.new.disks s.before.value s.store.state c.deref.result.now (subst (λ l. LeadTo s.before.value l s.store.state) (sym c.deref.ensures.value) c.requires.leads) are c.requires.kept c.commit.ensures.any_moment
+
+pub invariant_of-self-clause-copied : goal.invariant_of-self-clause-copied
+invariant_of-self-clause-copied g c _ =
+    let s = c.args.self.now in
+    let ds = c.deref-in-Ok-2.result.now in
+    let goes : LeadTo s.before.value ds c.state.result.now =
+    subst (λ st. LeadTo s.before.value ds st) (sym c.state.ensures.state) (subst (λ l. LeadTo s.before.value l s.store.state) (sym c.deref-in-Ok-2.ensures.value) c.requires.leads) in
+    let copied = subst (λ o. ∥ IsCopyFor o s.before.value.book ∥₁) (sym c.replace-copy.ensures.value) c.requires.copied in
+    subst (λ (st : State). ∥ IsCopyFor c.renewed.result st.book ∥₁) c.state.ensures.state (∥∥₁_map copied (λ is. c.renewed.ensures s.before.value c.requires.ranges goes is))

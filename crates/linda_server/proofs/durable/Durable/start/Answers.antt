@@ -4,9 +4,12 @@ use Rattle.linda_server.specs.Server.{generation_in_use}
 use Rattle.linda_server.specs.Switch.{HasNoNext}
 use Rattle.linda_server.specs.declared.fault.ServeFault.TheVariants.{Disk, Full}
 use Rattle.linda_server.specs.Next.{IsBegunOn}
+use Rattle.linda_store_state.specs.State.{State}
+use Rattle.linda_snap.specs.BookCopy.{IsCopyFor}
+use Rattle.linda_server.proofs.CopyingLaws.{copied_so}
 use Rattle.linda_server.proofs.HandledLaws.{same_fault}
 use Rattle.linda_server.proofs.SwitchLaws.{other_durable}
-use Rattle.linda_server.proofs.SameLaws.{same_server}
+use Rattle.linda_server.proofs.SameLaws.{same_with}
 use Rattle.linda_server.proofs.RewritesLaws.{runs_kept, rewrites_done, rewrites_fault, fell}
 use Rattle.linda_server.proofs.durable.Durable.start.Goals as goal
 
@@ -14,6 +17,11 @@ pub start-requires-clause-durable : goal.start-requires-clause-durable
 start-requires-clause-durable g c =
     let s = c.args.self.now in
     other_durable g.met.D.Disk.timed s.disks s.store.state (s.kept c.if-self.false)
+
+pub start-requires-clause-copied : goal.start-requires-clause-copied
+start-requires-clause-copied g c =
+    let s = c.args.self.now in
+    subst (λ (st : State). IsCopyFor s.copy st.book) (sym c.state.ensures.state) (copied_so s.copy s.store.state.book (s.copied c.if-self.false))
 
 pub invariant_of-self-clause-kept : goal.invariant_of-self-clause-kept
 invariant_of-self-clause-kept g c _ = runs_kept g.met.D.Disk.timed Disk (Unit {0}) c.state.result.now ∣ tt ∣₁ c.args.self.now c.state.ensures.state c.if-self.false _ c.start.new.disks c.in-Ok.ensures.runs
@@ -39,9 +47,10 @@ returns-else-eq-clause-rewrites g c =
 pub returns-then-eq-clause-full : goal.returns-then-eq-clause-full
 returns-then-eq-clause-full g c is =
     let s = c.args.self.now in
-    let told = c.in-Err.ensures.full (ap Err (same_fault c.in-Err.fault Full is)) in
+    let fault = ap Err (same_fault c.in-Err.fault Full is) in
+    let told = c.in-Err.ensures.full fault in
     let generation = generation_in_use s.disks in (
-      same_server g.row.D.Denot g.D.Disk s c.start.new.disks (sym told.0) _,
+      same_with g.row.D.Denot g.D.Disk s c.start.new.disks c.start.new.copy (sym told.0) (sym (c.in-Err.ensures.copy fault)) _,
       subst (λ st. HasNoNext st s.limit generation) c.state.ensures.state
           (subst (λ n. HasNoNext c.state.result.now n generation) (s.limited c.if-self.false) told.1),
     )

@@ -13,5 +13,6 @@ invariant_of-server g c =
       none_lost = s.none_lost;
       kept = s.kept;
       begun = s.begun;
+      copied = s.copied;
       fallen = s.fallen;
     }
