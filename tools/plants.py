@@ -33,6 +33,7 @@ KNOWN = FILE_DISK.replace("file_disk", "known")
 # A run in one process builds its program itself: a minute or two for each plant.
 IN_ONE = "tools/simulate 60 --inside 1"
 INSIDE = ("inside", IN_ONE, "DIFFERS")
+CLIENTS = ("inside", f"{IN_ONE} --clients", "DIFFERS")
 
 
 class Plant(NamedTuple):
@@ -85,7 +86,7 @@ PLANTS = [
     edit("a snapshot in steps misses what is done meanwhile", *INSIDE, "crates/linda_server/src/next.rt",
          "match successor.note(alloc, deeds) {", "match successor.note(alloc, &deeds[..0]) {"),
     edit("a lease runs although its client speaks", *INSIDE, f"{NET}_loops/src/connection.rt",
-         "                self.silence.end();\n                return Next::Message", "                return Next::Message"),
+         "                self.silence.end();\n                return ConnectionEvent::Message", "                return ConnectionEvent::Message"),
     edit("a connection that can be written again is not looked at", *INSIDE, f"{NET}_loops/src/sessions.rt",
          "is_writable && connection.has_unsent()", "is_writable && !connection.has_unsent()"),
     edit("the end of a connection is not read after its last bytes", *INSIDE, f"{NET}_loops/src/connection.rt",
@@ -94,9 +95,14 @@ PLANTS = [
          "    put_back(accounts, recall, account);\n    answer", "    let _ = (accounts, recall, account);\n    answer"),
     edit("replies go to the session before", *INSIDE, f"{NET}_loops/src/sessions.rt",
          "let is_kept = self.clients.insert(client, key).is_ok()", "let is_kept = (self.clients.contains_key(&client) || self.clients.insert(client, key).is_ok())",
-         f"{NET}_loops/src/sessions.rt", "            let _ = self.clients.remove(&client);\n            relays", "            relays"),
+         f"{NET}_loops/src/sessions.rt", "            let _ = self.clients.remove(&client);\n            directory", "            directory"),
     edit("the number after the kept one is refused once more is known", *INSIDE, "crates/linda_book/src/class.rt",
          "} else if n == last && last > 0 {", "} else if n == last && last > 1 {"),
+    # ---- clients over several servers, in one process
+    edit("a client that took a tuple cancels nothing else", *CLIENTS, "crates/linda_client/src/client/receive.rt",
+         "pending.commit(alloc, self.servers(), pending.spared(), ask.base, got)?", "pending.commit(alloc, 0, pending.spared(), ask.base, got)?"),
+    edit("a client accepts a second offer beside the first", *CLIENTS, "crates/linda_client/src/client/receive.rt",
+         "if pending.accepted().is_some() {\n            return self.keep", "if pending.accepted().is_some() && !ask.remove {\n            return self.keep"),
     # ---- the disk
     Plant("a sync that failed is tried again, and believed", "simulate", SIMULATE, "seed",
           "int fdatasync(int file) { return NEXT(fdatasync)(file) == 0 ? 0 : NEXT(fdatasync)(file); }"),
@@ -167,7 +173,7 @@ PLANTS = [
     edit("the thread of --status waits for no time", "counts", f"{COUNTS} processor_at_rest", r"an idle server with --status \(loops\) took",
          "crates/linda_net_http/src/server.rt", "        } else {\n            QUIET\n        };", "        } else {\n            0\n        };", build="one"),
     edit("a busy loop while no file is left", "counts", f"{COUNTS} processor_at_rest", r"a server at its limit of files \(loops\) took",
-         f"{NET}_marks/src/coming.rt", "REST: u64 = 10;", "REST: u64 = 0;", build="one"),
+         f"{NET}_marks/src/bounds.rt", "ACCEPT_PAUSE: u64 = 10;", "ACCEPT_PAUSE: u64 = 0;", build="one"),
     edit("a call waits busily", "counts", f"{COUNTS} processor_at_rest", "a call that waits took",
          "crates/linda_net_proxy/src/inbox.rt", "Duration::from_millis(1),", "Duration::from_millis(0),", build="one"),
     edit("an idle connection keeps the room of its largest reply", "counts", f"{COUNTS} memory_of_idle_connections", "idle connections, each sent 131 KB",
@@ -179,9 +185,9 @@ PLANTS = [
     edit("receipts are never forgotten", "counts", f"{COUNTS} memory_over_many_puts", "each taken, leave",
          f"{NET}_watch/src/looking.rt", "        shared.forget(rt);\n", "", build="one"),
     edit("a loop never forgets a client", "counts", f"{COUNTS} memory_of_clients_that_went", "that greeted and went leave",
-         f"{NET}_loops/src/sessions.rt", "            let _ = self.clients.remove(&client);\n            relays", "            relays", build="two"),
+         f"{NET}_loops/src/sessions.rt", "            let _ = self.clients.remove(&client);\n            directory", "            directory", build="two"),
     edit("what says which loop has a client never forgets one", "counts", f"{COUNTS} memory_of_clients_that_went", "that greeted and went leave",
-         f"{NET}_relays/src/relays.rt", "            let _ = routes.remove(&client);\n", "            let _ = &mut routes;\n", build="one"),
+         f"{NET}_relays/src/loop_directory.rt", "            let _ = routes.remove(&client);\n", "            let _ = &mut routes;\n", build="one"),
     # ---- room ahead of records
     edit("no room is written ahead", "sockets", f"{SOCKETS} room_is_written_ahead", "nothing is written ahead",
          f"{NET}_watch/src/looking.rt", "        ahead.look(rt, shared);\n", "        let _ = &mut ahead;\n", build="two"),
@@ -189,7 +195,7 @@ PLANTS = [
          "crates/linda_disk/src/lengthened.rt", "    disk.cut(at)?;\n", "", build="one"),
     # ---- the two loops
     edit("the other loop is not woken at a leave", "sockets", f"{SOCKETS} loops_wake_each_other", "has not sent what is due",
-         f"{NET}_loops/src/turns.rt", "shared.depart(rt, account, &mut posting);\n    ring(rt, &posting);\n", "shared.depart(rt, account, &mut posting);\n",
+         f"{NET}_loops/src/event_loop.rt", "shared.depart(rt, account, &mut sink);\n    wake_others(rt, &sink);\n", "shared.depart(rt, account, &mut sink);\n",
          build="one"),
     edit("leases are kept of as many keys as there are connections", "sockets", f"{SOCKETS} leases", "FAILED",
          f"{NET}_loops/src/sessions.rt", f"{ALL}let holds_any", f"{SOME}let holds_any", build="one"),
@@ -205,20 +211,20 @@ PLANTS = [
     edit("a snapshot for which there is no room is logged as taken", "sockets", f"{SOCKETS} logs_of_a_bank_without_room", "result taken",
          f"{NET}_watch/src/watching.rt", "Err(SharedFault::Full) => Some(Notice::NoSnapshot(millis)),", "Err(SharedFault::Full) => Some(Notice::Snapshot(millis)),", build="two"),
     edit("greetings and malformed change places in the status", "status", "tools/status numbers_that_follow", "FAILED",
-         "crates/linda_status/src/figure.rt", "Greetings => tally.turned.greetings", "Greetings => tally.turned.malformed",
-         "crates/linda_status/src/figure.rt", "Malformed => tally.turned.malformed", "Malformed => tally.turned.greetings", build="one"),
+         "crates/linda_status/src/metric.rt", "Greetings => tally.turned.greetings", "Greetings => tally.turned.malformed",
+         "crates/linda_status/src/metric.rt", "Malformed => tally.turned.malformed", "Malformed => tally.turned.greetings", build="one"),
     edit("full and toomany change places in the status", "status", "tools/status refusals_that_differ", "FAILED",
-         "crates/linda_status/src/figure.rt", "Full => tally.refused", "Full => tally.turned.clients",
-         "crates/linda_status/src/figure.rt", "TooMany => tally.turned.clients", "TooMany => tally.refused", build="one"),
+         "crates/linda_status/src/metric.rt", "Full => tally.refused", "Full => tally.turned.clients",
+         "crates/linda_status/src/metric.rt", "TooMany => tally.turned.clients", "TooMany => tally.refused", build="one"),
     edit("ages of holds and of waits change places in the status", "status", "tools/status ages_that_follow", "FAILED",
-         "crates/linda_status/src/figure.rt", "OldestWait => gauge.oldest_wait", "OldestWait => gauge.oldest_hold",
-         "crates/linda_status/src/figure.rt", "OldestHold => gauge.oldest_hold", "OldestHold => gauge.oldest_wait", build="one"),
+         "crates/linda_status/src/metric.rt", "OldestWait => gauge.oldest_wait", "OldestWait => gauge.oldest_hold",
+         "crates/linda_status/src/metric.rt", "OldestHold => gauge.oldest_hold", "OldestHold => gauge.oldest_wait", build="one"),
     edit("groups and their messages change places in the status", "status", "tools/status messages_in_groups", "FAILED",
-         "crates/linda_status/src/figure.rt", "Groups => tally.groups", "Groups => tally.messages",
-         "crates/linda_status/src/figure.rt", "Messages => tally.messages", "Messages => tally.groups", build="two"),
+         "crates/linda_status/src/metric.rt", "Groups => tally.groups", "Groups => tally.messages",
+         "crates/linda_status/src/metric.rt", "Messages => tally.messages", "Messages => tally.groups", build="two"),
     edit("deeds and records change places in the status", "status", "tools/status numbers_that_follow", "FAILED",
-         "crates/linda_status/src/figure.rt", "Deeds => gauge.deeds", "Deeds => gauge.records as u64",
-         "crates/linda_status/src/figure.rt", "Records => gauge.records as u64", "Records => gauge.deeds", build="two"),
+         "crates/linda_status/src/metric.rt", "Deeds => gauge.deeds", "Deeds => gauge.records as u64",
+         "crates/linda_status/src/metric.rt", "Records => gauge.records as u64", "Records => gauge.deeds", build="two"),
     # ---- when, and how long
     edit("a call gives a server up at once that is away", "sockets", f"{SOCKETS} waits_over_three_seconds", "FAILED",
          "crates/linda_net_proxy/src/link.rt", "                thread::sleep(rt, Duration::from_millis(1));\n                true", "                true", build="one"),
@@ -252,7 +258,7 @@ PLANTS = [
     edit("a link to nothing is a bank that is missing", "sockets", f"{SOCKETS} banks_that_are_no_files", "FAILED: .*link to nothing", "crates/linda_serve/src/bank_file.rt",
          "        Ok(_) => Err(ServingFault::Disk),\n        Err(error) if error.kind() == ErrorKind::NotFound => Ok(()),",
          "        Ok(_) => Ok(()),\n        Err(error) if error.kind() == ErrorKind::NotFound => Ok(()),", build="two"),
-    edit("the usage of serve has only a port", "sockets", f"{SOCKETS} refused_words", "FAILED", "crates/linda_args/src/command.rt",
+    edit("the usage of serve has only a port", "sockets", f"{SOCKETS} refused_words", "FAILED", "crates/linda_args/src/command/serve.rt",
          "linda serve [OPTIONS] --socket <PATH> --dir <D>", "linda serve [OPTIONS] --port <P> --dir <D>", build="two"),
     edit("the charts of the status page go by answers", "status", "tools/status what_the_page_shows", "FAILED", "crates/linda_status/src/page.rt",
          "span(Math.round(time / 1000))", "span(past.length)", build="two"),

@@ -35,7 +35,8 @@ The other cells, with each program:
 - A start with 1,000,000 tuples `("job", i)` in a snapshot, which the system still has in memory: the time until
   `ready`, and the most memory in use. `tools/large` measures large tuples, `bench/durable` an opening without a server.
 - A snapshot of 1,000,000 such tuples while 16 clients put: the greatest time between two acknowledgements, whoever had
-  them, and the time that the log says.
+  them, and the time that the log says. Then the same with replies that are kept for 60,000 clients more, while another
+  process asks for `/tags` each second.
 
 With --realtime server, driver and loop run in a real-time class (which takes root), ahead of all else on the machine.
 If others use the processors, a thread that wakes waits for them otherwise, and the figures say little of the server.
@@ -45,6 +46,7 @@ out, with a line that says so.
 """
 
 import argparse
+import contextlib
 import multiprocessing
 import os
 import re
@@ -59,7 +61,7 @@ from collections import defaultdict
 from dataclasses import dataclass, field
 from multiprocessing.sharedctypes import Synchronized
 from pathlib import Path
-from typing import Callable
+from typing import Callable, Iterator
 
 HERE = Path(__file__).resolve().parent
 TOP = HERE.parent.parent
@@ -91,13 +93,15 @@ SCRAPED, SCRAPES = "put and take, 64 clients, scraped", 1_000
 REDIS = "redis"
 IDLE = {"idle connections, 1,000": 1_000, "idle connections, 10,000": 10_000}
 START, PAUSE = "start with 1,000,000 tuples", "snapshot of 1,000,000 tuples"
+CROWD = "snapshot of 1,000,000 tuples and 60,000 clients"
 STARTED = SAVED = 1_000_000
+CROWDED = 60_000
 PROBE_SECONDS, PAUSE_SECONDS = "0.5", "6"
 # The log looks for events ten times a second.
 LOG_SECONDS = 0.5
 # So many open files of a process are no connections, at most.
 OTHER_FILES = 64
-# A client that no connection has, which put what is in a store at first.
+# A client that no connection has, which put what is in a store at first; those after it took a tuple.
 EARLIER = 1_000_000
 DEEDS_OF_A_RECORD = 64
 SNAPSHOT_TAKEN = re.compile(r" snapshot result taken milliseconds (\d+)")
@@ -170,29 +174,35 @@ class Bench:
             if bank:
                 (Path(folder) / "left.bank").write_bytes(bank)
                 (Path(folder) / "right.bank").write_bytes(b"")
-            words = (*way.words, "--log") if name == PAUSE else way.words
+            words = (*way.words, "--log") if name in (PAUSE, CROWD) else way.words
             status = free_port()
-            words = (*words, "--status", str(status)) if name == SCRAPED else words
+            words = (*words, "--status", str(status)) if name in (SCRAPED, CROWD) else words
             began = time.monotonic()
             with Server(Path(folder), program=way.program, words=words) as server:
                 if name == START:
                     return {"seconds": time.monotonic() - began, "peak": server.use().most / 1024}
                 if name == PAUSE:
                     return self.pause(server)
+                if name == CROWD:
+                    return self.crowd(server, status)
                 if name == SCRAPED:
                     return self.scraped(server, status, *LOADS[name])
                 return self.hold(server, IDLE[name]) if name in IDLE else self.load(server, *LOADS[name])
 
     def scraped(self, server: Server, status: int, kind: str, *words: str) -> Measures:
         """As load, while another process asks for the numbers; and how often it had them in a second."""
-        count = multiprocessing.Value("L", 0)
-        asking = multiprocessing.Process(target=scrape, args=(status, count), daemon=True)
-        asking.start()
-        began = time.monotonic()
-        found = self.load(server, kind, *words)
-        found["scrapes"] = count.value / (time.monotonic() - began)
-        asking.terminate()
-        asking.join()
+        with asking(status, "/metrics", SCRAPES) as count:
+            began = time.monotonic()
+            found = self.load(server, kind, *words)
+            found["scrapes"] = count.value / (time.monotonic() - began)
+        return found
+
+    def crowd(self, server: Server, status: int) -> Measures:
+        """As pause, while another process asks for the tags each second."""
+        with asking(status, "/tags", 1) as count:
+            found = self.pause(server)
+            if not count.value:
+                raise Missing("nobody had the tags")
         return found
 
     def load(self, server: Server | redis.Redis, kind: str, *words: str) -> Measures:
@@ -245,16 +255,29 @@ def free_port() -> int:
         return probe.getsockname()[1]
 
 
-def scrape(port: int, count: Synchronized) -> None:
-    """Asks for the numbers until it is ended, each time over a connection of its own, at an even pace."""
+@contextlib.contextmanager
+def asking(port: int, path: str, often: int) -> Iterator[Synchronized]:
+    """While another process asks for the page, so many times a second: how often it had it."""
+    count = multiprocessing.Value("L", 0)
+    other = multiprocessing.Process(target=scrape, args=(port, path, often, count), daemon=True)
+    other.start()
+    try:
+        yield count
+    finally:
+        other.terminate()
+        other.join()
+
+
+def scrape(port: int, path: str, often: int, count: Synchronized) -> None:
+    """Asks for the page until it is ended, each time over a connection of its own, at an even pace."""
     began = time.monotonic()
     while True:
         with socket.create_connection(("127.0.0.1", port)) as stream:
-            stream.sendall(b"GET /metrics HTTP/1.1\r\nHost: 127.0.0.1\r\n\r\n")
+            stream.sendall(f"GET {path} HTTP/1.1\r\nHost: 127.0.0.1\r\n\r\n".encode())
             while stream.recv(65_536):
                 pass
         count.value += 1
-        time.sleep(max(0.0, began + count.value / SCRAPES - time.monotonic()))
+        time.sleep(max(0.0, began + count.value / often - time.monotonic()))
 
 
 def need(connections: int) -> None:
@@ -285,12 +308,13 @@ def saved_bank() -> bytes:
     return banks.spell_bank(1, banks.State(STARTED + 1, bag, {EARLIER: (STARTED, ("Stored", STARTED))}))
 
 
-def recorded_bank() -> bytes:
-    """A bank with its tuples in records after an empty snapshot: 1,024 records later its server takes a snapshot."""
+def recorded_bank(clients: int = 0) -> bytes:
+    """A bank with its tuples in records after a snapshot that only keeps replies for so many clients: 1,024 records later its server takes a snapshot."""
     def deed(number: int) -> bytes:
         return b"\1" + EARLIER.to_bytes(4, "big") + number.to_bytes(8, "big") + job(number)
 
-    parts = [banks.spell_bank(1, banks.State())[:-1]]
+    book = {EARLIER + number: (1, ("Taken", number, job(number))) for number in range(1, clients + 1)}
+    parts = [banks.spell_bank(1, banks.State(clients + 1, {}, book))[:-1]]
     for first in range(1, SAVED + 1, DEEDS_OF_A_RECORD):
         deeds = b"".join(map(deed, range(first, min(first + DEEDS_OF_A_RECORD, SAVED + 1))))
         parts.append(b"\1" + len(deeds).to_bytes(4, "big") + deeds)
@@ -377,11 +401,12 @@ def main() -> int:
     if given.beside and not redis.is_here():
         options.error(f"there is no {redis.PROGRAM}")
     ways = ways_of(given.program, given.against, given.beside)
-    names = [name for name in (*LOADS, *IDLE, START, PAUSE) if any(text in name for text in given.only or [""])]
+    names = [name for name in (*LOADS, *IDLE, START, PAUSE, CROWD) if any(text in name for text in given.only or [""])]
     if given.rounds < 1 or given.seconds < 0.05 or not names:
         options.error("no round, no slice of 50 ms, or no cell")
     raise_limit()
-    stored = {name: make() for name, make in ((START, saved_bank), (PAUSE, recorded_bank)) if name in names}
+    makers = {START: saved_bank, PAUSE: recorded_bank, CROWD: lambda: recorded_bank(CROWDED)}
+    stored = {name: make() for name, make in makers.items() if name in names}
     found: dict[tuple[str, str], Found] = defaultdict(lambda: defaultdict(list))
     missing: dict[tuple[str, str], Missing] = {}
     with tempfile.TemporaryDirectory() as built, tempfile.TemporaryDirectory(dir=TOP) as folder:

@@ -1,22 +1,36 @@
-"""Runs of the program linda_test_simulator: a server, its disks, its network and its clock in one process, all by a seed."""
+"""Runs of the programs linda_test_simulator and linda_test_simulator_clients: servers, disks, networks and clients in one process, all by a seed."""
 
 from __future__ import annotations
 
 import os
+import shutil
 import subprocess
 import sys
 import tempfile
 import time
 from pathlib import Path
+from typing import NamedTuple
 
 TOP = Path(__file__).resolve().parent.parent.parent
-CRATE = "linda_test_simulator"
-PROVED = TOP / "crates" / CRATE / "out" / CRATE
-QUICK = TOP / "crates" / CRATE / "out" / "quick" / CRATE
-SCARCE = TOP / "tools" / "simulator" / "scarce.c"
+REFUSER = TOP / "tools" / "simulator" / "scarce.c"
 # Events of a run, and runs of a process.
 EVENTS, RUNS = 100_000, 40
 LIMIT = 600
+
+
+class Kind(NamedTuple):
+    """What plays runs, the option of tools/simulate that asks for it, and what a line that says a run begins with."""
+
+    crate: str
+    option: str = ""
+    before: str = ""
+
+
+SERVER = Kind("linda_test_simulator")
+SCARCE = Kind("linda_test_simulator", " --scarce", "scarce ")
+CLIENTS = Kind("linda_test_simulator_clients", " --clients")
+# With --all each has so much of the time.
+SHARES = ((SERVER, 0.5), (SCARCE, 0.25), (CLIENTS, 0.25))
 
 
 def is_newer(program: Path) -> bool:
@@ -27,19 +41,21 @@ def is_newer(program: Path) -> bool:
     return all(it.stat().st_mtime <= built for it in (TOP / "crates").glob("*/src/**/*.rt"))
 
 
-def program() -> Path:
+def program(crate: str) -> Path:
     """The program that `rt ci` built, or one that is built now, without a proof, as tools/quick does."""
-    if is_newer(PROVED):
-        return PROVED
-    if not is_newer(QUICK):
-        subprocess.run([TOP / "tools/quick", QUICK, CRATE], check=True)
-    return QUICK
+    out = TOP / "crates" / crate / "out"
+    if is_newer(out / crate):
+        return out / crate
+    quick = out / "quick" / crate
+    if not is_newer(quick):
+        subprocess.run([TOP / "tools/quick", quick, crate], check=True)
+    return quick
 
 
 def refuser(folder: Path) -> Path:
     """The library that refuses memory below the program, as that asks."""
     library = folder / "scarce.so"
-    subprocess.run(["cc", "-shared", "-fPIC", "-O1", "-o", library, SCARCE], check=True)
+    subprocess.run(["cc", "-shared", "-fPIC", "-O1", "-o", library, REFUSER], check=True)
     return library
 
 
@@ -57,21 +73,28 @@ def first_that_differs(said: list[str]) -> int | None:
     return None
 
 
-def play(seed: int, seconds: float, shrinks: bool, is_scarce: bool) -> None:
+def play_all(seed: int, seconds: float, shrinks: bool) -> None:
+    """Runs of each kind, as `play` has them. Those with scarce memory are left out if there is no compiler."""
+    for kind, share in SHARES:
+        if kind is not SCARCE or shutil.which("cc"):
+            play(seed, seconds * share, shrinks, kind)
+
+
+def play(seed: int, seconds: float, shrinks: bool, kind: Kind) -> None:
     """Runs with the seeds N, N + 1, .., for so many seconds, or one of N if there are none. Ends with 1 at the first that differs."""
     with tempfile.TemporaryDirectory() as folder:
-        play_over(refuser(Path(folder)) if is_scarce else None, seed, seconds, shrinks)
+        play_over(refuser(Path(folder)) if kind is SCARCE else None, seed, seconds, shrinks, kind)
 
 
-def play_over(below: Path | None, seed: int, seconds: float, shrinks: bool) -> None:
-    it, scarce = program(), "scarce " if below else ""
+def play_over(below: Path | None, seed: int, seconds: float, shrinks: bool, kind: Kind) -> None:
+    it = program(kind.crate)
     began, first, events = time.monotonic(), seed, 0
     while True:
         count = RUNS if seconds else 1
         hows = ["tell" if not seconds else "twice" if at == 0 else "" for at in range(count)]
-        status, said = played(it, [f"{how} {scarce}{first + at} {EVENTS}".strip() for at, how in enumerate(hows)], below)
+        status, said = played(it, [f"{how} {kind.before}{first + at} {EVENTS}".strip() for at, how in enumerate(hows)], below)
         if status != 0:
-            report(it, said, shrinks, below)
+            report(it, said, shrinks, below, kind)
         events += count * EVENTS
         first += count
         if time.monotonic() - began >= seconds:
@@ -79,20 +102,20 @@ def play_over(below: Path | None, seed: int, seconds: float, shrinks: bool) -> N
     if not seconds:
         print("\n".join(said))
     taken = time.monotonic() - began
-    print(f"{first - seed} runs in one process from seed {seed}, {events:,} events: no difference ({taken:.0f} s)")
+    print(f"{first - seed} runs in one process from seed {seed}{kind.option}, {events:,} events: no difference ({taken:.0f} s)", flush=True)
 
 
-def report(it: Path, said: list[str], shrinks: bool, below: Path | None) -> None:
-    seed, scarce = first_that_differs(said), "scarce " if below else ""
+def report(it: Path, said: list[str], shrinks: bool, below: Path | None, kind: Kind) -> None:
+    seed = first_that_differs(said)
     print("\n".join(line for line in said if not line.endswith("no difference")), flush=True)
     if seed is None:
         sys.exit("the program ended without a word of a run that differs")
     if shrinks:
-        _, few = played(it, [f"shrink {scarce}{seed} {EVENTS}"], below)
+        _, few = played(it, [f"shrink {kind.before}{seed} {EVENTS}"], below)
         row = next((line for line in few if line.startswith("tell ")), "")
-        print(f"shrunk, as a line that {CRATE} reads:\n{row}")
+        print(f"shrunk, as a line that {kind.crate} reads:\n{row}")
         print("\n".join(played(it, [row], below)[1]) if row else "it does not differ again")
-    print(f"again: tools/simulate --inside {seed} {'--scarce ' if below else ''}--shrink")
+    print(f"again: tools/simulate --inside {seed}{kind.option} --shrink")
     sys.exit(1)
 
 

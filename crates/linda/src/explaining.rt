@@ -2,7 +2,7 @@
 //! system says of a folder, a port or a socket. It is looked for once the fault was printed, so it
 //! may say nothing.
 
-use linda_explain::{Keeper, Lines, explain};
+use linda_explain::{Keeper, LineSource, explain};
 use std::fmt::Display;
 use std::fs::File;
 use std::io;
@@ -20,7 +20,7 @@ pub(crate) fn tell_line<R: Read>(
     rt: &HostRuntime,
     keeper: &Keeper<'_, R>,
     number: u64,
-    lines: Lines,
+    lines: LineSource,
 ) {
     if let Some(line) = keeper.line(number) {
         if let Ok(said) = explain(rt.alloc(), number, line, lines) {

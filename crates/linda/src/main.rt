@@ -10,8 +10,8 @@
 //!
 //! `linda call --client C [--again] [--together] PORT..` plays lines from standard input as client
 //! C, over the servers that listen on these ports of this machine; with `--again` it goes on as a
-//! client that was used before, with `--together` lines that put tuples do not wait for one another.
-//! `--socket PATH`, once for each server, names unix sockets in place of ports.
+//! client that was used before, with `--together` lines that put tuples do not wait for one
+//! another. `--socket PATH`, once for each server, names unix sockets in place of ports.
 //!
 //! `linda serve --port P --dir D [--sessions K] [--log] [--lease S] [--threads] [--socket PATH
 //! [--mode MODE]] [--status Q [--metric TAG]..] [--wait]` serves the store in a folder to clients
@@ -54,12 +54,12 @@ use linda_args::{
     Paths, Ports, Socket, StatusPlace, Task, VERSION_LINES, asks_for_version, read_task,
 };
 use linda_call::{CallFault, Manner, call_as, call_at_as};
-use linda_explain::{Keeper, Lines};
+use linda_explain::{Keeper, LineSource};
 use linda_inspect::Lists;
 use linda_pipe::{PipeFault, REFUSED, pipe};
 use linda_serve::{
-    Place, Plan, ServingFault, StatusAt, Unwaited, inspect_folder, inspect_folder_as_json,
-    serve_folder,
+    ServePlan, ServingFault, SocketFile, StatusAt, Unwaited, inspect_folder,
+    inspect_folder_as_json, serve_folder,
 };
 use linda_shell::{LineFault, ScriptFault, run_script, trace_script};
 use status::status_of_script;
@@ -161,7 +161,7 @@ fn perform<
             wait,
             explain,
         } => {
-            let plan = Plan {
+            let plan = ServePlan {
                 port: *port,
                 socket: socket.as_ref().map(place_of),
                 folder: dir,
@@ -213,8 +213,8 @@ fn version() -> &'static str {
 }
 
 // Where a server is to listen that the command line gives a socket.
-fn place_of(socket: &Socket) -> Place<'_> {
-    Place {
+fn place_of(socket: &Socket) -> SocketFile<'_> {
+    SocketFile {
         path: &socket.path,
         mode: socket.mode,
     }
@@ -305,7 +305,7 @@ fn explain_script<R: Read>(
 ) {
     if let Err(ScriptFault::Line(number, LineFault::NotACommand)) = ended {
         if is_wanted(rt, explain) {
-            tell_line(rt, lines, number, Lines::OfScript);
+            tell_line(rt, lines, number, LineSource::OfScript);
         }
     }
 }
@@ -360,7 +360,7 @@ fn run_call<S: Net<Listener = TcpListener, Stream = TcpStream> + Threads + Wait 
 // Says where a line of a client is no command, if that ended the call.
 fn explain_call<R: Read>(rt: &HostRuntime, ended: Result<(), CallFault>, lines: &Keeper<'_, R>) {
     if let Err(CallFault::Line(number, LineFault::NotACommand)) = ended {
-        tell_line(rt, lines, number, Lines::OfCall);
+        tell_line(rt, lines, number, LineSource::OfCall);
     }
 }
 
@@ -418,7 +418,7 @@ fn run_serve<
         + Clock
         + RandomSource
         + Sync,
->(rt: &HostRuntime, threads: &S, plan: &Plan<'_>, log: bool, explain: bool) -> ExitCode
+>(rt: &HostRuntime, threads: &S, plan: &ServePlan<'_>, log: bool, explain: bool) -> ExitCode
     ensures { (exit_status result ≡ 0) ⊎ (exit_status result ≡ 3) }
 {
     let mut stderr = rt.stderr();
@@ -450,7 +450,7 @@ fn run_serve<
 fn explain_serve<S: Net<Listener = TcpListener, Stream = TcpStream>>(
     rt: &HostRuntime,
     net: &S,
-    plan: &Plan<'_>,
+    plan: &ServePlan<'_>,
     cause: ServingFault,
 ) {
     match cause {

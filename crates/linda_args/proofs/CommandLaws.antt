@@ -2,13 +2,14 @@
 use Rattle.std.proofs.Common.{◌≡◌, ◌∙◌, ◌||◌, ℕ, Bool, List, [], ap, ap₂, subst, sym, false, true, refl}
 use Rattle.std.specs.Prelude.{Result, IfOk}
 use Rattle.std.proofs.lemmas.Result.{IfOk-weaker}
-use Rattle.clap.specs.Words.{AddsArg, AddsSubcommand, App, HasKind, HasMatchesOf, Rule, app_of, fault_of, is_simple, is_simple_and_free, subcommand_of, subcommand_rows_of, rule_of, with_rule, with_subcommand}
+use Rattle.clap.specs.Words.{AddsArg, AddsSubcommand, App, HasKind, HasMatchesOf, Rule, app_of, fault_of, is_simple, is_simple_and_free, subcommand_of}
+use Rattle.clap.specs.Words.{subcommand_rows_of, rule_of, with_rule, with_subcommand}
 use Rattle.clap.specs.declared.builder.arg.Arg.{Arg}
 use Rattle.clap.specs.declared.builder.command.Command.{Command}
 use Rattle.clap.specs.declared.builder.command.Command.TheOpen.{Command-F}
 use Rattle.clap.specs.declared.error.Error.{Error}
 use Rattle.clap.specs.declared.parser.matches.ArgMatches.{ArgMatches}
-use Rattle.linda_args.specs.Commands.{IsCommand, linda}
+use Rattle.linda_args.specs.Rules.{IsCommand, linda}
 
 abbrev pub globals_of : Command-F Command → Bool
 globals_of f = f.has_globals
@@ -25,7 +26,8 @@ with_arg app rule old new arg h is own adds = record {
 }
 
 -- the same, where memory may run out
-pub if_with_arg : {E : Type 0} (app : App) (rule : Rule) (old : Command) (result : Result Command E) (arg : Arg) → IsCommand app old → rule_of arg ≡ rule → arg.global ≡ false
+pub if_with_arg : {E : Type 0} (app : App) (rule : Rule) (old : Command) (result : Result Command E) (arg : Arg) → IsCommand app old → rule_of arg ≡ rule
+    → arg.global ≡ false
     → IfOk result (AddsArg old arg) → IfOk result (IsCommand (with_rule app rule))
 if_with_arg app rule old result arg h is own adds = IfOk-weaker result _ _ (λ new a. with_arg app rule old new arg h is own a) adds
 
@@ -50,7 +52,8 @@ pub fault_by_words : (app : App) (words : List (List ℕ)) (error : Error) → a
 fault_by_words app words error is failed = subst (λ a. HasKind (fault_of a words) error) is (failed (linda_is_simple app is))
 
 -- and where it parsed them the rows below the command are theirs
-pub rows_by_words : (app : App) (words : List (List ℕ)) (m : ArgMatches) → app ≡ linda → HasMatchesOf app words m → subcommand_rows_of m ≡ subcommand_of linda words
+pub rows_by_words : (app : App) (words : List (List ℕ)) (m : ArgMatches) → app ≡ linda → HasMatchesOf app words m
+    → subcommand_rows_of m ≡ subcommand_of linda words
 rows_by_words app words m is parsed = (parsed (ap is_simple is ∙ all_simple)).1 ∙ ap (λ a. subcommand_of a words) is where
   all_simple : is_simple linda ≡ true
   all_simple = refl

@@ -1,8 +1,13 @@
+mod CallFlagLaws
 mod CallWalkLaws
 pub mod CommandLaws
-pub mod ParsingLaws
 mod LongSpellingLaws
+pub mod OptionLaws
+pub mod ParsingLaws
+mod RowLaws
+pub mod RunRowsLaws
 pub mod RunWalkLaws
 pub mod RunWordsLaws
+mod StrayLaws
 pub mod TaskLaws
-pub mod OptionLaws
+mod WordLaws

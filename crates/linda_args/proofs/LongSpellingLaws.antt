@@ -25,7 +25,8 @@ cut : (t : Text) → has_byte equals_sign t ≡ true → t ≡ before_first (λ 
 cut [] e = let bad : false ≡ true = e in cc
 cut (x ∷ xs) e = go (x == equals_sign) refl (cut xs)
   where
-    go : (b : Bool) → (x == equals_sign) ≡ b → (has_byte equals_sign xs ≡ true → xs ≡ before_first (λ y. y == equals_sign) xs ++ equals_sign ∷ after_first (λ y. y == equals_sign) xs)
+    go : (b : Bool) → (x == equals_sign) ≡ b
+        → (has_byte equals_sign xs ≡ true → xs ≡ before_first (λ y. y == equals_sign) xs ++ equals_sign ∷ after_first (λ y. y == equals_sign) xs)
         → x ∷ xs ≡ before_first (λ y. y == equals_sign) (x ∷ xs) ++ equals_sign ∷ after_first (λ y. y == equals_sign) (x ∷ xs)
     go true t later = rw t (ap (λ y. y ∷ xs) (eqb-true x equals_sign t))
     go false t later = rw (t, one_more (front xs), one_later (front xs)) (ap (λ ys. x ∷ ys) (later (rw t at e)))
@@ -34,7 +35,8 @@ uncut : (t : Text) → has_byte equals_sign t ≡ false → t ≡ before_first (
 uncut [] e = refl
 uncut (x ∷ xs) e = go (x == equals_sign) refl (uncut xs)
   where
-    go : (b : Bool) → (x == equals_sign) ≡ b → (has_byte equals_sign xs ≡ false → xs ≡ before_first (λ y. y == equals_sign) xs) → x ∷ xs ≡ before_first (λ y. y == equals_sign) (x ∷ xs)
+    go : (b : Bool) → (x == equals_sign) ≡ b → (has_byte equals_sign xs ≡ false → xs ≡ before_first (λ y. y == equals_sign) xs)
+        → x ∷ xs ≡ before_first (λ y. y == equals_sign) (x ∷ xs)
     go true t later = let bad : true ≡ false = rw t at e in cc
     go false t later = rw (t, one_more (front xs)) (ap (λ ys. x ∷ ys) (later (rw t at e)))
 

@@ -12,7 +12,8 @@ use Rattle.clap.specs.declared.parser.matches.Found.{Found}
 use Rattle.clap.specs.declared.parser.matches.MatchedArg.{MatchedArg}
 use Rattle.clap.specs.declared.parser.matches.ValueSource.{ValueSource}
 use Rattle.clap.proofs.WalkLemmas.{find_row, first_value-rows, one_text-rows, raw_values-rows}
-use Rattle.linda_args.specs.Commands.{linda, options_in, rows_in}
+use Rattle.linda_args.specs.Commands.{options_in, rows_in}
+use Rattle.linda_args.specs.Rules.{linda}
 use Rattle.linda_args.specs.Options.{IsCallBy, IsFlag, IsInspectBy, IsMark, IsNumber, Options, options_of, options_of_rows}
 
 -- what `get_one` reads is the number that the text spells
@@ -36,10 +37,11 @@ pub record AreSame (a b : Options) : Type 0 where
   pub source : (id : Text) → a.source id ≡ b.source id
 
 -- where the values of an argument came from, by the rows
-source_found : (f : Found) (id : Text) → (options_of f).source id ≡ (options_of_rows (rows_of f)).source id
+pub source_found : (f : Found) (id : Text) → (options_of f).source id ≡ (options_of_rows (rows_of f)).source id
 source_found f id = go (find (λ e. bytes_eq e.0.now id) f.entries.items) ∙ ap (option_and_then (λ (r : Row). r.source)) (sym (find_row f.entries.items id))
   where
-    go : (o : Option Entry) → option_and_then (λ (a : MatchedArg). a.source) (option_map (λ e. e.1) o) ≡ option_and_then (λ (r : Row). r.source) (option_map row_of o)
+    go : (o : Option Entry)
+        → option_and_then (λ (a : MatchedArg). a.source) (option_map (λ e. e.1) o) ≡ option_and_then (λ (r : Row). r.source) (option_map row_of o)
     go None = refl
     go (Some e) = refl
 

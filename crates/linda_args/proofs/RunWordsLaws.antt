@@ -1,9 +1,10 @@
 -- What the parser makes of the words after `run`: which pass, and what is said of the others.
-use Rattle.std.proofs.Common.{◌≡◌, ◌⊎◌, ◌∙◌, ◌==◌, ◌++◌, arith, ℕ, Bool, true, false, List, [], ◌∷◌, Option, Some, None, ap, ap₂, refl, sym, subst, inl, inr, codes}
+use Rattle.std.proofs.Common.{◌≡◌, ◌⊎◌, ◌∙◌, ◌==◌, ◌++◌, arith, ℕ, Bool, true, false, List, [], ◌∷◌, Option, Some, None, ap, ap₂, refl, sym, subst, inl, inr}
+use Rattle.std.proofs.Common.{codes}
 use Rattle.std.specs.Prelude.{fold, pos}
 use Rattle.std.proofs.lemmas.Bool.{eqb-true, ne_eqb}
 use Rattle.clap.specs.Walk.{first_of, Held, Row, Text, Waiting, Walk, idle, option, after_step, plain_word, used, walked, finished, one_of, reading_by}
-use Rattle.clap.specs.Simple.{built, entered, subcommand_of}
+use Rattle.clap.specs.Simple.{subcommand_of}
 use Rattle.clap.specs.Lexer.{long_of, short_of}
 use Rattle.clap.specs.ValueTests.{accepts}
 use Rattle.clap.specs.Kinds.{Kinds, or_else, value_kinds}
@@ -20,12 +21,18 @@ use Rattle.clap.specs.Values.{IsSignedIn}
 use Rattle.clap.specs.Matches.{ReadsOne}
 use Rattle.clap.proofs.KindLemmas.{value_kinds-ok, value_kinds-refused}
 use Rattle.clap.proofs.ValueTestLemmas.{accepts-Accepts}
-use Rattle.linda_args.specs.Commands.{IsRefusedRun, AsksForRun, Spells, IsEnd, IsOption, has_hyphen, linda}
+use Rattle.linda_args.specs.Commands.{AsksForRun, IsAfter, IsEnd, IsOption, Spells}
+use Rattle.linda_args.specs.Refusals.{IsRefusedRun, has_hyphen}
+use Rattle.linda_args.specs.Rules.{linda}
 use Rattle.clap.specs.declared.parser.matches.ValueSource.TheVariants.{DefaultValue}
 use Rattle.linda_args.specs.Marks.{hyphen, plus_sign}
 use Rattle.linda_client.specs.declared.limits.TheConstants.{MAX_SERVERS}
-use Rattle.linda_args.proofs.ParsingLaws.{first_is, AsksToRun, run_stops, no_end, no_strip, past, run_passes, run_walk, runner, top_fault}
-use Rattle.linda_args.proofs.RunWalkLaws.{Goes, asking, asking_refused, asks, asks_trace, at, checks, end_fault, ending, ends, from, from_end, from_given, from_step, from_told, goes, has_more, held, kept, mark_used, marks, next_of, nothing_refused, number_passes, passes_as_number, row, says, says_trace, servers, settles, settles_first, settles_mark, explain, explain_name, source_of, stays, stepped, the_name, then_used, told, trace, trace_used, trailing, turn_of}
+use Rattle.linda_args.proofs.ParsingLaws.{behind, found_after, named_fault, run_is}
+use Rattle.linda_args.proofs.StrayLaws.{first_is, no_end, no_strip}
+use Rattle.linda_args.proofs.RunRowsLaws.{ending, from_given, from_told, has_more, kept, mark_used, number_passes, passes_as_number, source_of, trace_used}
+use Rattle.linda_args.proofs.RunWalkLaws.{Goes, asking, asking_refused, asks, asks_trace, at, checks, end_fault, ends, explain, explain_name, from, from_end}
+use Rattle.linda_args.proofs.RunWalkLaws.{from_step, goes, held, marks, next_of, nothing_refused, row, runner, says, says_trace, settles, stays, stays_alone}
+use Rattle.linda_args.proofs.RunWalkLaws.{stepped, the_name, then_used, told, trace, trailing, turn_of}
 use Rattle.linda_args.proofs.LongSpellingLaws.{long_spelled}
 
 -- ---- the words that pass
@@ -59,17 +66,8 @@ asked_on : (x : Text) (xs : List Text) → long_of x ≡ Some (the_name, None) �
     → Passed (x ∷ xs) ⊎ has_more (ending (at (option the_name) (asking [])) xs)
 asked_on x [] is e = absurd (asking_refused [] (settles (asking []) (sym (from_end (at (option the_name) (asking []))) ∙ e)))
 asked_on x (v ∷ xs) is e =
-    let s = stepped (at (option the_name) (asking [])) v xs e in
-    go _ (goes (option the_name) [] (Some (the_name, [])) v s.0) s.1
-  where
-    go : (w : Walk) → Goes (option the_name) [] (Some (the_name, [])) v w → from w xs ≡ [] → Passed (x ∷ v ∷ xs) ⊎ has_more (ending w xs)
-    go w (ends at_end) f = absurd (asking_refused [] (settles (asking []) (trailing (option the_name) (asking []) xs f).1))
-    go w (asks other settle) f = absurd (asking_refused [] settle)
-    go w (says n other react) f = absurd (asking_refused [] (settles_first servers (asking []) n react))
-    go w (asks_trace other settle) f = absurd (asking_refused [] settle)
-    go w (says_trace n other react) f = absurd (asking_refused [] (settles_first trace (asking []) n react))
-    go w (marks other react) f = absurd (asking_refused [] (settles_mark (asking []) react))
-    go w (stays step) f = two_pass x v xs is (from_told v xs f)
+    let s = stays_alone (option the_name) [] (Some (the_name, [])) v xs (asking_refused []) e in
+    subst (λ (w : Walk). Passed (x ∷ v ∷ xs) ⊎ has_more (ending w xs)) (sym s.next) (two_pass x v xs is (from_told v xs s.passes))
 
 given_passes : (x v : Text) (xs : List Text) → long_of x ≡ Some (the_name, Some v) → passes_as_number v
     → IsEnd xs ⊎ has_more (ending (at idle (held (row v ∷ []) None)) xs) → Passed (x ∷ xs) ⊎ has_more (ending (at idle (held (row v ∷ []) None)) xs)
@@ -110,10 +108,12 @@ no_long v e = rw (no_strip v e) refl
 no_short : (v : Text) → has_hyphen v ≡ false → short_of v ≡ None
 no_short v e = rw (no_strip v e) refl
 
-no_flag_turn : (k : Waiting) (h : Held) (x : Text) → short_of x ≡ None → turn_of k h x None ≡ step_fault runner 1 (plain_word checks k x h).0 (plain_word checks k x h).1
+no_flag_turn : (k : Waiting) (h : Held) (x : Text) → short_of x ≡ None
+    → turn_of k h x None ≡ step_fault runner 1 (plain_word checks k x h).0 (plain_word checks k x h).1
 no_flag_turn k h x is = rw is refl
 
-no_flag_next : (k : Waiting) (h : Held) (x : Text) → short_of x ≡ None → next_of k h x None ≡ after_step checks x (at k h) (plain_word checks k x h).0 (plain_word checks k x h).1
+no_flag_next : (k : Waiting) (h : Held) (x : Text) → short_of x ≡ None
+    → next_of k h x None ≡ after_step checks x (at k h) (plain_word checks k x h).0 (plain_word checks k x h).1
 no_flag_next k h x is = rw is refl
 
 number_turn : (v : Text) → has_hyphen v ≡ false → turn_fault runner [] (at (option the_name) (asking [])) v ≡ []
@@ -139,7 +139,8 @@ two_words v xs e = option_first (v ∷ xs) ∙ number_next v xs e
 
 one_word : (v : Text) (xs : List Text) → number_kinds v ≡ [] → from begun ((codes "--servers=" ++ v) ∷ xs) ≡ from (at idle (held (row v ∷ []) None)) xs
 unfolding walked
-one_word v xs e = from_step begun (codes "--servers=" ++ v) xs ∙ ap (λ (k : Kinds). or_else (or_else (or_else k []) []) (from (at idle (held (row v ∷ []) None)) xs)) e
+one_word v xs e =
+    from_step begun (codes "--servers=" ++ v) xs ∙ ap (λ (k : Kinds). or_else (or_else (or_else k []) []) (from (at idle (held (row v ∷ []) None)) xs)) e
 
 ended : (h : Held) (end : List Text) → IsEnd end → from (at idle h) end ≡ end_fault h
 unfolding clap_on_literals
@@ -157,7 +158,8 @@ given_fault v = refl
 -- the option with a number that passes, and nothing after it
 option_passes : (v : Text) (opt end : List Text) → IsOption opt v → IsEnd end → has_hyphen v ≡ false → number_kinds v ≡ [] → from begun (opt ++ end) ≡ []
 option_passes v opt end (inl is) at_end no_option e =
-    ap (λ (o : List Text). from begun (o ++ end)) is ∙ two_words v end no_option ∙ ended (told [] v) end at_end ∙ told_fault v ∙ ap (λ (k : Kinds). or_else (or_else k []) []) e
+    ap (λ (o : List Text). from begun (o ++ end)) is ∙ two_words v end no_option ∙ ended (told [] v) end at_end ∙ told_fault v
+    ∙ ap (λ (k : Kinds). or_else (or_else k []) []) e
 option_passes v opt end (inr is) at_end no_option e =
     ap (λ (o : List Text). from begun (o ++ end)) is ∙ one_word v end e ∙ ended (held (row v ∷ []) None) end at_end ∙ given_fault v
 
@@ -172,7 +174,8 @@ unfolding walked
 found_told v end (inl is) = ap (λ (xs : List Text). finished checks (fold (walked checks []) (at idle (told [] v)) xs).held) is
 found_told v end (inr is) = ap (λ (xs : List Text). finished checks (fold (walked checks []) (at idle (told [] v)) xs).held) is
 
-found_given : (v : Text) (end : List Text) → IsEnd end → finished checks (fold (walked checks []) (at idle (held (row v ∷ []) None)) end).held ≡ row v ∷ unmarked ∷ []
+found_given : (v : Text) (end : List Text) → IsEnd end
+    → finished checks (fold (walked checks []) (at idle (held (row v ∷ []) None)) end).held ≡ row v ∷ unmarked ∷ []
 unfolding walked
 found_given v end (inl is) = ap (λ (xs : List Text). finished checks (fold (walked checks []) (at idle (held (row v ∷ []) None)) xs).held) is
 found_given v end (inr is) = ap (λ (xs : List Text). finished checks (fold (walked checks []) (at idle (held (row v ∷ []) None)) xs).held) is
@@ -185,14 +188,6 @@ found v opt end (inl is) at_end no_option =
     ∙ ap (λ (w : Walk). finished checks (fold (walked checks []) w end).held) (number_walk v no_option) ∙ found_told v end at_end
 found v opt end (inr is) at_end no_option =
     ap (λ (o : List Text). finished checks (fold (walked checks []) begun (o ++ end)).held) is ∙ found_given v end at_end
-
--- ---- the whole command line
-
--- what is returned for words after `run` is returned for the command line
-run_fault : (name : Text) (rest : List Text) → fault_of linda (name ∷ codes "run" ∷ rest) ≡ or_else (from begun rest) []
-unfolding clap_on_literals
-run_fault name rest =
-    past _ _ (run_passes rest) ∙ sym (ap top_fault (run_walk rest))
 
 -- ---- the number
 
@@ -257,38 +252,42 @@ number_read E G v n r h read only = go r (subst (λ (u : Text). ReadsOne G u r) 
 
 -- ---- the words of the command line that ask for a run
 
+-- what is returned for the words after `run` is returned for the command line
+run_fault : (words : List Text) (a : IsAfter (codes "run") words) → fault_of linda words ≡ or_else (from begun a.later) []
+unfolding clap_on_literals
+run_fault words a = named_fault words (codes "run") a run_is
+
+abbrev pub run_after : (words : List Text) (n : ℕ) → AsksForRun words n → IsAfter (codes "run") words
+run_after words n a = record { name = a.name; later = a.option ++ a.end; spelled = a.spelled }
+
 -- no fault comes of them
 pub run_is_free : (words : List Text) (n : ℕ) → AsksForRun words n → fault_of linda words ≡ []
 run_is_free words n a =
     let passes = option_passes a.number a.option a.end a.is_option a.is_end (no_hyphen a.number n a.spells) (accepted a.number n a.spells) in
-    ap (fault_of linda) a.spelled ∙ run_fault a.name (a.option ++ a.end) ∙ ap (λ (k : Kinds). or_else k []) passes
+    run_fault words (run_after words n a) ∙ ap (λ (k : Kinds). or_else k []) passes
 
-run_rows : (name : Text) (rest : List Text) → subcommand_of linda (name ∷ codes "run" ∷ rest) ≡ Some (codes "run", finished checks (fold (walked checks []) begun rest).held)
-run_rows name rest = sym (ap (entered (built linda)) (run_stops rest))
+run_rows : (words : List Text) (a : IsAfter (codes "run") words)
+    → subcommand_of linda words ≡ Some (codes "run", finished checks (fold (walked checks []) begun a.later).held)
+run_rows words a = found_after words (codes "run") a run_is
 
 -- and the parser finds their number
 pub run_is_found : (words : List Text) (n : ℕ) (a : AsksForRun words n) → subcommand_of linda words ≡ Some (codes "run", row a.number ∷ unmarked ∷ [])
 run_is_found words n a =
-    ap (subcommand_of linda) a.spelled ∙ run_rows a.name (a.option ++ a.end)
+    run_rows words (run_after words n a)
     ∙ ap (λ (rows : List Row). Some (codes "run", rows)) (found a.number a.option a.end a.is_option a.is_end (no_hyphen a.number n a.spells))
 
 -- the words are a program's name and `run`, and the parser finds a file for the trace, or the flag
 pub record RunsWith (words : List Text) : Type 0 where
-  pub name : Text
-  pub later : List Text
+  pub after : IsAfter (codes "run") words
   pub rows : List Row
-  pub spelled : words ≡ name ∷ codes "run" ∷ later
   pub found : subcommand_of linda words ≡ Some (codes "run", rows)
   pub has : has_more rows
 
 -- words that begin with `run` and pass ask for a run, or for one with a trace or with the flag
-pub runs : (words : List Text) → AsksToRun words → ((n : ℕ) × AsksForRun words n) ⊎ RunsWith words
-runs words a = go (passed a.runs.rest a.runs.passes)
+pub runs : (words : List Text) → IsAfter (codes "run") words → fault_of linda words ≡ [] → ((n : ℕ) × AsksForRun words n) ⊎ RunsWith words
+runs words a free = go (passed a.later (behind words (codes "run") a run_is free))
   where
-    spelled : words ≡ a.name ∷ codes "run" ∷ a.runs.rest
-    spelled = a.spelled ∙ ap (λ (xs : List Text). a.name ∷ xs) a.runs.spelled
-
-    go : Passed a.runs.rest ⊎ has_more (ending begun a.runs.rest) → ((n : ℕ) × AsksForRun words n) ⊎ RunsWith words
+    go : Passed a.later ⊎ has_more (ending begun a.later) → ((n : ℕ) × AsksForRun words n) ⊎ RunsWith words
     go (inl p) =
         let n = spells p.number p.passes in
         inl (
@@ -298,20 +297,13 @@ runs words a = go (passed a.runs.rest a.runs.passes)
             number = p.number;
             option = p.option;
             end = p.end;
-            spelled = spelled ∙ ap (λ (xs : List Text). a.name ∷ codes "run" ∷ xs) p.spelled;
+            spelled = a.spelled ∙ ap (λ (xs : List Text). a.name ∷ codes "run" ∷ xs) p.spelled;
             is_option = p.is_option;
             is_end = p.is_end;
             spells = n.1;
           },
         )
-    go (inr h) = inr (record {
-      name = a.name;
-      later = a.runs.rest;
-      rows = ending begun a.runs.rest;
-      spelled = spelled;
-      found = ap (subcommand_of linda) spelled ∙ run_rows a.name a.runs.rest;
-      has = h;
-    })
+    go (inr h) = inr (record { after = a; rows = ending begun a.later; found = run_rows words a; has = h })
 
 -- what the getter is given
 pub number_of_row : (v : Text) → one_of (codes "servers") (row v ∷ unmarked ∷ []) ≡ Some (without_minus v)
@@ -340,7 +332,8 @@ bad_kinds v unlike = value_kinds-refused false (parsers.Signed (pos 1) (pos MAX_
     let n = spells v (value_kinds-ok false (parsers.Signed (pos 1) (pos MAX_SERVERS)) v passes) in
     unlike n.0 n.1)
 
-one_word_told : (v : Text) (xs : List Text) → from begun ((codes "--servers=" ++ v) ∷ xs) ≡ or_else (or_else (or_else (number_kinds v) []) []) (from (at idle (held (row v ∷ []) None)) xs)
+one_word_told : (v : Text) (xs : List Text)
+    → from begun ((codes "--servers=" ++ v) ∷ xs) ≡ or_else (or_else (or_else (number_kinds v) []) []) (from (at idle (held (row v ∷ []) None)) xs)
 unfolding walked
 one_word_told v xs = from_step begun (codes "--servers=" ++ v) xs
 
@@ -356,10 +349,12 @@ bad_told v opt end (inr is) at_end no_option unlike =
 stray_told : (h : Held) (w : Text) (later : List Text) → has_hyphen w ≡ false → from (at idle h) (w ∷ later) ≡ kind.UnknownArgument ∷ []
 stray_told h w later e =
     let turn : turn_fault runner [] (at idle h) w ≡ turn_of idle h w (long_of w) = rw (no_end w e) refl in
-    let told : turn_fault runner [] (at idle h) w ≡ kind.UnknownArgument ∷ [] = turn ∙ ap (turn_of idle h w) (no_long w e) ∙ no_flag_turn idle h w (no_short w e) in
+    let told : turn_fault runner [] (at idle h) w ≡ kind.UnknownArgument ∷ [] =
+    turn ∙ ap (turn_of idle h w) (no_long w e) ∙ no_flag_turn idle h w (no_short w e) in
     from_step (at idle h) w later ∙ first_is _ _ _ _ told
 
-more_told : (v w : Text) (n : ℕ) (opt later : List Text) → IsOption opt v → Spells v n → has_hyphen w ≡ false → from begun (opt ++ w ∷ later) ≡ kind.UnknownArgument ∷ []
+more_told : (v w : Text) (n : ℕ) (opt later : List Text) → IsOption opt v → Spells v n → has_hyphen w ≡ false
+    → from begun (opt ++ w ∷ later) ≡ kind.UnknownArgument ∷ []
 more_told v w n opt later (inl is) h e =
     ap (λ (o : List Text). from begun (o ++ w ∷ later)) is ∙ two_words v (w ∷ later) (no_hyphen v n h) ∙ stray_told (told [] v) w later e
 more_told v w n opt later (inr is) h e =
@@ -367,15 +362,17 @@ more_told v w n opt later (inr is) h e =
 
 run_told : (words : List Text) (name : Text) (rest : List Text) (kinds : Kinds) → words ≡ name ∷ codes "run" ∷ rest → from begun rest ≡ kinds
     → fault_of linda words ≡ or_else kinds []
-run_told words name rest kinds is told = ap (fault_of linda) is ∙ run_fault name rest ∙ ap (λ (k : Kinds). or_else k []) told
+run_told words name rest kinds is told = run_fault words (record { name = name; later = rest; spelled = is }) ∙ ap (λ (k : Kinds). or_else k []) told
 
 pub run_kinds : (words : List Text) (kinds : Kinds) → IsRefusedRun words kinds → fault_of linda words ≡ kinds
 run_kinds words kinds (inl h) = run_told words h.0.0 [] _ h.0.1 nothing_told ∙ sym h.1
 run_kinds words kinds (inr (inl h)) = run_told words h.0.0 (codes "--servers" ∷ []) _ h.0.1 no_number_told ∙ sym h.1
 run_kinds words kinds (inr (inr (inl h))) =
-    run_told words h.0.name (h.0.option ++ h.0.end) _ h.0.spelled (bad_told h.0.number h.0.option h.0.end h.0.is_option h.0.is_end h.0.no_option h.0.no_number) ∙ sym h.1
+    run_told words h.0.name (h.0.option ++ h.0.end) _ h.0.spelled
+    (bad_told h.0.number h.0.option h.0.end h.0.is_option h.0.is_end h.0.no_option h.0.no_number) ∙ sym h.1
 run_kinds words kinds (inr (inr (inr h))) =
-    run_told words h.0.name (h.0.option ++ h.0.word ∷ h.0.later) _ h.0.spelled (more_told h.0.number h.0.word h.0.n h.0.option h.0.later h.0.is_option h.0.spells h.0.no_option) ∙ sym h.1
+    run_told words h.0.name (h.0.option ++ h.0.word ∷ h.0.later) _ h.0.spelled
+    (more_told h.0.number h.0.word h.0.n h.0.option h.0.later h.0.is_option h.0.spells h.0.no_option) ∙ sym h.1
 
 pub run_refused_some : (words : List Text) (kinds : Kinds) → IsRefusedRun words kinds → kinds ≡ [] → ⊥
 run_refused_some words kinds (inl h) e = let bad : kind.MissingRequiredArgument ∷ [] ≡ [] = sym h.1 ∙ e in cc

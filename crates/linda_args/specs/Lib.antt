@@ -1,4 +1,6 @@
 pub mod Commands
 pub mod Marks
-pub mod Ports
 pub mod Options
+pub mod Ports
+pub mod Refusals
+pub mod Rules

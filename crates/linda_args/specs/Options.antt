@@ -27,13 +27,17 @@ pub record Options : Type 0 where
   -- where they came from: the words, or a default
   pub source : List ℕ → Option ValueSource
 
+-- where the value of an argument came from
+abbrev pub source_in : Found → List ℕ → Option ValueSource
+source_in f id = option_and_then (λ a. a.source) (matched_of f id)
+
 -- the options as the parser's matches have them
 abbrev pub options_of : Found → Options
 options_of f = record {
   one = one_text f;
   first = first_value f;
   all = λ id. option_map raw_values (matched_of f id);
-  source = λ id. option_and_then (λ a. a.source) (matched_of f id);
+  source = source_in f;
 }
 
 -- the options as the rows have them that the parser makes of words
@@ -51,7 +55,8 @@ IsNumeralOf bits text =
     IsNumeral 10 (without_leading_plus text)
     × (digits_value 10 (without_leading_plus text) < 2 ^ bits)
 
--- The number is that which the text spells; there is none if there is no text, or if it spells none.
+-- The number is that which the text spells; there is none if there is no text, or if it spells
+-- none.
 abbrev pub IsNumber : ℕ → Option (List ℕ) → Option ℕ → Type 0
 IsNumber bits None number = number ≡ None
 IsNumber bits (Some text) (Some n) =

@@ -4,7 +4,7 @@
 //! they say so to the letter. If they ask for another `Task` they begin with its command, and its
 //! numbers are in their ranges: 1 to 16 servers, 1 to 16 `Ports` of 1 to 65,535. A server has a
 //! port, a `Socket`, or both. A call has `again` exactly if `--again` is one of its words. Of words
-//! that ask for nothing the kind of fault is that of `specs/Commands`. `asks_for_version` says
+//! that ask for nothing the kind of fault is that of `specs/Refusals`. `asks_for_version` says
 //! exactly whether they ask for the version, which `VERSION_LINES` gives.
 //!
 //! Nothing is done here: no file, no port and no stream is touched.

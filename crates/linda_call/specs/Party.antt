@@ -14,7 +14,7 @@ use Rattle.linda_client.specs.React.{react}
 use Rattle.linda_client.specs.Reaction.{shown}
 use Rattle.linda_client.specs.declared.reaction.Reaction.{Reaction as Told}
 use Rattle.linda_call.specs.Standings.{standing_at}
-use Rattle.linda_call.specs.declared.calling.standing.Standing.{Standing}
+use Rattle.linda_call.specs.declared.calling.standing.ServerStanding.{ServerStanding}
 
 -- The call of the client that a request is.
 abbrev pub call_for : Request → calls.Call
@@ -42,7 +42,7 @@ accepted_after before server (message.Leave n) = before
 
 -- The offer whose ticket is cancelled once what was pending has ended: the one that was accepted
 -- last, if something was asked for again at its server.
-abbrev pub cancelled_at : List Standing → Option (ℕ × ℕ) → Option (ℕ × ℕ)
+abbrev pub cancelled_at : List ServerStanding → Option (ℕ × ℕ) → Option (ℕ × ℕ)
 cancelled_at standings None = None
 cancelled_at standings (Some offer) =
     if (standing_at standings offer.0).asked_again then Some offer else None
@@ -59,5 +59,5 @@ Hears old server (Some reply) told new =
 
 -- what a server that welcomes the client is known to have: it was asked again if Asks are sent to
 -- it
-abbrev pub asked : Bool → Standing → Standing
+abbrev pub asked : Bool → ServerStanding → ServerStanding
 asked is_asked s = if is_asked then record s { asked_again = true } else s

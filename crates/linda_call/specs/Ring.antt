@@ -8,8 +8,8 @@ use Rattle.linda_wire.specs.declared.message.Message.{Message}
 use Rattle.linda_wire.specs.declared.message.Message.TheVariants.{Out}
 use Rattle.linda_wire.specs.declared.reply.Reply.{Reply}
 use Rattle.linda_wire.specs.declared.reply.Reply.TheVariants as reply
-use Rattle.linda_net_proxy.specs.declared.arrivals.Arrival.{Arrival}
-use Rattle.linda_net_proxy.specs.declared.arrivals.Arrival.TheVariants as arrival
+use Rattle.linda_net_proxy.specs.declared.server_events.ServerEvent.{ServerEvent}
+use Rattle.linda_net_proxy.specs.declared.server_events.ServerEvent.TheVariants as arrival
 use Rattle.linda_call.specs.declared.calling.ring.Fate.{Fate}
 use Rattle.linda_call.specs.declared.calling.ring.Fate.TheVariants as fate
 use Rattle.linda_call.specs.declared.calling.ring.News.{News}
@@ -59,7 +59,7 @@ is_gap_reply (reply.Refused code detail) = code == NUMBER_GAP
 is_gap_reply (reply.Left n) = false
 
 -- whether a server says that messages before one are missing
-abbrev pub is_gap : Arrival → Bool
+abbrev pub is_gap : ServerEvent → Bool
 is_gap (arrival.Greeted last) = false
 is_gap (arrival.Came r) = is_gap_reply r
 is_gap (arrival.Refused code detail) = false
@@ -90,7 +90,7 @@ fate_after (news.Refused server code detail) p =
     if is_open_at server p then fate.Refused code detail else p.fate
 
 -- what comes of puts by what a server brings
-abbrev pub news_in : ℕ → Arrival → Option News
+abbrev pub news_in : ℕ → ServerEvent → Option News
 news_in server (arrival.Greeted last) = Some (news.Welcomed server last)
 news_in server (arrival.Came r) = news_of server r
 news_in server (arrival.Refused code detail) = None

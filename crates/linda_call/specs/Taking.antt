@@ -1,10 +1,10 @@
 -- Taking of what a server brings.
 use Rattle.std.specs.Prelude.{◌≡◌, ℕ, true, false, List, Result, Ok, Err, IfOk, IfErr}
 use Rattle.std.specs.List.{list_any}
-use Rattle.linda_net_proxy.specs.declared.arrivals.Arrival.{Arrival}
-use Rattle.linda_net_proxy.specs.declared.arrivals.Arrival.TheVariants.{Greeted, Came, Refused}
-use Rattle.linda_net_proxy.specs.declared.arrivals.Arrival.TheVariants.{NotAServer, NoConnection}
-use Rattle.linda_net_proxy.specs.declared.arrivals.Arrival.TheVariants.{Memory}
+use Rattle.linda_net_proxy.specs.declared.server_events.ServerEvent.{ServerEvent}
+use Rattle.linda_net_proxy.specs.declared.server_events.ServerEvent.TheVariants.{Greeted, Came, Refused}
+use Rattle.linda_net_proxy.specs.declared.server_events.ServerEvent.TheVariants.{NotAServer, NoConnection}
+use Rattle.linda_net_proxy.specs.declared.server_events.ServerEvent.TheVariants.{Memory}
 use Rattle.linda_client.specs.React as calls
 use Rattle.linda_client.specs.React.{react}
 use Rattle.linda_client.specs.Reaction.{shown}
@@ -15,14 +15,14 @@ use Rattle.linda_call.specs.Standings.{standing_at, with_standing, answered, wel
 use Rattle.linda_call.specs.Standings.{is_foreign}
 use Rattle.linda_call.specs.declared.calling.standing.Meeting.TheVariants as meetings
 use Rattle.linda_call.specs.declared.calling.party.Party.{Party}
-use Rattle.linda_call.specs.declared.calling.standing.Standing.{Standing}
+use Rattle.linda_call.specs.declared.calling.standing.ServerStanding.{ServerStanding}
 use Rattle.linda_call.specs.declared.calling.fault.CallFault.{CallFault}
 use Rattle.linda_call.specs.declared.calling.fault.CallFault.TheVariants as faults
 
 -- What a server brings is taken so: the client sees a reply by its own numbers, unless the reply
 -- cannot answer what was sent; after a welcome it sends again what is pending there, unless the
 -- server keeps less than it answered or more than it was sent; all else ends the call.
-abbrev pub IsTaken : Party → ℕ → Arrival → Result Told CallFault → Party → Type 0
+abbrev pub IsTaken : Party → ℕ → ServerEvent → Result Told CallFault → Party → Type 0
 IsTaken old server (Came reply) result new =
     (IfOk result (λ told. Hears old.client server
     (homeward_of (standing_at old.standings.items server).base reply) told new.client))
@@ -48,7 +48,7 @@ IsTaken old server Memory result new = result ≡ Err faults.Memory
 
 -- How the client stands with its servers once what a server brings was taken well: a reply may have
 -- answered a number, and a server that welcomes the client is met.
-abbrev pub standings_after : Party → ℕ → Arrival → Told → List Standing
+abbrev pub standings_after : Party → ℕ → ServerEvent → Told → List ServerStanding
 standings_after old server (Came reply) told = with_standing old.standings.items server
     (answered (standing_at old.standings.items server) (answered_in reply))
 standings_after old server (Greeted last) told = with_standing old.standings.items server

@@ -20,7 +20,7 @@ ghost use Rattle.linda_client.specs.declared.limits.TheConstants.{MAX_SERVERS};
 use caller::Caller;
 use count::Count;
 pub use fault::CallFault;
-use linda_net_proxy::{Inbox, Link};
+use linda_net_proxy::{EventInbox, ServerLink};
 use linda_pipe::{extend_line, without_return};
 use linda_store::MAX_READS;
 pub use manner::Manner;
@@ -175,13 +175,13 @@ fn call_over<
     reader: &mut R,
     writer: &mut W,
     client: u32,
-    all: &[Link],
+    all: &[ServerLink],
     manner: Manner,
 ) -> Result<(), CallFault>
     requires some { 1 ≤ length all.now }
     requires few { length all.now ≤ MAX_SERVERS }
 {
-    let inbox = Inbox::new(alloc);
+    let inbox = EventInbox::new(alloc);
     let arrivals = &inbox;
     let caller = Caller::new(rt, alloc, arrivals, all, client, manner)?;
     thread::scope(thread::scope_env(), rt, |scope| {
@@ -203,14 +203,19 @@ fn call_over<
 }
 
 // A link to each port, numbered from 0.
-fn links_to(alloc: Global, client: u32, ports: &[u16], fresh: bool) -> Result<Vec<Link>, AllocError>
+fn links_to(
+    alloc: Global,
+    client: u32,
+    ports: &[u16],
+    fresh: bool,
+) -> Result<Vec<ServerLink>, AllocError>
     requires { length ports.now ≤ MAX_SERVERS }
     ensures each { IfOk result (λ links. IsLinked client fresh ports.now links.items) }
     ensures len { IfOk result (λ links. vec_len links ≡ length ports.now) }
 {
     let mut links = Vec::new(alloc);
     for (server, port) in ports.iter().enumerate() {
-        links.push(Link::new(server as u32, *port, client, fresh))?;
+        links.push(ServerLink::new(server as u32, *port, client, fresh))?;
     }
     Ok(links)
 }
@@ -221,7 +226,7 @@ fn links_at(
     client: u32,
     paths: &[String],
     fresh: bool,
-) -> Result<Vec<Link>, AllocError>
+) -> Result<Vec<ServerLink>, AllocError>
     requires { length paths.now ≤ MAX_SERVERS }
     ensures each { IfOk result (λ links. IsLinkedAt client fresh (map string_bytes paths.now)
         links.items) }
@@ -230,7 +235,7 @@ fn links_at(
     let mut links = Vec::new(alloc);
     for (server, path) in paths.iter().enumerate() {
         let path = String::from_str(alloc, path.as_str())?;
-        links.push(Link::at(server as u32, path, client, fresh))?;
+        links.push(ServerLink::at(server as u32, path, client, fresh))?;
     }
     Ok(links)
 }
@@ -273,8 +278,8 @@ struct Lines<'a> {
 }
 
 impl Lines<'_> {
-    // Takes a piece of the input, and does the lines that end in it. All of them are answered before
-    // more is read.
+    // Takes a piece of the input, and does the lines that end in it. All of them are answered
+    // before more is read.
     fn take<S: Wait + Clock, W: Write>(
         &mut self,
         rt: &S,

@@ -1,6 +1,6 @@
 //! Expectations at a place: what a text could go on with there.
 
-use crate::reading::{Kind, Reading, read};
+use crate::reading::{Reading, ReadingKind, read};
 use std::alloc::{AllocError, Global};
 
 // What is tried, and how it is named.
@@ -35,7 +35,7 @@ const ODD: &str = "\u{a7}";
 pub(crate) fn push_expected(
     alloc: Global,
     out: &mut String,
-    kind: Kind,
+    kind: ReadingKind,
     front: &str,
 ) -> Result<(), AllocError> {
     if front.as_bytes().ends_with(b"?") && !goes_on(alloc, kind, front, ODD)? {
@@ -65,7 +65,7 @@ pub(crate) fn push_expected(
 
 // Whether the reader takes all of the front with this after it: as a whole, or as the beginning of
 // a longer text.
-fn goes_on(alloc: Global, kind: Kind, front: &str, probe: &str) -> Result<bool, AllocError> {
+fn goes_on(alloc: Global, kind: ReadingKind, front: &str, probe: &str) -> Result<bool, AllocError> {
     let mut text = String::from_str(alloc, front)?;
     text.push_str(probe)?;
     match read(alloc, kind, text.as_str())? {

@@ -3,14 +3,14 @@
 ghost use Rattle.std.specs.Prelude.{◌≤◌, ◌+◌, length};
 
 use crate::expected::push_expected;
-use crate::reading::{Kind, Reading, read};
+use crate::reading::{Reading, ReadingKind, read};
 use linda_shell_text::{behind_word, number_in};
 use linda_text::skip_blanks;
 use std::alloc::{AllocError, Global};
 
 /// Whose lines these are.
 #[derive(Clone, Copy)]
-pub enum Lines {
+pub enum LineSource {
     /// Of one client: `out TUPLE`, `sync EVENT`, `leave`, `last`.
     OfCall,
     /// Of a script: the same after a client's number, and commands of servers.
@@ -33,12 +33,12 @@ pub fn explain(
     alloc: Global,
     number: u64,
     line: &[u8],
-    lines: Lines,
+    lines: LineSource,
 ) -> Result<String, AllocError> {
     let text = skip_blanks(line);
     match lines {
-        Lines::OfCall => explain_request(alloc, number, line, text, OF_CALL),
-        Lines::OfScript => match number_in(text) {
+        LineSource::OfCall => explain_request(alloc, number, line, text, OF_CALL),
+        LineSource::OfScript => match number_in(text) {
             Some((_, rest)) => explain_request(alloc, number, line, rest, OF_CLIENT),
             None => placed(alloc, number, line, text, OF_SCRIPT),
         },
@@ -54,10 +54,10 @@ fn explain_request(
     commands: &str,
 ) -> Result<String, AllocError> {
     if let Some(rest) = behind_word(text, b"out") {
-        return explain_text(alloc, number, line, rest, Kind::Tuple);
+        return explain_text(alloc, number, line, rest, ReadingKind::Tuple);
     }
     if let Some(rest) = behind_word(text, b"sync") {
-        return explain_text(alloc, number, line, rest, Kind::Event);
+        return explain_text(alloc, number, line, rest, ReadingKind::Event);
     }
     for word in [
         b"leave".as_slice(),
@@ -77,7 +77,7 @@ fn explain_text(
     number: u64,
     line: &[u8],
     text: &[u8],
-    kind: Kind,
+    kind: ReadingKind,
 ) -> Result<String, AllocError> {
     let Ok(whole) = std::str::from_utf8(text) else {
         return placed(alloc, number, line, text, "UTF-8");

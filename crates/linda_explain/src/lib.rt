@@ -1,7 +1,7 @@
 //! Explanations of lines that are no commands: where each goes wrong, and what was expected there.
 //!
-//! - A `Keeper` is a reader that keeps the lines that it gave last, so that the one with a fault can
-//!   be looked at.
+//! - A `Keeper` is a reader that keeps the lines that it gave last, so that the one with a fault
+//!   can be looked at.
 //! - `explain` says where a line goes wrong. What could go on there is found by the readers of the
 //!   commands themselves (`expected`): there is no second grammar.
 #![tactic(auto)]
@@ -11,5 +11,5 @@ mod explanation;
 mod keeper;
 mod reading;
 
-pub use explanation::{Lines, explain};
+pub use explanation::{LineSource, explain};
 pub use keeper::Keeper;

@@ -6,7 +6,7 @@ use std::alloc::{AllocError, Global};
 
 /// What a text is to be.
 #[derive(Clone, Copy)]
-pub(crate) enum Kind {
+pub(crate) enum ReadingKind {
     Tuple,
     Event,
 }
@@ -27,13 +27,13 @@ pub(crate) enum Reading {
 /// # Errors
 ///
 /// `AllocError` if memory runs out.
-pub(crate) fn read(alloc: Global, kind: Kind, text: &str) -> Result<Reading, AllocError> {
+pub(crate) fn read(alloc: Global, kind: ReadingKind, text: &str) -> Result<Reading, AllocError> {
     match kind {
-        Kind::Tuple => match read_tuple(alloc, text) {
+        ReadingKind::Tuple => match read_tuple(alloc, text) {
             Ok(_) => Ok(Reading::Whole),
             Err(fault) => of_text(fault),
         },
-        Kind::Event => match read_event(alloc, text) {
+        ReadingKind::Event => match read_event(alloc, text) {
             Ok(_) => Ok(Reading::Whole),
             Err(EventTextFault::Text(fault)) => of_text(fault),
             Err(EventTextFault::TooManyNested) => {

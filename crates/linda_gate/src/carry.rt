@@ -1,6 +1,6 @@
 //! The bytes of one connection, to the server and back.
 
-use linda_gate_pass::Gate;
+use linda_gate_pass::ClientGate;
 use std::alloc::Global;
 use std::io::{Read, Write};
 use std::net::Shutdown;
@@ -52,7 +52,7 @@ impl Sides {
 
     // Passes on what may pass. Whether the client ended, and all before that passed.
     fn pass_all(&self, rt: &impl Wait, alloc: Global) -> bool {
-        let mut gate = Gate::new(alloc);
+        let mut gate = ClientGate::new(alloc);
         let mut out = Vec::new(alloc);
         let mut buffer = [0; PIECE];
         for _ in rt.forever() {

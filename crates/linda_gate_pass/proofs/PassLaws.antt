@@ -7,12 +7,12 @@ use Rattle.std.proofs.lemmas.List.Concat.{flat_map-cons}
 use Rattle.std.proofs.lemmas.Grind.{flat_map-append}
 use Rattle.linda_wire.specs.declared.message.Message.{Message}
 use Rattle.linda_wire.specs.Frames.{message_frame}
-use Rattle.linda_gate_pass.specs.declared.numbers.Numbers.{Numbers}
+use Rattle.linda_gate_pass.specs.declared.client_numbers.ClientNumbers.{ClientNumbers}
 use Rattle.linda_gate_pass.specs.Passing.{is_hello, may_pass, AreOfOne, Reads}
 
 -- ---- of one client
 
-pub one_more : (numbers : Numbers) (ms : List Message) (m : Message)
+pub one_more : (numbers : ClientNumbers) (ms : List Message) (m : Message)
     → AreOfOne numbers ms → may_pass numbers ms m ≡ true → AreOfOne numbers (ms ++ m ∷ [])
 one_more numbers [] m one may = (may, All-nil (λ (m : Message). is_hello m ≡ false))
 one_more numbers (first ∷ later) m one may =

@@ -7,12 +7,12 @@ use Rattle.std.specs.Prelude.{Option, Some, None}
 use Rattle.std.specs.Option.{option_and_then}
 use Rattle.std.specs.Str.{bytes_eq}
 use Rattle.std.specs.Str.Parse.{IsNumeral, digits_value}
-use Rattle.linda_gate_pass.specs.declared.head.Head.{Head}
-use Rattle.linda_gate_pass.specs.declared.head.Head.TheVariants as heads
+use Rattle.linda_gate_pass.specs.declared.head.ProxyHead.{ProxyHead}
+use Rattle.linda_gate_pass.specs.declared.head.ProxyHead.TheVariants as heads
 use Rattle.linda_gate_pass.specs.declared.head.TheConstants.{HEAD_BYTES, SIGNATURE, PROXY}
 use Rattle.linda_gate_pass.specs.declared.head.TheConstants.{TCP4, TCP4_BYTES, TCP6, TCP6_BYTES}
 use Rattle.linda_gate_pass.specs.declared.head.TheConstants.{FIELDS, TLS, NAME, SHOWN, SHOWN_NOW}
-use Rattle.linda_gate_pass.specs.declared.numbers.Numbers.{Numbers}
+use Rattle.linda_gate_pass.specs.declared.client_numbers.ClientNumbers.{ClientNumbers}
 
 -- ---- the name of a certificate
 
@@ -30,7 +30,7 @@ pub record IsNumber (bytes : List ℕ) (n : ℕ) : Type 0 where
   pub short : n < 2 ^ 32
 
 -- The first and the last number, with a dash between them.
-pub record IsRange (name : List ℕ) (numbers : Numbers) : Type 0 where
+pub record IsRange (name : List ℕ) (numbers : ClientNumbers) : Type 0 where
   pub first : List ℕ
   pub last : List ℕ
   pub spelled : name ≡ first ++ 45 ∷ last
@@ -39,7 +39,7 @@ pub record IsRange (name : List ℕ) (numbers : Numbers) : Type 0 where
   pub order : numbers.low ≤ numbers.high
 
 -- The name says these numbers: it is one number, or the first and the last of several.
-abbrev pub Names : List ℕ → Numbers → Type 0
+abbrev pub Names : List ℕ → ClientNumbers → Type 0
 Names name numbers =
     (IsNumber name numbers.low × (numbers.high ≡ numbers.low)) ⊎ IsRange name numbers
 
@@ -104,7 +104,7 @@ fields_in bytes len addresses =
     take (len - (HEAD_BYTES + addresses)) (drop (HEAD_BYTES + addresses) bytes)
 
 -- The first so many bytes are a head, of a client whose certificate has these numbers for a name.
-pub record IsHead (bytes : List ℕ) (numbers : Numbers) (len : ℕ) : Type 0 where
+pub record IsHead (bytes : List ℕ) (numbers : ClientNumbers) (len : ℕ) : Type 0 where
   pub client : is_of_client bytes ≡ true
   pub is_len : len ≡ head_len bytes
   pub whole : len ≤ length bytes
@@ -115,7 +115,7 @@ pub record IsHead (bytes : List ℕ) (numbers : Numbers) (len : ℕ) : Type 0 wh
   pub names : Names name numbers
 
 -- What is read of bytes: that a part of a head is missing, or the head.
-abbrev pub Heads : List ℕ → Head → Type 0
+abbrev pub Heads : List ℕ → ProxyHead → Type 0
 Heads bytes heads.Short = (length bytes < HEAD_BYTES) ⊎ (length bytes < head_len bytes)
 Heads bytes (heads.Allows numbers len) = IsHead bytes numbers len
 Heads bytes heads.Refused = Unit {0}

@@ -11,16 +11,16 @@ use Rattle.linda_wire.specs.Stream.{Partial, Whole, Broken, message_front}
 use Rattle.linda_gate_pass.specs.declared.fault.PassFault.{PassFault}
 use Rattle.linda_gate_pass.specs.declared.fault.PassFault.TheVariants.{NoHead, Memory, NoMessage}
 use Rattle.linda_gate_pass.specs.declared.fault.PassFault.TheVariants.{NotAllowed}
-use Rattle.linda_gate_pass.specs.declared.numbers.Numbers.{Numbers}
+use Rattle.linda_gate_pass.specs.declared.client_numbers.ClientNumbers.{ClientNumbers}
 
 -- ---- which messages pass
 
 -- Whether the client is among the numbers.
-abbrev pub allows : Numbers → ℕ → Bool
+abbrev pub allows : ClientNumbers → ℕ → Bool
 allows numbers client = not (nat_lt client numbers.low) && not (nat_lt numbers.high client)
 
 -- Whether a message may be the first one: a Hello of an allowed client, in the one version.
-abbrev pub may_begin : Numbers → Message → Bool
+abbrev pub may_begin : ClientNumbers → Message → Bool
 may_begin numbers (messages.Hello version client fresh) =
     (version == VERSION) && allows numbers client
 may_begin numbers (messages.Out n tuple) = false
@@ -44,12 +44,12 @@ are_some [] = false
 are_some (first ∷ later) = true
 
 -- Whether a message may pass after these.
-abbrev pub may_pass : Numbers → List Message → Message → Bool
+abbrev pub may_pass : ClientNumbers → List Message → Message → Bool
 may_pass numbers [] m = may_begin numbers m
 may_pass numbers (first ∷ later) m = not (is_hello m)
 
 -- The messages are those of one allowed client: none; or its Hello, and no other Hello after it.
-abbrev pub AreOfOne : Numbers → List Message → Type 0
+abbrev pub AreOfOne : ClientNumbers → List Message → Type 0
 AreOfOne numbers [] = Unit {0}
 AreOfOne numbers (first ∷ later) =
     (may_begin numbers first ≡ true) × All (λ m. is_hello m ≡ false) later
@@ -58,13 +58,13 @@ AreOfOne numbers (first ∷ later) =
 
 -- What contracts see of a connection: all messages that passed, and the bytes after them.
 pub record Passing : Type 0 where
-  pub numbers : Numbers
+  pub numbers : ClientNumbers
   pub passed : List Message
   pub unread : List ℕ
   pub fault : Option PassFault
 
 -- Nothing came yet.
-abbrev pub begun : Numbers → Passing
+abbrev pub begun : ClientNumbers → Passing
 begun numbers = record { numbers = numbers; passed = []; unread = []; fault = None }
 
 -- All bytes that came, as long as there is no fault.
@@ -88,7 +88,7 @@ pub record Writes (old new : List Message) (before after : List ℕ) : Type 0 wh
 
 -- Why nothing more passes after these messages: memory ran out; the rest begins with no message; or
 -- with one that may not pass.
-abbrev pub Stops : Numbers → List Message → List ℕ → PassFault → Type 0
+abbrev pub Stops : ClientNumbers → List Message → List ℕ → PassFault → Type 0
 Stops numbers passed rest NoHead = ⊥
 Stops numbers passed rest Memory = Unit {0}
 Stops numbers passed rest NoMessage = (fault : FrameFault) × (message_front rest ≡ Broken fault)
@@ -97,12 +97,12 @@ Stops numbers passed rest NotAllowed =
     × (may_pass numbers passed m ≡ false)
 
 -- How reading ends: no whole frame is left; or a fault.
-abbrev pub Ends : Numbers → List Message → List ℕ → List ℕ → Result (Unit {0}) PassFault → Type 0
+abbrev pub Ends : ClientNumbers → List Message → List ℕ → List ℕ → Result (Unit {0}) PassFault → Type 0
 Ends numbers passed rest unread (Ok unit) = (unread ≡ rest) × (message_front rest ≡ Partial)
 Ends numbers passed rest unread (Err fault) = Stops numbers passed rest fault
 
 -- The frames of bytes are read, as far as they may pass.
-abbrev pub ReadsAll : Numbers → List Message → List Message → List ℕ → List ℕ → List ℕ → List ℕ
+abbrev pub ReadsAll : ClientNumbers → List Message → List Message → List ℕ → List ℕ → List ℕ → List ℕ
     → Result (Unit {0}) PassFault → Type 0
 ReadsAll numbers old new bytes unread before after result =
     (rest : List ℕ)

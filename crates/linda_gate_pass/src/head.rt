@@ -6,7 +6,7 @@ ghost use Rattle.linda_gate_pass.specs.declared.head.TheConstants as c;
 ghost use Rattle.linda_gate_pass.specs.Head as spec;
 ghost use Rattle.linda_gate_pass.specs.Head.{IsNumber, Names, Heads};
 
-use crate::numbers::Numbers;
+use crate::client_numbers::ClientNumbers;
 
 /// How many bytes a head has before its addresses.
 const HEAD_BYTES: usize = 16;
@@ -48,41 +48,41 @@ const SHOWN_NOW: u8 = 7;
 
 /// What bytes that came begin with.
 #[derive(Clone, Copy, Debug, PartialEq, Eq)]
-pub enum Head {
+pub enum ProxyHead {
     /// A part of a head, so far.
     Short,
     /// A head of so many bytes, of a client that is allowed these numbers.
-    Allows(Numbers, usize),
+    Allows(ClientNumbers, usize),
     /// No head of a client with a certificate that was verified and has numbers for a name.
     Refused,
 }
 
 /// What the bytes begin with.
-pub fn read_head(bytes: &[u8]) -> Head
+pub fn read_head(bytes: &[u8]) -> ProxyHead
     ensures { Heads bytes.now result }
 {
     if bytes.len() < HEAD_BYTES {
-        return Head::Short;
+        return ProxyHead::Short;
     }
     if !is_of_client(bytes) {
-        return Head::Refused;
+        return ProxyHead::Refused;
     }
     let Some(addresses) = addresses_of(bytes[13]) else {
-        return Head::Refused;
+        return ProxyHead::Refused;
     };
     let len = head_len(bytes);
     if bytes.len() < len {
-        return Head::Short;
+        return ProxyHead::Short;
     }
     if len < HEAD_BYTES + addresses {
-        return Head::Refused;
+        return ProxyHead::Refused;
     }
     let Some(name) = certificate(&bytes[HEAD_BYTES + addresses..len]) else {
-        return Head::Refused;
+        return ProxyHead::Refused;
     };
     match numbers_of(name) {
-        Some(numbers) => Head::Allows(numbers, len),
-        None => Head::Refused,
+        Some(numbers) => ProxyHead::Allows(numbers, len),
+        None => ProxyHead::Refused,
     }
 }
 
@@ -181,7 +181,7 @@ fn two(high: u8, low: u8) -> usize
 }
 
 // The numbers that a name says.
-fn numbers_of(name: &[u8]) -> Option<Numbers>
+fn numbers_of(name: &[u8]) -> Option<ClientNumbers>
     ensures { IfSome result (λ numbers. Names name.now numbers) }
 {
     let Ok(name) = str::from_utf8(name) else {
@@ -192,13 +192,13 @@ fn numbers_of(name: &[u8]) -> Option<Numbers>
             let low = number(first)?;
             let high = number(last)?;
             if low <= high {
-                return Some(Numbers { low, high });
+                return Some(ClientNumbers { low, high });
             }
             None
         }
         None => {
             let client = number(name)?;
-            Some(Numbers {
+            Some(ClientNumbers {
                 low: client,
                 high: client,
             })

@@ -7,8 +7,8 @@ ghost use Rattle.linda_gate_pass.specs.Passing.{AreOfOne, BeginsWith, ReadsAll, 
 ghost use Rattle.linda_gate_pass.specs.Passing.{begun, came, may_pass};
 ghost use Rattle.linda_gate_pass.specs.declared.fault.PassFault.TheVariants as faults;
 
+use crate::client_numbers::{ClientNumbers, is_hello};
 use crate::fault::PassFault;
-use crate::numbers::{Numbers, is_hello};
 use crate::passed::Passed;
 use linda_wire::{Feed, FrameFault, Message, encode_message};
 use std::alloc::Global;
@@ -18,7 +18,7 @@ use std::marker::Model;
 #[derive(Drop)]
 pub struct Pass {
     alloc: Global,
-    numbers: Numbers,
+    numbers: ClientNumbers,
     feed: Feed,
     passed: Passed,
     // Why nothing more passes.
@@ -42,7 +42,7 @@ impl Model for Pass {
 
 impl Pass {
     /// Nothing came yet of a client whose certificate allows these numbers.
-    pub fn new(alloc: Global, numbers: Numbers) -> Pass
+    pub fn new(alloc: Global, numbers: ClientNumbers) -> Pass
         ensures { result ≡ begun numbers }
     {
         Pass {
@@ -102,7 +102,7 @@ impl Pass {
 // Reads these bytes after those that are not read yet.
 fn read_all(
     alloc: Global,
-    numbers: Numbers,
+    numbers: ClientNumbers,
     feed: &mut Feed,
     passed: &mut Passed,
     bytes: &[u8],
@@ -122,7 +122,7 @@ fn read_all(
 // Reads the frames that are whole.
 fn read_whole(
     alloc: Global,
-    numbers: Numbers,
+    numbers: ClientNumbers,
     feed: &mut Feed,
     passed: &mut Passed,
     out: &mut Vec<u8>,
@@ -144,7 +144,7 @@ fn read_whole(
 
 // Passes a message on, if it may pass.
 fn let_through(
-    numbers: Numbers,
+    numbers: ClientNumbers,
     message: &Message,
     passed: &mut Passed,
     out: &mut Vec<u8>,

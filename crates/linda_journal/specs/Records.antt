@@ -34,9 +34,13 @@ pub record IsPayloadOf (form : Form) (bytes : List ℕ) (count : ℕ) : Type 0 w
 abbrev pub IsNoPayload : Form → List ℕ → Type 0
 IsNoPayload form bytes = (ds : List Deed) → IsRecord form ds → bytes ≡ payload form ds → ⊥
 
+-- The bytes after their number.
+abbrev pub measured : List ℕ → List ℕ
+measured bytes = short_number.spell (length bytes) ++ bytes
+
 -- What stands after a record's gate: the length of the payload, and the payload.
 abbrev pub record_body : Form → List Deed → List ℕ
-record_body form ds = short_number.spell (length (payload form ds)) ++ payload form ds
+record_body form ds = measured (payload form ds)
 
 -- A record: an open gate, and what stands after it.
 abbrev pub spell_record : Form → List Deed → List ℕ

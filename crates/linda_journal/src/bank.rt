@@ -21,7 +21,6 @@ use crate::gate::{open_gate, put};
 use crate::limits::MIN_BYTES;
 use crate::making::{inscribe, spell_front};
 use crate::opening::load;
-use crate::payload::deeds_fit;
 use crate::record::{Record, behind_gate, spell_all};
 use crate::size::{records_for, records_len};
 use crate::whole::Whole;
@@ -240,8 +239,10 @@ impl<D: Disk> Bank<D> {
         if self.is_spent {
             return Err(BankFault::Spent);
         }
-        let len = records_len(self.form, deeds);
-        if !deeds_fit(self.form, deeds) || !has_room(self.limit, self.end, len) {
+        let Some(len) = records_len(self.form, deeds) else {
+            return Err(BankFault::Full);
+        };
+        if !has_room(self.limit, self.end, len) {
             return Err(BankFault::Full);
         }
         let bytes = spell_all(alloc, self.form, deeds, len)?;

@@ -13,7 +13,6 @@ use crate::fault::BankFault;
 use crate::gate::{lay_gate, put};
 use crate::kinds::CLOSED;
 use crate::limits::MIN_BYTES;
-use crate::record::as_length;
 use linda_disk::Disk;
 use linda_store_state::BANK_FORM;
 use linda_tuple::Form;
@@ -92,4 +91,12 @@ pub(crate) fn inscribe<D: Disk>(disk: &mut D, bytes: &[u8]) -> Result<(), BankFa
     lay_gate(disk)?;
     put(disk, 0, bytes)?;
     Ok(())
+}
+
+// The length as a number of four bytes.
+fn as_length(len: usize) -> u32
+    requires { len < 2 ^ 32 }
+    ensures { result ≡ len }
+{
+    len as u32
 }

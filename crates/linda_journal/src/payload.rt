@@ -1,9 +1,10 @@
 //! The payload of a record: its deeds, one after the other, in a form.
 
-ghost use Rattle.std.specs.Prelude.{◌≡◌, ◌≤◌, ◌↔◌, ℕ, List, All, length, IfOk, IfSome, IfNone};
-ghost use Rattle.std.specs.Prelude.{OnErr, IsTrue};
+ghost use Rattle.std.specs.Prelude.{◌≡◌, ◌≤◌, ◌*◌, ℕ, List, All, length, IfOk, IfSome, IfNone};
+ghost use Rattle.std.specs.Prelude.{OnErr};
 ghost use Rattle.linda_store_state.specs.declared.deed.Deed as deed;
-ghost use Rattle.linda_journal.specs.declared.limits.TheConstants.{MAX_DEEDS};
+ghost use Rattle.linda_store_state.specs.declared.limits.TheConstants.{MAX_DEED_BYTES};
+ghost use Rattle.linda_journal.specs.declared.limits.TheConstants.{MAX_DEEDS, MAX_RECORDS};
 ghost use Rattle.linda_journal.specs.Records as format;
 ghost use Rattle.linda_journal.specs.Records.{IsRecord, IsPayloadOf, IsNoPayload};
 
@@ -72,10 +73,21 @@ fn read_deeds(
     }
 }
 
-/// Whether each deed has a spelling in the form, as `Deed::fits` says.
-pub(crate) fn deeds_fit(form: Form, deeds: &[Deed]) -> bool
-    ensures exact { IsTrue result ↔ All (format.SuitsForm form) deeds.now }
-    ensures spelled { IsTrue result → All (format.FitsDeed form) deeds.now }
+/// How many bytes the deeds spell in the form; None if one of them has no spelling there.
+pub(crate) fn payload_len(form: Form, deeds: &[Deed]) -> Option<usize>
+    requires { length deeds.now ≤ MAX_DEEDS * MAX_RECORDS }
+    ensures exact { IfSome result (λ len. len ≡ length (format.payload form deeds.now)) }
+    ensures short { IfSome result (λ len. len ≤ MAX_DEED_BYTES * length deeds.now) }
+    ensures suit { IfSome result (λ _. All (format.SuitsForm form) deeds.now) }
+    ensures spelled { IfSome result (λ _. All (format.FitsDeed form) deeds.now) }
+    ensures none { IfNone result (All (format.SuitsForm form) deeds.now → ⊥) }
 {
-    deeds.iter().all(|deed| deed.fits(form))
+    let mut len = 0;
+    for deed in deeds {
+        if !deed.fits(form) {
+            return None;
+        }
+        len += deed.len(form);
+    }
+    Some(len)
 }

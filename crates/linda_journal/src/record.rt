@@ -1,18 +1,19 @@
 //! A record: one deed or more that were done together, after one gate, in a form.
 
-ghost use Rattle.std.specs.Prelude.{◌≡◌, ◌++◌, ◌<◌, ◌≤◌, ◌*◌, ◌^◌, ℕ, List, All, length, drop, IfOk};
-ghost use Rattle.std.specs.Prelude.{IfSome, IfNone, OnOk};
+ghost use Rattle.std.specs.Prelude.{◌≡◌, ◌++◌, ◌+◌, ◌<◌, ◌≤◌, ◌*◌, ◌^◌, ℕ, List, All, length, take};
+ghost use Rattle.std.specs.Prelude.{drop, IfOk, IfSome, IfNone, OnOk};
+ghost use Rattle.linda_codec.specs.declared.limits.TheConstants.{SHORT_NUMBER_BYTES};
 ghost use Rattle.linda_store_state.specs.declared.deed.Deed as deed;
 ghost use Rattle.linda_journal.specs.declared.limits.TheConstants.{MAX_DEEDS, MAX_RECORDS};
 ghost use Rattle.linda_journal.specs.Records.{FitsDeed, IsRecord, record_body, spell_record};
-ghost use Rattle.linda_journal.specs.Records.{payload, AreRecords, AreSpelled, IsUnspelled};
+ghost use Rattle.linda_journal.specs.Records.{measured, AreRecords, AreSpelled, IsUnspelled};
 ghost use Rattle.linda_journal.specs.Journal.{IsNoRecord};
 
 use crate::kinds::{CLOSED, OPEN};
 use crate::limits::MAX_DEEDS;
-use crate::payload::{deeds_fit, read_payload};
+use crate::payload::read_payload;
 use crate::size::records_len;
-use linda_codec::{list_len, push_list, read_u32};
+use linda_codec::{SHORT_NUMBER_BYTES, push_list, read_u32};
 use linda_store_state::Deed;
 use linda_tuple::Form;
 use std::alloc::{AllocError, Global};
@@ -83,11 +84,10 @@ pub fn spell_deeds(alloc: Global, form: Form, deeds: &[Deed]) -> Result<Option<V
     ensures records { IfOk result (λ o. IfSome o (λ v. AreRecords form deeds.now v.items)) }
     ensures none { IfOk result (λ o. IfNone o (IsUnspelled form deeds.now)) }
 {
-    if !deeds_fit(form, deeds) {
-        return Ok(None);
+    match records_len(form, deeds) {
+        None => Ok(None),
+        Some(len) => Ok(Some(spell_each(alloc, form, deeds, len)?)),
     }
-    let len = records_len(form, deeds);
-    Ok(Some(spell_each(alloc, form, deeds, len)?))
 }
 
 // The records of these deeds, and room for so many bytes and one more.
@@ -132,22 +132,20 @@ fn push_record(form: Form, out: &mut Vec<u8>, deeds: &[Deed]) -> Result<(), Allo
     ensures { OnOk result (out.new.items ≡ out.old.items ++ spell_record form deeds.now) }
 {
     out.push(OPEN)?;
-    out.extend_from_slice(&payload_len(form, deeds).to_be_bytes())?;
+    let start = out.len();
+    out.extend_from_slice(&[0; SHORT_NUMBER_BYTES])?;
     push_list(form, out, deeds)?;
+    set_length(out.as_mut_slice(), start);
     Ok(())
 }
 
-// How many bytes the payload of a record has.
-fn payload_len(form: Form, deeds: &[Deed]) -> u32
-    requires { IsRecord form deeds.now }
-    ensures { result ≡ length (payload form deeds.now) }
+// Writes the length of the payload that ends the bytes over the bytes before it, at `start`.
+fn set_length(bytes: &mut [u8], start: usize)
+    requires room { start + SHORT_NUMBER_BYTES ≤ length bytes.old }
+    requires short { length bytes.old < start + SHORT_NUMBER_BYTES + 2 ^ 32 }
+    ensures { bytes.new
+        ≡ take start bytes.old ++ measured (drop (start + SHORT_NUMBER_BYTES) bytes.old) }
 {
-    as_length(list_len(form, deeds))
-}
-
-pub(crate) fn as_length(len: usize) -> u32
-    requires { len < 2 ^ 32 }
-    ensures { result ≡ len }
-{
-    len as u32
+    let len = (bytes.len() - (start + SHORT_NUMBER_BYTES)) as u32;
+    bytes[start..start + SHORT_NUMBER_BYTES].copy_from_slice(&len.to_be_bytes());
 }

@@ -3,20 +3,20 @@
 //! - `serve_loop` serves all connections from a few loops (linda_net_loops); `linda serve` uses it.
 //! - `serve` gives each connection of a listener its threads (linda_net_threads); `serve_watched`
 //!   also reports to a `Watcher` what happens, and answers what is asked over HTTP by the pages of
-//!   a `Teller` (linda_net_watch).
+//!   a `StatusPages` (linda_net_watch).
 //! - The reading loop of linda_net_pump, and a client's connections of linda_net_proxy, are named
 //!   here too.
 #![tactic(auto)]
 
 mod serving;
 
-pub use linda_net_marks::{Notice, Refused, Tally, Why};
+pub use linda_net_marks::{CounterValues, Notice, RefusalReason, RefusalValues};
 pub use linda_net_proxy::{
-    Arrival, FIRST_TRIES, Inbox, Link, MAX_TRIES, Proxy, ProxyFault, end, send,
+    EventInbox, FIRST_TRIES, MAX_TRIES, Proxy, ProxyFault, ServerEvent, ServerLink, end, send,
 };
 pub use linda_net_pump::{Intake, pump};
 pub use linda_net_relays::{Limits, Listeners};
-pub use linda_net_watch::{Asked, Listener, Status, Teller, Told, Watcher};
+pub use linda_net_watch::{Listener, PageQuery, PageResult, Status, StatusPages, Watcher};
 pub use linda_shared::{
     ClientPage, Gauge, KindPage, ListedClient, ListedKind, ListedReply, ListedTuple, Longest,
     MOST_KINDS, Shared, SharedFault, TakenCount, TuplePage, TupleQuery,

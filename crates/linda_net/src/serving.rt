@@ -5,11 +5,12 @@ ghost use Rattle.std.specs.Prelude.{IsOk, IsErrOf};
 
 use linda_disk::Disk;
 use linda_net_loops::Loops;
-use linda_net_marks::{Marks, Notice, Tally};
-use linda_net_relays::{Limits, Listeners, Relays};
+use linda_net_marks::{CounterValues, Counters, Notice};
+use linda_net_relays::{Limits, Listeners, LoopDirectory};
 use linda_net_threads::accept_all;
 use linda_net_watch::{
-    Seconds, Silent, Station, Status, Teller, Unasked, Watcher, take_snapshots, tell, watch,
+    Seconds, Silent, Status, StatusPages, StatusServer, Unasked, Watcher, take_snapshots, tell,
+    watch,
 };
 use linda_shared::{Shared, SharedFault};
 use std::alloc::Global;
@@ -38,7 +39,7 @@ pub fn serve<D: Disk + Send, L: Ledger + Send + Sync, R: Threads + Wait + Clock 
     shared: &Shared<D, L>,
     sessions: Option<u32>,
 ) -> Result<(), SharedFault> {
-    let station: Option<io::Result<Station<Unasked>>> = None;
+    let station: Option<io::Result<StatusServer<Unasked>>> = None;
     let watcher = Mutex::new(Silent);
     let (ended, _) = serve_beside(rt, alloc, listener, shared, sessions, &watcher, station);
     ended
@@ -53,7 +54,7 @@ pub fn serve_watched<
     L: Ledger + Send + Sync,
     R: Net + Threads + Wait + Clock + Sync,
     T: Watcher + Send,
-    A: Teller + Send + Drop,
+    A: StatusPages + Send + Drop,
 >(
     rt: &R,
     alloc: Global,
@@ -62,7 +63,7 @@ pub fn serve_watched<
     sessions: Option<u32>,
     watcher: &Mutex<T>,
     status: Option<Status<A>>,
-) -> (Result<(), SharedFault>, Tally) {
+) -> (Result<(), SharedFault>, CounterValues) {
     let station = opened(rt, alloc, status);
     serve_beside(rt, alloc, listener, shared, sessions, watcher, station)
 }
@@ -73,7 +74,7 @@ fn serve_beside<
     L: Ledger + Send + Sync,
     R: Threads + Wait + Clock + Sync,
     T: Watcher + Send,
-    A: Teller + Send + Drop,
+    A: StatusPages + Send + Drop,
 >(
     rt: &R,
     alloc: Global,
@@ -81,20 +82,20 @@ fn serve_beside<
     shared: &Shared<D, L>,
     sessions: Option<u32>,
     watcher: &Mutex<T>,
-    station: Option<io::Result<Station<A>>>,
-) -> (Result<(), SharedFault>, Tally) {
+    station: Option<io::Result<StatusServer<A>>>,
+) -> (Result<(), SharedFault>, CounterValues) {
     let is_over = Mutex::new(false);
     let over = &is_over;
-    let counts = Marks::new(alloc);
-    let marks = &counts;
+    let counts = Counters::new(alloc);
+    let counters = &counts;
     let seconds = Seconds::begin(rt, shared, station.is_some());
     thread::scope(thread::scope_env(), rt, |scope| {
-        begin_beside(scope, rt, shared, over, marks, watcher, seconds);
-        begin_station(scope, rt, shared, over, marks, watcher, station);
-        accept_all(rt, alloc, listener, shared, marks, sessions);
+        begin_beside(scope, rt, shared, over, counters, watcher, seconds);
+        begin_station(scope, rt, shared, over, counters, watcher, station);
+        accept_all(rt, alloc, listener, shared, counters, sessions);
         *over.lock(rt) = true;
     });
-    (ended(shared.is_down(rt)), marks.tally())
+    (ended(shared.is_down(rt)), counters.tally())
 }
 
 /// Serves as `serve_watched` does, but not with two threads for each connection: a few loops, each
@@ -113,7 +114,7 @@ pub fn serve_loop<
     L: Ledger + Send + Sync,
     R: Net + Threads + Wait + Clock + Sync,
     T: Watcher + Send,
-    A: Teller + Send + Drop,
+    A: StatusPages + Send + Drop,
 >(
     rt: &R,
     alloc: Global,
@@ -122,8 +123,8 @@ pub fn serve_loop<
     limits: Limits,
     watcher: &Mutex<T>,
     status: Option<Status<A>>,
-) -> (Result<(), SharedFault>, Tally) {
-    let Ok((loops, relays)) = Loops::begin(rt, alloc) else {
+) -> (Result<(), SharedFault>, CounterValues) {
+    let Ok((loops, directory)) = Loops::begin(rt, alloc) else {
         return serve_plainly(rt, alloc, &listeners, shared, limits, watcher, status);
     };
     if listeners.hurry().is_err() {
@@ -131,34 +132,34 @@ pub fn serve_loop<
     }
     let mut loops = loops;
     if loops.open(listeners, limits).is_err() {
-        return (Err(SharedFault::NoThread), Tally::none());
+        return (Err(SharedFault::NoThread), CounterValues::none());
     }
     let station = opened(rt, alloc, status);
     let held = Mutex::new(Some(loops));
     let all = &held;
     let is_over = Mutex::new(false);
     let over = &is_over;
-    let lent = &relays;
+    let lent = &directory;
     let seconds = Seconds::begin(rt, shared, station.is_some());
     thread::scope(thread::scope_env(), rt, |scope| {
-        begin_beside(scope, rt, shared, over, &lent.marks, watcher, seconds);
-        begin_station(scope, rt, shared, over, &lent.marks, watcher, station);
+        begin_beside(scope, rt, shared, over, &lent.counters, watcher, seconds);
+        begin_station(scope, rt, shared, over, &lent.counters, watcher, station);
         run_loops(rt, shared, lent, all);
         *over.lock(rt) = true;
     });
-    (ended(shared.is_down(rt)), relays.marks.tally())
+    (ended(shared.is_down(rt)), directory.counters.tally())
 }
 
 // Runs the loops to their end; once.
 fn run_loops<D: Disk + Send, L: Ledger + Send + Sync, R: Threads + Wait + Clock + Sync>(
     rt: &R,
     shared: &Shared<D, L>,
-    relays: &Relays,
+    directory: &LoopDirectory,
     held: &Mutex<Option<Loops<L>>>,
 ) {
     let taken = held.lock(rt).take();
     if let Some(loops) = taken {
-        loops.run(rt, shared, relays);
+        loops.run(rt, shared, directory);
     }
 }
 
@@ -169,7 +170,7 @@ fn serve_plainly<
     L: Ledger + Send + Sync,
     R: Net + Threads + Wait + Clock + Sync,
     T: Watcher + Send,
-    A: Teller + Send + Drop,
+    A: StatusPages + Send + Drop,
 >(
     rt: &R,
     alloc: Global,
@@ -178,12 +179,12 @@ fn serve_plainly<
     limits: Limits,
     watcher: &Mutex<T>,
     status: Option<Status<A>>,
-) -> (Result<(), SharedFault>, Tally) {
+) -> (Result<(), SharedFault>, CounterValues) {
     if limits.lease.is_some() || listeners.socket.is_some() {
-        return (Err(SharedFault::NoThread), Tally::none());
+        return (Err(SharedFault::NoThread), CounterValues::none());
     }
     let Some(listener) = &listeners.port else {
-        return (Err(SharedFault::NoThread), Tally::none());
+        return (Err(SharedFault::NoThread), CounterValues::none());
     };
     serve_watched(
         rt,
@@ -210,28 +211,28 @@ fn begin_beside<
     rt: &'s R,
     shared: &'s Shared<D, L>,
     over: &'s Mutex<bool>,
-    marks: &'s Marks,
+    counters: &'s Counters,
     watcher: &'s Mutex<T>,
     seconds: Seconds,
 ) {
-    let watches = scope.spawn(move || watch(rt, shared, over, marks, watcher, seconds));
+    let watches = scope.spawn(move || watch(rt, shared, over, counters, watcher, seconds));
     if watches.is_err() {
-        tell(rt, shared, marks, watcher, Notice::Unwatched);
+        tell(rt, shared, counters, watcher, Notice::Unwatched);
     }
-    let renews = scope.spawn(move || take_snapshots(rt, shared, marks, over));
+    let renews = scope.spawn(move || take_snapshots(rt, shared, counters, over));
     if renews.is_err() {
-        tell(rt, shared, marks, watcher, Notice::NoThread);
+        tell(rt, shared, counters, watcher, Notice::NoThread);
     }
 }
 
 // The station of a status, if there is one; or why it cannot be had.
-fn opened<R: Net, A: Teller + Drop>(
+fn opened<R: Net, A: StatusPages + Drop>(
     rt: &R,
     alloc: Global,
     status: Option<Status<A>>,
-) -> Option<io::Result<Station<A>>> {
+) -> Option<io::Result<StatusServer<A>>> {
     let status = status?;
-    Some(Station::open(rt, alloc, status))
+    Some(StatusServer::open(rt, alloc, status))
 }
 
 // Begins the thread that answers what is asked, until it is over, if there is a station.
@@ -242,26 +243,26 @@ fn begin_station<
     L: Ledger + Send + Sync,
     R: Threads + Wait + Clock + Sync,
     T: Watcher,
-    A: Teller + Send + Drop + 's,
+    A: StatusPages + Send + Drop + 's,
 >(
     scope: &'s Scope<'s, E>,
     rt: &'s R,
     shared: &'s Shared<D, L>,
     over: &'s Mutex<bool>,
-    marks: &'s Marks,
+    counters: &'s Counters,
     watcher: &'s Mutex<T>,
-    station: Option<io::Result<Station<A>>>,
+    station: Option<io::Result<StatusServer<A>>>,
 ) {
     let Some(station) = station else {
         return;
     };
     let Ok(station) = station else {
-        tell(rt, shared, marks, watcher, Notice::NoStatus);
+        tell(rt, shared, counters, watcher, Notice::NoStatus);
         return;
     };
-    let begun = scope.spawn(move || station.run(rt, shared, marks, over));
+    let begun = scope.spawn(move || station.run(rt, shared, counters, over));
     if begun.is_err() {
-        tell(rt, shared, marks, watcher, Notice::NoStatus);
+        tell(rt, shared, counters, watcher, Notice::NoStatus);
     }
 }
 

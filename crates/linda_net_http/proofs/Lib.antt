@@ -1,2 +1,2 @@
-mod AnswerLaws
+mod ResponseLaws
 mod HeadLaws

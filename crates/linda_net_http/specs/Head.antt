@@ -3,8 +3,8 @@ use Rattle.std.specs.Prelude.{◌≡◌, ◌≢◌, ℕ, ◌<◌, ◌≤◌, ◌
 use Rattle.std.specs.Prelude.{Option, Some, None, if◌then◌else◌}
 use Rattle.httparse.specs.Grammar.{RequestHead, ReadsRequest, HasNoRequest}
 use Rattle.httparse.specs.Spans.{name_and_value, RequestOverflows}
-use Rattle.linda_net_http.specs.declared.head.Head.{Head}
-use Rattle.linda_net_http.specs.declared.head.Head.TheVariants as heads
+use Rattle.linda_net_http.specs.declared.head.HeadResult.{HeadResult}
+use Rattle.linda_net_http.specs.declared.head.HeadResult.TheVariants as heads
 use Rattle.linda_net_http.specs.declared.head.TheConstants.{MOST_HEAD, MOST_FIELDS}
 use Rattle.linda_net_http.specs.Host.{IsSame, IsOwn}
 use Rattle.linda_net_http.specs.Target.{host_of, path_of, query_of}
@@ -24,7 +24,7 @@ abbrev pub IsAskedBy : Bool → List ℕ → Type 0
 IsAskedBy is_whole method = method ≡ (if is_whole then codes "GET" else codes "HEAD")
 
 -- What a method asks for at a target.
-abbrev pub IsReadAs : List ℕ → List ℕ → Head → Type 0
+abbrev pub IsReadAs : List ℕ → List ℕ → HeadResult → Type 0
 IsReadAs method target heads.Partly = ⊥
 IsReadAs method target heads.Nothing = ⊥
 IsReadAs method target heads.Foreign = ⊥
@@ -34,7 +34,7 @@ IsReadAs method target (heads.Page asked is_whole) =
     × (asked.path.now ≡ path_of target) × (asked.query.now ≡ query_of target)
 
 -- What a method, a target and fields ask for.
-abbrev pub Asks : List ℕ → List ℕ → List (List ℕ × List ℕ) → Head → Type 0
+abbrev pub Asks : List ℕ → List ℕ → List (List ℕ × List ℕ) → HeadResult → Type 0
 Asks method target fields heads.Partly = ⊥
 Asks method target fields heads.Nothing = ⊥
 Asks method target fields heads.Foreign = ¬ (IsForUs (host_of target) fields)
@@ -48,14 +48,14 @@ abbrev pub front : List ℕ → List ℕ
 front sent = take MOST_HEAD sent
 
 -- What was sent begins with a head that asks for this.
-abbrev pub Begins : List ℕ → Head → Type 0
+abbrev pub Begins : List ℕ → HeadResult → Type 0
 Begins sent head =
     (h : RequestHead) × (rest : List ℕ) × ReadsRequest (front sent) h rest
     × Asks h.method h.target (map name_and_value h.fields) head
 
 -- What was sent so far comes to this: it has no whole head yet; or nothing can follow by which it
 -- begins with one that is short enough; or it begins with one.
-abbrev pub IsHeadOf : List ℕ → Head → Type 0
+abbrev pub IsHeadOf : List ℕ → HeadResult → Type 0
 IsHeadOf sent heads.Partly = (length sent < MOST_HEAD) × HasNoRequest sent
 IsHeadOf sent heads.Nothing =
     RequestOverflows MOST_FIELDS (front sent)

@@ -1,5 +1,5 @@
-pub mod Answer
-pub mod Exchange
+pub mod Response
+pub mod HttpExchange
 pub mod Head
 pub mod Host
 pub mod Target

@@ -6,7 +6,7 @@ ghost use Rattle.linda_net_http.specs.Head.{front, Asks, IsForUs, IsHeadOf, IsRe
 ghost use Rattle.linda_net_http.specs.Target.{host_of};
 
 use crate::host::{is_own, name_us};
-use crate::pages::Asked;
+use crate::pages::PageQuery;
 use crate::target::{asked_by, host_of};
 use httparse::Status;
 use httparse::spans::{EMPTY_HEADER_SPAN, HeaderSpan, RequestSpans, parse_request};
@@ -19,11 +19,14 @@ const MOST_FIELDS: usize = 64;
 
 /// What a head comes to.
 #[derive(Clone, Copy)]
-pub(crate) enum Head<'a> {
+pub(crate) enum HeadResult<'a> {
     /// Its end is still to come.
     Partly,
     /// It asks for a page, or only for what goes before it.
-    Page { asked: Asked<'a>, is_whole: bool },
+    Page {
+        asked: PageQuery<'a>,
+        is_whole: bool,
+    },
     /// It asks for something else than a page.
     Other,
     /// It asks under the name of another machine.
@@ -33,7 +36,7 @@ pub(crate) enum Head<'a> {
 }
 
 /// What these bytes come to, which a connection sent so far.
-pub(crate) fn read_head(sent: &[u8]) -> Head<'_>
+pub(crate) fn read_head(sent: &[u8]) -> HeadResult<'_>
     ensures { IsHeadOf sent.now result }
 {
     let front = front(sent);
@@ -42,12 +45,12 @@ pub(crate) fn read_head(sent: &[u8]) -> Head<'_>
         Ok(Status::Complete(head)) => head_at(front, &fields, head),
         Ok(Status::Partial) => {
             if sent.len() < MOST_HEAD {
-                Head::Partly
+                HeadResult::Partly
             } else {
-                Head::Nothing
+                HeadResult::Nothing
             }
         }
-        Err(_) => Head::Nothing,
+        Err(_) => HeadResult::Nothing,
     }
 }
 
@@ -62,7 +65,7 @@ fn front(sent: &[u8]) -> &[u8]
 }
 
 // What the head with these parts asks for.
-fn head_at<'a>(front: &'a [u8], fields: &[HeaderSpan], head: RequestSpans) -> Head<'a>
+fn head_at<'a>(front: &'a [u8], fields: &[HeaderSpan], head: RequestSpans) -> HeadResult<'a>
     requires { IsRequestWithin front.now fields.now head }
     ensures { Asks (span_bytes front.now head.method) (span_bytes front.now head.path)
         (map (header_bytes front.now) (take head.headers fields.now)) result }
@@ -71,7 +74,7 @@ fn head_at<'a>(front: &'a [u8], fields: &[HeaderSpan], head: RequestSpans) -> He
     if is_for_us(front, &fields[..head.headers], target) {
         read_by(head.method.of(front), target)
     } else {
-        Head::Foreign
+        HeadResult::Foreign
     }
 }
 
@@ -87,20 +90,20 @@ fn is_for_us(front: &[u8], fields: &[HeaderSpan], target: &[u8]) -> bool
 }
 
 // What a method asks for at a target that is asked for under no other name.
-fn read_by<'a>(method: &[u8], target: &'a [u8]) -> Head<'a>
+fn read_by<'a>(method: &[u8], target: &'a [u8]) -> HeadResult<'a>
     ensures { IsReadAs method.now target.now result }
 {
     if method == b"GET".as_slice() {
-        return Head::Page {
+        return HeadResult::Page {
             asked: asked_by(target),
             is_whole: true,
         };
     }
     if method == b"HEAD".as_slice() {
-        return Head::Page {
+        return HeadResult::Page {
             asked: asked_by(target),
             is_whole: false,
         };
     }
-    Head::Other
+    HeadResult::Other
 }

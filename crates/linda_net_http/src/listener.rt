@@ -18,26 +18,26 @@ pub enum Listener {
 
 /// A listener that does not wait.
 #[derive(Drop)]
-pub(crate) enum Door {
+pub(crate) enum PollListener {
     Port(net::TcpListener),
     Socket(net::UnixListener),
 }
 
-impl Door {
+impl PollListener {
     /// The listener waits no more.
     ///
     /// # Errors
     ///
     /// The system refuses that.
-    pub(crate) fn of(listener: Listener) -> io::Result<Door> {
+    pub(crate) fn of(listener: Listener) -> io::Result<PollListener> {
         match listener {
             Listener::Port(port) => {
                 port.set_nonblocking(true)?;
-                Ok(Door::Port(net::TcpListener::from_std(port)))
+                Ok(PollListener::Port(net::TcpListener::from_std(port)))
             }
             Listener::Socket(socket) => {
                 socket.set_nonblocking(true)?;
-                Ok(Door::Socket(net::UnixListener::from_std(socket)))
+                Ok(PollListener::Socket(net::UnixListener::from_std(socket)))
             }
         }
     }
@@ -49,8 +49,8 @@ impl Door {
     /// The system does not look at it.
     pub(crate) fn register(&mut self, registry: &Registry, token: Token) -> io::Result<()> {
         match self {
-            Door::Port(port) => registry.register(port, token, Interest::READABLE),
-            Door::Socket(socket) => registry.register(socket, token, Interest::READABLE),
+            PollListener::Port(port) => registry.register(port, token, Interest::READABLE),
+            PollListener::Socket(socket) => registry.register(socket, token, Interest::READABLE),
         }
     }
 
@@ -58,8 +58,8 @@ impl Door {
     /// more.
     pub(crate) fn spare(&self) -> Option<OwnedFd> {
         match self {
-            Door::Port(port) => port.as_fd().try_clone_to_owned().ok(),
-            Door::Socket(socket) => socket.as_fd().try_clone_to_owned().ok(),
+            PollListener::Port(port) => port.as_fd().try_clone_to_owned().ok(),
+            PollListener::Socket(socket) => socket.as_fd().try_clone_to_owned().ok(),
         }
     }
 
@@ -70,11 +70,11 @@ impl Door {
     /// `WouldBlock` if none waits; what the system returns.
     pub(crate) fn accept(&self) -> io::Result<Stream> {
         match self {
-            Door::Port(port) => {
+            PollListener::Port(port) => {
                 let (stream, _) = port.accept()?;
                 Ok(Stream::Tcp(stream))
             }
-            Door::Socket(socket) => {
+            PollListener::Socket(socket) => {
                 let (stream, _) = socket.accept()?;
                 Ok(Stream::Unix(stream))
             }

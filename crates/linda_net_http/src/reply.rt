@@ -2,11 +2,11 @@
 
 ghost use Rattle.std.specs.Prelude.{◌≡◌, IfOk};
 ghost use Rattle.std.specs.String.{string_bytes};
-ghost use Rattle.linda_net_http.specs.Answer.{IsPage, IsReply, answer_text, refusal_text};
+ghost use Rattle.linda_net_http.specs.Response.{IsPage, IsReply, answer_text, refusal_text};
 
-use crate::answer::{Answer, Code};
-use crate::head::{Head, read_head};
-use crate::pages::{Asked, Pages};
+use crate::head::{HeadResult, read_head};
+use crate::pages::{PageQuery, PageSource};
+use crate::response::{Code, Response};
 use std::alloc::AllocError;
 use std::sync::Wait;
 use std::time::Clock;
@@ -17,7 +17,7 @@ use std::time::Clock;
 /// # Errors
 ///
 /// Memory ran out: some of the answer may be there.
-pub(crate) fn reply<R: Wait + Clock, P: Pages>(
+pub(crate) fn reply<R: Wait + Clock, P: PageSource>(
     rt: &R,
     pages: &P,
     sent: &[u8],
@@ -28,20 +28,20 @@ pub(crate) fn reply<R: Wait + Clock, P: Pages>(
         IsReply (P.tells pages.now) sent.now is_answered (string_bytes text.new)) }
 {
     match read_head(sent) {
-        Head::Partly => return Ok(false),
-        Head::Page { asked, is_whole } => spell_page(rt, pages, asked, is_whole, page, text)?,
-        Head::Other => spell_refusal(Code::OnlyRead, text)?,
-        Head::Foreign => spell_refusal(Code::Foreign, text)?,
-        Head::Nothing => spell_refusal(Code::Malformed, text)?,
+        HeadResult::Partly => return Ok(false),
+        HeadResult::Page { asked, is_whole } => spell_page(rt, pages, asked, is_whole, page, text)?,
+        HeadResult::Other => spell_refusal(Code::OnlyRead, text)?,
+        HeadResult::Foreign => spell_refusal(Code::Foreign, text)?,
+        HeadResult::Nothing => spell_refusal(Code::Malformed, text)?,
     }
     Ok(true)
 }
 
 // Writes the page that is asked for, after what goes before it.
-fn spell_page<R: Wait + Clock, P: Pages>(
+fn spell_page<R: Wait + Clock, P: PageSource>(
     rt: &R,
     pages: &P,
-    asked: Asked<'_>,
+    asked: PageQuery<'_>,
     is_whole: bool,
     page: &mut String,
     text: &mut String,
@@ -51,7 +51,7 @@ fn spell_page<R: Wait + Clock, P: Pages>(
 {
     page.clear();
     let told = pages.spell(rt, asked, page)?;
-    let answer = Answer::said(told, is_whole);
+    let answer = Response::said(told, is_whole);
     let more = answer.text();
     write!(page, "{more}")?;
     spell(&answer, page, text)
@@ -61,12 +61,12 @@ fn spell_page<R: Wait + Clock, P: Pages>(
 fn spell_refusal(code: Code, text: &mut String) -> Result<(), AllocError>
     ensures { IfOk result (λ _. string_bytes text.new ≡ refusal_text code) }
 {
-    let answer = Answer::refusal(code);
+    let answer = Response::refusal(code);
     spell(&answer, answer.text(), text)
 }
 
 // Writes an answer and its page.
-fn spell(answer: &Answer, page: &str, text: &mut String) -> Result<(), AllocError>
+fn spell(answer: &Response, page: &str, text: &mut String) -> Result<(), AllocError>
     ensures { IfOk result (λ _. string_bytes text.new
         ≡ answer_text answer.now.code answer.now.kind.now page.now answer.now.is_whole) }
 {

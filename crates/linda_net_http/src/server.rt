@@ -1,8 +1,8 @@
 //! A listener where pages are asked for, and the connections that ask.
 
-use crate::caller::Caller;
-use crate::listener::{Door, Listener};
-use crate::pages::Pages;
+use crate::connection::HttpConnection;
+use crate::listener::{Listener, PollListener};
+use crate::pages::PageSource;
 use crate::stream::Stream;
 use mio::{Events, Poll, Registry, Token};
 use std::alloc::Global;
@@ -45,19 +45,19 @@ pub struct HttpServer {
     alloc: Global,
     poll: Poll,
     events: Events,
-    door: Door,
+    door: PollListener,
     // More may wait at the listener.
     may_accept: bool,
     // The last one could not be had.
     has_missed: bool,
     spare: Option<OwnedFd>,
-    places: Vec<Option<Caller>>,
-    room: Room,
+    places: Vec<Option<HttpConnection>>,
+    room: PageBuffer,
 }
 
 /// Where a page is spelled, and then the whole answer.
 #[derive(Drop)]
-struct Room {
+struct PageBuffer {
     page: String,
     text: String,
     buffer: Vec<u8>,
@@ -70,7 +70,7 @@ impl HttpServer {
     ///
     /// The system has no room for it, or there is no memory.
     pub fn open<R: Net>(rt: &R, alloc: Global, listener: Listener) -> io::Result<HttpServer> {
-        let mut door = Door::of(listener)?;
+        let mut door = PollListener::of(listener)?;
         let poll = Poll::new(rt)?;
         door.register(poll.registry(), Token(DOOR))?;
         let spare = door.spare();
@@ -87,7 +87,7 @@ impl HttpServer {
             has_missed: false,
             spare,
             places,
-            room: Room {
+            room: PageBuffer {
                 page: String::with_capacity(alloc, PAGE)?,
                 text: String::new(alloc),
                 buffer: Vec::from_elem(alloc, 0u8, PIECE)?,
@@ -96,7 +96,7 @@ impl HttpServer {
     }
 
     /// Answers by these pages until it is over.
-    pub fn run<R: Wait + Clock, P: Pages>(self, rt: &R, pages: &P, is_over: &Mutex<bool>) {
+    pub fn run<R: Wait + Clock, P: PageSource>(self, rt: &R, pages: &P, is_over: &Mutex<bool>) {
         let mut server = self;
         for _ in rt.forever() {
             if *is_over.lock(rt) {
@@ -172,13 +172,13 @@ impl HttpServer {
 fn let_in(
     alloc: Global,
     registry: &Registry,
-    places: &mut [Option<Caller>],
+    places: &mut [Option<HttpConnection>],
     stream: Stream,
     now: Option<Instant>,
 ) {
     for (index, place) in places.iter_mut().enumerate() {
         if place.is_none() {
-            let mut caller = Caller::new(alloc, stream, now);
+            let mut caller = HttpConnection::new(alloc, stream, now);
             let token = Token(index.saturating_add(1));
             if caller.stream().register(registry, token).is_ok() {
                 *place = Some(caller);
@@ -189,7 +189,7 @@ fn let_in(
 }
 
 // A connection that is there for too long ends.
-fn end_if_late(place: &mut Option<Caller>, now: Option<Instant>) {
+fn end_if_late(place: &mut Option<HttpConnection>, now: Option<Instant>) {
     let Some(caller) = place else {
         return;
     };
@@ -202,11 +202,11 @@ fn end_if_late(place: &mut Option<Caller>, now: Option<Instant>) {
 }
 
 // Serves the connection in this place, if something happened at it.
-fn serve_place<R: Wait + Clock, P: Pages>(
+fn serve_place<R: Wait + Clock, P: PageSource>(
     rt: &R,
     pages: &P,
-    room: &mut Room,
-    place: &mut Option<Caller>,
+    room: &mut PageBuffer,
+    place: &mut Option<HttpConnection>,
 ) {
     let Some(caller) = place else {
         return;
@@ -222,7 +222,12 @@ fn serve_place<R: Wait + Clock, P: Pages>(
 }
 
 // Reads what the connection sent, answers it, and writes what it can take.
-fn serve<R: Wait + Clock, P: Pages>(rt: &R, pages: &P, room: &mut Room, caller: &mut Caller) {
+fn serve<R: Wait + Clock, P: PageSource>(
+    rt: &R,
+    pages: &P,
+    room: &mut PageBuffer,
+    caller: &mut HttpConnection,
+) {
     caller.is_awake = true;
     for _ in 0..MOST_READS {
         if !caller.read(&mut room.buffer) {

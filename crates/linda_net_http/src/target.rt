@@ -4,13 +4,13 @@ ghost use Rattle.std.specs.Prelude.{◌≡◌, ◌+◌, ◌≤◌, drop, length}
 ghost use Rattle.std.specs.Option.{option_copied};
 ghost use Rattle.linda_net_http.specs.Target as spec;
 
-use crate::pages::Asked;
+use crate::pages::PageQuery;
 
 /// What a target in absolute form begins with.
 const SCHEME: &[u8] = b"http://";
 
 /// The path and the query that a target asks for.
-pub(crate) fn asked_by(target: &[u8]) -> Asked<'_>
+pub(crate) fn asked_by(target: &[u8]) -> PageQuery<'_>
     ensures path { result.path.now ≡ spec.path_of target.now }
     ensures query { result.query.now ≡ spec.query_of target.now }
 {
@@ -21,7 +21,7 @@ pub(crate) fn asked_by(target: &[u8]) -> Asked<'_>
     } else {
         &local[..len]
     };
-    Asked {
+    PageQuery {
         path,
         query: behind(local, len),
     }

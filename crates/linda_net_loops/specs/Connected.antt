@@ -4,11 +4,11 @@ use Rattle.linda_net_session.specs.declared.phase.Phase.{Phase}
 use Rattle.linda_net_session.specs.declared.phase.Phase.TheVariants as phases
 use Rattle.linda_net_session.specs.Session.{Session}
 use Rattle.linda_net_session.specs.Between.{TakesNothing, TakesOne}
-use Rattle.linda_net_loops.specs.declared.connection.Next.{Next}
-use Rattle.linda_net_loops.specs.declared.connection.Next.TheVariants as nexts
+use Rattle.linda_net_loops.specs.declared.connection.ConnectionEvent.{ConnectionEvent}
+use Rattle.linda_net_loops.specs.declared.connection.ConnectionEvent.TheVariants as nexts
 
 -- A message that is given was taken, and goes where its session says; else nothing was taken.
-abbrev pub Gives : Session → Next → Session → Type 0
+abbrev pub Gives : Session → ConnectionEvent → Session → Type 0
 Gives old (nexts.Message m route) new = TakesOne old m route new
 Gives old nexts.Kept new = TakesNothing old new
 Gives old nexts.None new = TakesNothing old new

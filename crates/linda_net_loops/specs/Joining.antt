@@ -9,16 +9,16 @@ use Rattle.linda_net_session.specs.Session.{Session}
 use Rattle.linda_net_session.specs.Between.{TakesOne}
 use Rattle.linda_shared_accounts.specs.Account.{Account}
 use Rattle.linda_shared_accounts.specs.declared.limits.TheConstants.{MOST_ASKED}
-use Rattle.linda_shared.specs.Group.{Group, group_of}
+use Rattle.linda_shared.specs.Group.{MessageGroup, group_of}
 
 -- Whether a message of the account may join: fewer of it are on their way than may be, and the
 -- group has room.
-abbrev pub may_join : Account → Group ℕ → Bool
+abbrev pub may_join : Account → MessageGroup ℕ → Bool
 may_join a group = nat_lt a.asked MOST_ASKED && nat_lt (length group.messages) group.room
 
 -- The group once a message was given to it: if it may join it is after the others, as one of the
 -- account's client, and its answer comes back with the key. Without an account nothing joins.
-abbrev pub joined : Option Account → ℕ → Message → Group ℕ → Group ℕ
+abbrev pub joined : Option Account → ℕ → Message → MessageGroup ℕ → MessageGroup ℕ
 joined (Some a) key m group =
     if may_join a group
     then group_of group.room (group.messages ++ (a.client, m) ∷ []) (group.addresses ++ key ∷ [])
@@ -27,10 +27,10 @@ joined None key m group = group
 
 -- The groups of a loop: messages of which no deed comes, and all others.
 pub record Groups : Type 0 where
-  pub asking : Group ℕ
-  pub doing : Group ℕ
+  pub asking : MessageGroup ℕ
+  pub doing : MessageGroup ℕ
 
-abbrev pub groups_of : Group ℕ → Group ℕ → Groups
+abbrev pub groups_of : MessageGroup ℕ → MessageGroup ℕ → Groups
 groups_of asking doing = record { asking = asking; doing = doing }
 
 -- The groups once a message was given to them: it joins that of its way, and no other.

@@ -8,9 +8,9 @@ ghost use Rattle.linda_net_loops.specs.Connected.{Gives, IfGreeting};
 
 use crate::socket::{Note, Socket};
 use linda_disk::Disk;
-use linda_net_marks::Marks;
+use linda_net_marks::Counters;
 use linda_net_relays::{Look, Span, weight_after};
-use linda_net_session::{End, Phase, Room, Route, Session, Way};
+use linda_net_session::{OpenWays, Phase, Route, Session, SessionEnd, Way};
 use linda_shared::{Account, Shared};
 use linda_wire::{Message, Refusal, Reply};
 use std::alloc::Global;
@@ -25,7 +25,7 @@ const MOST_REFUSAL: u32 = 5;
 const MOST_READS: u32 = 16;
 
 /// What a connection has next.
-pub(crate) enum Next {
+pub(crate) enum ConnectionEvent {
     /// A message, and where it goes.
     Message(Message, Route),
     /// A message that cannot go yet: it is given again.
@@ -132,7 +132,7 @@ impl<S: Socket, L: Ledger> Connection<S, L> {
 
     // Whether nothing more is read from it.
     fn is_ending(&self) -> bool {
-        !matches!(self.session.end_of(), End::Never)
+        !matches!(self.session.end_of(), SessionEnd::Never)
     }
 
     /// Its client is seen to hold a tuple, or none. Returns whether it is late: it holds one, and
@@ -171,7 +171,7 @@ impl<S: Socket, L: Ledger> Connection<S, L> {
     }
 
     /// Its next message, if there is room for it. It is read if less than one is there.
-    pub(crate) fn next(&mut self, buffer: &mut [u8], room: Room) -> Next
+    pub(crate) fn next(&mut self, buffer: &mut [u8], room: OpenWays) -> ConnectionEvent
         // It is what the session took, and where that says that it goes.
         ensures gives { Gives self.old.session result self.new.session }
         ensures account { self.new.account ≡ self.old.account }
@@ -179,18 +179,18 @@ impl<S: Socket, L: Ledger> Connection<S, L> {
         for _ in 0..MOST_READS {
             if let Some((message, route)) = self.session.next(room) {
                 self.silence.end();
-                return Next::Message(message, route);
+                return ConnectionEvent::Message(message, route);
             }
             if self.session.has_more() {
                 self.silence.end();
-                return Next::Kept;
+                return ConnectionEvent::Kept;
             }
             if !self.may_read || !self.session.wants_read() {
-                return Next::None;
+                return ConnectionEvent::None;
             }
             self.read(buffer);
         }
-        Next::Later
+        ConnectionEvent::Later
     }
 
     // Reads what is there. A short read leaves nothing to read, unless the peer is known to send no
@@ -218,14 +218,14 @@ impl<S: Socket, L: Ledger> Connection<S, L> {
     }
 
     /// Its client is welcome, and has this account.
-    pub(crate) fn welcome(&mut self, marks: &Marks, account: Account<L>, last: u64)
+    pub(crate) fn welcome(&mut self, counters: &Counters, account: Account<L>, last: u64)
         ensures account { self.new.account ≡ Some account }
         ensures told { IfGreeting self.old.session.phase self.old.session self.new.session
             (Tells (Reply.Welcome last) (in_phase (Phase.Open 0 0) self.old.session)
             self.new.session) }
     {
         self.account = Some(account);
-        self.count(marks, &Reply::Welcome { last });
+        self.count(counters, &Reply::Welcome { last });
         let before = self.session.unsent().len();
         if let Phase::Greeting = self.session.phase() {
             self.session.welcome(last);
@@ -234,13 +234,13 @@ impl<S: Socket, L: Ledger> Connection<S, L> {
     }
 
     /// Its client is refused. It may greet again.
-    pub(crate) fn refuse(&mut self, marks: &Marks, code: u8, detail: u64)
+    pub(crate) fn refuse(&mut self, counters: &Counters, code: u8, detail: u64)
         ensures account { self.new.account ≡ self.old.account }
         ensures told { IfGreeting self.old.session.phase self.old.session self.new.session
             (Tells (Reply.Refused code detail) (in_phase Phase.Fresh self.old.session)
             self.new.session) }
     {
-        self.count(marks, &Reply::Refused { code, detail });
+        self.count(counters, &Reply::Refused { code, detail });
         let before = self.session.unsent().len();
         if let Phase::Greeting = self.session.phase() {
             self.session.refuse(code, detail);
@@ -260,11 +260,11 @@ impl<S: Socket, L: Ledger> Connection<S, L> {
     }
 
     /// Its second Hello was answered, which is counted.
-    pub(crate) fn tell_busy(&mut self, marks: &Marks)
+    pub(crate) fn tell_busy(&mut self, counters: &Counters)
         ensures { self.new.session ≡ self.old.session }
     {
         let reply = Refusal::Busy.reply();
-        self.count(marks, &reply);
+        self.count(counters, &reply);
         self.stream.note(Note::Busy);
     }
 
@@ -278,20 +278,20 @@ impl<S: Socket, L: Ledger> Connection<S, L> {
 
     /// It is sent this, after all that came before, which is counted. Returns how many bytes that
     /// has.
-    pub(crate) fn tell(&mut self, marks: &Marks, reply: &Reply) -> u64
+    pub(crate) fn tell(&mut self, counters: &Counters, reply: &Reply) -> u64
         ensures account { self.new.account ≡ self.old.account }
         ensures told { Tells reply.now self.old.session self.new.session }
     {
-        self.count(marks, reply);
+        self.count(counters, reply);
         let before = self.session.unsent().len();
         self.session.tell(reply);
         self.weigh(before)
     }
 
     // A reply is counted if its client is still sent something.
-    fn count(&self, marks: &Marks, reply: &Reply) {
+    fn count(&self, counters: &Counters, reply: &Reply) {
         if !self.session.end_of().is_closed() {
-            marks.sends(reply);
+            counters.sends(reply);
         }
     }
 
@@ -326,15 +326,15 @@ impl<S: Socket, L: Ledger> Connection<S, L> {
     }
 
     /// Writes what it can take.
-    pub(crate) fn flush(&mut self, marks: &Marks)
+    pub(crate) fn flush(&mut self, counters: &Counters)
         // What goes out is what waited, in order.
         ensures { Flushes self.old.session self.new.session }
     {
         if !self.is_waiting() {
-            if let End::Ending(Some(word)) = self.session.end_of() {
-                marks.sends(&word.reply());
+            if let SessionEnd::Ending(Some(word)) = self.session.end_of() {
+                counters.sends(&word.reply());
             }
-            if let End::Ending(word) = self.session.end_of() {
+            if let SessionEnd::Ending(word) = self.session.end_of() {
                 self.stream.note(Note::Ended(word));
             }
         }

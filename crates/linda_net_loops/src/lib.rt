@@ -4,20 +4,20 @@
 //!
 //! - `Loops` are all of them, and run in threads of their own.
 //! - A `Loop` has some of the connections (`Sessions`), and what of theirs goes to the server next
-//!   (`Batch`).
+//!   (`Groups`).
 //! - `Serving` is one loop without a system below: what is a `Socket` there may be anything.
 //! - A `Connection` is a socket with its `Session`, read and written without waiting for it.
 #![tactic(auto)]
 
-mod batch;
 mod connection;
+mod event_loop;
+mod groups;
+mod loop_sink;
 mod place;
-mod posting;
 mod running;
 mod serving;
 mod sessions;
 mod socket;
-mod turns;
 
 pub use place::account_has_parts_for_all;
 pub use running::Loops;

@@ -5,12 +5,12 @@ ghost use Rattle.linda_shared_accounts.specs.declared.limits.TheConstants as acc
 ghost use Rattle.linda_net_session.specs.declared.phase.TheConstants as sessions;
 ghost use Rattle.linda_net_loops.specs.Joining.{joined, joined_by_way, groups_of, TakesFrom};
 
-use crate::batch::{Batch, Call};
-use crate::connection::{Connection, Next};
+use crate::connection::{Connection, ConnectionEvent};
+use crate::groups::{Groups, LoopCall};
 use crate::socket::Socket;
-use linda_net_marks::Marks;
+use linda_net_marks::Counters;
 use linda_net_session::{Route, Way};
-use linda_shared::{Group, MOST_ASKED};
+use linda_shared::{MOST_ASKED, MessageGroup};
 use linda_wire::Message;
 use std::collections::VecDeque;
 use std::sync::ledger::Ledger;
@@ -22,7 +22,7 @@ pub fn account_has_parts_for_all()
 
 /// What came of a look at a connection.
 #[derive(Clone, Copy)]
-pub(crate) enum Found {
+pub(crate) enum LookOutcome {
     /// A message was taken, and is where its session says that it goes.
     Taken,
     /// There is one that cannot go yet: it is given again.
@@ -39,10 +39,10 @@ pub(crate) fn take_next<S: Socket, L: Ledger>(
     connection: &mut Connection<S, L>,
     key: usize,
     buffer: &mut [u8],
-    calls: &mut VecDeque<Call>,
-    batch: &mut Batch<L>,
-    marks: &Marks,
-) -> Found
+    calls: &mut VecDeque<LoopCall>,
+    batch: &mut Groups<L>,
+    counters: &Counters,
+) -> LookOutcome
     // The message that the session took joins the group of its way, as it was given; or it took
     // none, and the groups are as they were.
     ensures { TakesFrom connection.old.account key connection.old.session connection.new.session
@@ -50,13 +50,13 @@ pub(crate) fn take_next<S: Socket, L: Ledger>(
         (groups_of batch.new.asking batch.new.doing) }
 {
     match connection.next(buffer, batch.room()) {
-        Next::Message(message, route) => {
-            put(connection, key, message, route, calls, batch, marks);
-            Found::Taken
+        ConnectionEvent::Message(message, route) => {
+            put(connection, key, message, route, calls, batch, counters);
+            LookOutcome::Taken
         }
-        Next::Kept => Found::Kept,
-        Next::None => Found::None,
-        Next::Later => Found::Later,
+        ConnectionEvent::Kept => LookOutcome::Kept,
+        ConnectionEvent::None => LookOutcome::None,
+        ConnectionEvent::Later => LookOutcome::Later,
     }
 }
 
@@ -66,9 +66,9 @@ fn put<S: Socket, L: Ledger>(
     key: usize,
     message: Message,
     route: Route,
-    calls: &mut VecDeque<Call>,
-    batch: &mut Batch<L>,
-    marks: &Marks,
+    calls: &mut VecDeque<LoopCall>,
+    batch: &mut Groups<L>,
+    counters: &Counters,
 )
     // It joins the group of its way, as it was given, if its account has a part left for it and the
     // group has room; else none.
@@ -79,11 +79,11 @@ fn put<S: Socket, L: Ledger>(
 {
     match route {
         Route::Greet => {
-            if calls.push_back(Call::Greet(key, message)).is_err() {
+            if calls.push_back(LoopCall::Greet(key, message)).is_err() {
                 connection.drop_greeting(None);
             }
         }
-        Route::Busy => connection.tell_busy(marks),
+        Route::Busy => connection.tell_busy(counters),
         Route::Goes(Way::Asks) => ask(connection, key, message, &mut batch.asking, Way::Asks),
         Route::Goes(Way::Deeds) => ask(connection, key, message, &mut batch.doing, Way::Deeds),
         Route::Keep => {}
@@ -96,7 +96,7 @@ fn ask<S: Socket, L: Ledger>(
     connection: &mut Connection<S, L>,
     key: usize,
     message: Message,
-    group: &mut Group<usize, L>,
+    group: &mut MessageGroup<usize, L>,
     way: Way,
 )
     ensures joins { group.new ≡ joined connection.old.account key message group.old }

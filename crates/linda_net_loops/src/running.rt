@@ -1,8 +1,8 @@
 //! The loops of listeners, each in a thread of its own.
 
-use crate::turns::{Loop, begin_loop, turn};
+use crate::event_loop::{Loop, begin_loop, run_loop};
 use linda_disk::Disk;
-use linda_net_relays::{Door, Limits, Listeners, Relays};
+use linda_net_relays::{Acceptor, Limits, Listeners, LoopDirectory};
 use linda_shared::Shared;
 use std::alloc::Global;
 use std::net::Net;
@@ -29,18 +29,18 @@ impl<L: Ledger> Loops<L> {
     /// # Errors
     ///
     /// The system has no room for all of them, or there is no memory.
-    pub fn begin<R: Net>(rt: &R, alloc: Global) -> io::Result<(Loops<L>, Relays)> {
-        let mut relays = Vec::new(alloc);
+    pub fn begin<R: Net>(rt: &R, alloc: Global) -> io::Result<(Loops<L>, LoopDirectory)> {
+        let mut inboxes = Vec::new(alloc);
         let mut rest = Vec::new(alloc);
-        let (first, relay) = begin_loop(rt, alloc, 0)?;
-        relays.push(relay)?;
+        let (first, inbox) = begin_loop(rt, alloc, 0)?;
+        inboxes.push(inbox)?;
         for index in 1..LOOPS {
-            let (one, relay) = begin_loop(rt, alloc, index)?;
-            relays.push(relay)?;
+            let (one, inbox) = begin_loop(rt, alloc, index)?;
+            inboxes.push(inbox)?;
             rest.push(one)?;
         }
         let loops = Loops { first, rest };
-        Ok((loops, Relays::new(alloc, relays)))
+        Ok((loops, LoopDirectory::new(alloc, inboxes)))
     }
 
     /// Connections come from these listeners, which do not wait, as far as they are limited.
@@ -55,7 +55,7 @@ impl<L: Ledger> Loops<L> {
                 one.limit(seconds);
             }
         }
-        self.first.open(Door::new(listeners, limits.sessions))
+        self.first.open(Acceptor::new(listeners, limits.sessions))
     }
 
     /// Runs the loops until all connections are over, the first one in this thread. A loop for
@@ -64,7 +64,7 @@ impl<L: Ledger> Loops<L> {
         self,
         rt: &R,
         shared: &Shared<D, L>,
-        relays: &Relays,
+        directory: &LoopDirectory,
     )
     where
         L: Send + Sync,
@@ -72,8 +72,8 @@ impl<L: Ledger> Loops<L> {
         let Loops { first, rest } = self;
         let mut first = first;
         thread::scope(thread::scope_env(), rt, |scope| {
-            begin_rest(scope, rt, shared, relays, rest);
-            turn(rt, shared, relays, &mut first);
+            begin_rest(scope, rt, shared, directory, rest);
+            run_loop(rt, shared, directory, &mut first);
         });
     }
 }
@@ -83,14 +83,14 @@ fn begin_rest<'s, E, D: Disk + Send, L: Ledger + Send + Sync, R: Threads + Wait 
     scope: &'s Scope<'s, E>,
     rt: &'s R,
     shared: &'s Shared<D, L>,
-    relays: &'s Relays,
+    directory: &'s LoopDirectory,
     rest: Vec<Loop<L>>,
 ) {
     let mut index: usize = 0;
     for one in rest {
         index = index.saturating_add(1);
-        if !begin_one(scope, rt, shared, relays, one) {
-            relays.set_off(index);
+        if !begin_one(scope, rt, shared, directory, one) {
+            directory.set_off(index);
         }
     }
 }
@@ -100,10 +100,10 @@ fn begin_one<'s, E, D: Disk + Send, L: Ledger + Send + Sync, R: Threads + Wait +
     scope: &'s Scope<'s, E>,
     rt: &'s R,
     shared: &'s Shared<D, L>,
-    relays: &'s Relays,
+    directory: &'s LoopDirectory,
     one: Loop<L>,
 ) -> bool {
-    let begun = scope.spawn(move || run_one(rt, shared, relays, one));
+    let begun = scope.spawn(move || run_one(rt, shared, directory, one));
     begun.is_ok()
 }
 
@@ -111,9 +111,9 @@ fn begin_one<'s, E, D: Disk + Send, L: Ledger + Send + Sync, R: Threads + Wait +
 fn run_one<D: Disk, L: Ledger, R: Wait + Clock>(
     rt: &R,
     shared: &Shared<D, L>,
-    relays: &Relays,
+    directory: &LoopDirectory,
     one: Loop<L>,
 ) {
     let mut one = one;
-    turn(rt, shared, relays, &mut one);
+    run_loop(rt, shared, directory, &mut one);
 }

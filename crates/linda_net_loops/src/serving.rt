@@ -1,12 +1,12 @@
 //! Serving, the connections of one loop without a system below: whoever has it says which may be
 //! read or written.
 
-use crate::batch::Batch;
+use crate::event_loop::{serve_asks, serve_deeds};
+use crate::groups::Groups;
 use crate::sessions::Sessions;
 use crate::socket::Socket;
-use crate::turns::{serve_asks, serve_deeds};
 use linda_disk::Disk;
-use linda_net_relays::{Look, Relays};
+use linda_net_relays::{Look, LoopDirectory};
 use linda_shared::Shared;
 use std::alloc::{AllocError, Global};
 use std::sync::Wait;
@@ -18,7 +18,7 @@ use std::time::Clock;
 #[derive(Drop)]
 pub struct Serving<S: Socket, L: Ledger> {
     sessions: Sessions<S, L>,
-    batch: Batch<L>,
+    batch: Groups<L>,
 }
 
 impl<S: Socket, L: Ledger> Serving<S, L> {
@@ -29,7 +29,7 @@ impl<S: Socket, L: Ledger> Serving<S, L> {
     /// `AllocError`: nothing was made.
     pub fn new(alloc: Global, index: usize) -> Result<Serving<S, L>, AllocError> {
         let sessions = Sessions::new(alloc, index)?;
-        let batch = Batch::new(alloc)?;
+        let batch = Groups::new(alloc)?;
         Ok(Serving { sessions, batch })
     }
 
@@ -58,13 +58,13 @@ impl<S: Socket, L: Ledger> Serving<S, L> {
         &mut self,
         rt: &R,
         shared: &Shared<D, L>,
-        relays: &Relays,
+        directory: &LoopDirectory,
         look: Look,
         seconds: u32,
     ) {
         self.sessions.give_up(look);
         self.sessions
-            .end_late(rt, shared, &relays.marks, look, seconds);
+            .end_late(rt, shared, &directory.counters, look, seconds);
     }
 
     /// Takes what other loops handed to it, and what is ready, serves that, and writes what it led
@@ -73,18 +73,18 @@ impl<S: Socket, L: Ledger> Serving<S, L> {
         &mut self,
         rt: &R,
         shared: &Shared<D, L>,
-        relays: &Relays,
+        directory: &LoopDirectory,
     ) -> bool {
         let Serving { sessions, batch } = self;
         batch.share.begin_turn();
-        sessions.take_sent(rt, relays);
-        let mut is_up = serve_asks(rt, shared, relays, sessions, batch);
-        is_up = serve_deeds(rt, shared, relays, sessions, batch) && is_up;
+        sessions.take_sent(rt, directory);
+        let mut is_up = serve_asks(rt, shared, directory, sessions, batch);
+        is_up = serve_deeds(rt, shared, directory, sessions, batch) && is_up;
         is_up = !shared.is_down(rt) && is_up;
         if !is_up {
             sessions.end_all();
         }
-        sessions.flush(rt, relays);
+        sessions.flush(rt, directory);
         is_up
     }
 }

@@ -6,17 +6,17 @@ ghost use Rattle.linda_shared.specs.Group.{group_of};
 ghost use Rattle.linda_shared_queue.specs.Hearing.{IsAnswered};
 ghost use Rattle.linda_shared_queue.specs.Seat.{back, IsLeft, IsLost};
 
-use crate::batch::{Batch, Call};
 use crate::connection::Connection;
-use crate::place::{Found, take_next};
+use crate::groups::{Groups, LoopCall};
+use crate::place::{LookOutcome, take_next};
 use crate::socket::{Note, Socket};
 use linda_disk::Disk;
 use linda_net_http::Stream;
-use linda_net_marks::{Marks, word_of};
-use linda_net_relays::{Look, Relays, is_much};
+use linda_net_marks::{Counters, word_of};
+use linda_net_relays::{Look, LoopDirectory, is_much};
 use linda_net_session::Way;
 use linda_shared::{
-    Account, Answered, Group, MOST_ASKED, Sent, ServedGroup, Shared, SharedFault, hear_answer,
+    Account, Ack, MOST_ASKED, MessageGroup, Sent, ServedGroup, Shared, SharedFault, hear_answer,
 };
 use linda_wire::Message;
 use mio::event::Event;
@@ -51,7 +51,7 @@ pub(crate) struct Sessions<S: Socket, L: Ledger> {
     ready: VecDeque<usize>,
     touched: Vec<usize>,
     /// Clients that come and go: at most one for each connection.
-    pub(crate) calls: VecDeque<Call>,
+    pub(crate) calls: VecDeque<LoopCall>,
     // Where replies are put that other loops handed to this one.
     handed: Vec<Sent>,
     // How many bytes clients were given since this was asked last.
@@ -78,10 +78,10 @@ impl<S: Socket, L: Ledger> Sessions<S, L> {
     }
 
     /// A group for the place of one that is being served.
-    pub(crate) fn no_group(&self) -> Group<usize, L>
+    pub(crate) fn no_group(&self) -> MessageGroup<usize, L>
         ensures { result ≡ group_of 0 [] [] }
     {
-        Group::without_room(self.alloc)
+        MessageGroup::without_room(self.alloc)
     }
 
     /// Which of the loops it is.
@@ -167,7 +167,7 @@ impl<S: Socket, L: Ledger> Sessions<S, L> {
 
     /// Takes what ready connections have, as far as there is room in the batch, and of each no more
     /// than its share. One that has more stays ready, after the others.
-    pub(crate) fn gather(&mut self, batch: &mut Batch<L>, marks: &Marks) {
+    pub(crate) fn gather(&mut self, batch: &mut Groups<L>, counters: &Counters) {
         for _ in 0..self.ready.len() {
             if !batch.takes_more() {
                 return;
@@ -175,7 +175,7 @@ impl<S: Socket, L: Ledger> Sessions<S, L> {
             let Some(key) = self.ready.pop_front() else {
                 return;
             };
-            let stays = self.take_from(key, batch, marks);
+            let stays = self.take_from(key, batch, counters);
             if stays && self.ready.push_back(key).is_ok() {
                 continue;
             }
@@ -187,7 +187,7 @@ impl<S: Socket, L: Ledger> Sessions<S, L> {
     }
 
     // Takes what a connection has. Says whether it stays ready.
-    fn take_from(&mut self, key: usize, batch: &mut Batch<L>, marks: &Marks) -> bool {
+    fn take_from(&mut self, key: usize, batch: &mut Groups<L>, counters: &Counters) -> bool {
         let Some(connection) = self.connections.get_mut(key) else {
             return false;
         };
@@ -199,12 +199,12 @@ impl<S: Socket, L: Ledger> Sessions<S, L> {
                 &mut self.buffer,
                 &mut self.calls,
                 batch,
-                marks,
+                counters,
             );
             let read = connection.take_read();
             batch.share.read(read);
             match found {
-                Found::Taken => {
+                LookOutcome::Taken => {
                     let weight = connection.weight();
                     batch.share.plan(weight);
                     bytes = bytes.saturating_add(read).saturating_add(weight);
@@ -213,9 +213,9 @@ impl<S: Socket, L: Ledger> Sessions<S, L> {
                     }
                 }
                 // It is given again: soon, or once something came back.
-                Found::Kept => return !connection.is_waiting(),
-                Found::Later => return true,
-                Found::None => return false,
+                LookOutcome::Kept => return !connection.is_waiting(),
+                LookOutcome::Later => return true,
+                LookOutcome::None => return false,
             }
         }
         true
@@ -237,14 +237,14 @@ impl<S: Socket, L: Ledger> Sessions<S, L> {
     pub(crate) fn greet<R: Wait>(
         &mut self,
         rt: &R,
-        relays: &Relays,
+        directory: &LoopDirectory,
         key: usize,
         greeting: Greeting<L>,
     ) -> Option<Account<L>> {
         let left = match greeting {
-            Ok(Ok((account, last))) => self.welcome(rt, relays, key, account, last),
+            Ok(Ok((account, last))) => self.welcome(rt, directory, key, account, last),
             Ok(Err((code, detail))) => {
-                self.refuse(&relays.marks, key, code, detail);
+                self.refuse(&directory.counters, key, code, detail);
                 None
             }
             Err(fault) => {
@@ -262,19 +262,19 @@ impl<S: Socket, L: Ledger> Sessions<S, L> {
     fn welcome<R: Wait>(
         &mut self,
         rt: &R,
-        relays: &Relays,
+        directory: &LoopDirectory,
         key: usize,
         account: Account<L>,
         last: u64,
     ) -> Option<Account<L>> {
         let client = account.client();
-        self.take_sent(rt, relays);
+        self.take_sent(rt, directory);
         let Some(connection) = self.connections.get_mut(key) else {
             return Some(account);
         };
         let is_kept = self.clients.insert(client, key).is_ok()
-            && relays.open(rt, client, self.index).is_ok();
-        connection.welcome(&relays.marks, account, last);
+            && directory.open(rt, client, self.index).is_ok();
+        connection.welcome(&directory.counters, account, last);
         if !is_kept {
             connection.fail();
         }
@@ -282,9 +282,9 @@ impl<S: Socket, L: Ledger> Sessions<S, L> {
     }
 
     // The client is refused. It may greet again.
-    fn refuse(&mut self, marks: &Marks, key: usize, code: u8, detail: u64) {
+    fn refuse(&mut self, counters: &Counters, key: usize, code: u8, detail: u64) {
         if let Some(connection) = self.connections.get_mut(key) {
-            connection.refuse(marks, code, detail);
+            connection.refuse(counters, code, detail);
         }
     }
 
@@ -297,7 +297,11 @@ impl<S: Socket, L: Ledger> Sessions<S, L> {
 
     /// Sessions hear the answers of a group that was served, whose messages went this way. Returns
     /// the room of the group.
-    pub(crate) fn hear_all(&mut self, served: ServedGroup<usize, L>, way: Way) -> Group<usize, L>
+    pub(crate) fn hear_all(
+        &mut self,
+        served: ServedGroup<usize, L>,
+        way: Way,
+    ) -> MessageGroup<usize, L>
         ensures { result ≡ group_of served.room [] [] }
     {
         let mut served = served;
@@ -311,7 +315,7 @@ impl<S: Socket, L: Ledger> Sessions<S, L> {
     }
 
     // The session of this client hears the answer to its message.
-    fn hear(&mut self, client: u32, message: &Message, answered: Answered<usize, L>, way: Way) {
+    fn hear(&mut self, client: u32, message: &Message, answered: Ack<usize, L>, way: Way) {
         let key = *answered.address();
         let Some(connection) = self.connections.get_mut(key) else {
             return;
@@ -334,60 +338,60 @@ impl<S: Socket, L: Ledger> Sessions<S, L> {
     }
 
     /// Takes what other loops handed to this one.
-    pub(crate) fn take_sent<R: Wait>(&mut self, rt: &R, relays: &Relays) {
-        let Some(relay) = relays.get(self.index) else {
+    pub(crate) fn take_sent<R: Wait>(&mut self, rt: &R, directory: &LoopDirectory) {
+        let Some(inbox) = directory.get(self.index) else {
             return;
         };
         let mut handed = std::mem::replace(&mut self.handed, Vec::new(self.alloc));
-        relay.take_sent(rt, &mut handed);
+        inbox.take_sent(rt, &mut handed);
         for sent in handed.drain(..) {
-            self.tell(&relays.marks, sent);
+            self.tell(&directory.counters, sent);
         }
         self.handed = handed;
     }
 
     /// These go to their client, after all that went to it before; nowhere if it has no connection
     /// here.
-    pub(crate) fn tell(&mut self, marks: &Marks, sent: Sent) {
+    pub(crate) fn tell(&mut self, counters: &Counters, sent: Sent) {
         let Some(key) = self.clients.get(&sent.client()).copied() else {
             return;
         };
         if let Some(connection) = self.connections.get_mut(key) {
             for reply in sent.into_replies() {
-                self.told = self.told.saturating_add(connection.tell(marks, &reply));
+                self.told = self.told.saturating_add(connection.tell(counters, &reply));
             }
         }
         self.touch(key);
     }
 
     /// Writes what is to be written, and lets go those connections that are over.
-    pub(crate) fn flush<R: Wait>(&mut self, rt: &R, relays: &Relays) {
+    pub(crate) fn flush<R: Wait>(&mut self, rt: &R, directory: &LoopDirectory) {
         for _ in 0..self.touched.len() {
             let Some(key) = self.touched.pop() else {
                 return;
             };
-            self.flush_one(rt, relays, key);
+            self.flush_one(rt, directory, key);
         }
     }
 
     // Writes to one connection. If its client leaves that is a call.
-    fn flush_one<R: Wait>(&mut self, rt: &R, relays: &Relays, key: usize) {
+    fn flush_one<R: Wait>(&mut self, rt: &R, directory: &LoopDirectory, key: usize) {
         let Some(connection) = self.connections.get_mut(key) else {
             return;
         };
         connection.is_touched = false;
-        connection.flush(&relays.marks);
+        connection.flush(&directory.counters);
         if let Some(client) = connection.leaves() {
-            connection.is_leaving = self.calls.push_back(Call::Leave(key)).is_ok();
+            connection.is_leaving = self.calls.push_back(LoopCall::Disconnected(key)).is_ok();
             let _ = self.clients.remove(&client);
-            relays.shut(rt, client, self.index);
+            directory.shut(rt, client, self.index);
         }
         if connection.is_over() {
             connection.shut();
             self.let_go(key);
-            relays.marks.ends();
-            if let Some(relay) = relays.get(self.index) {
-                relay.loses();
+            directory.counters.ends();
+            if let Some(inbox) = directory.get(self.index) {
+                inbox.loses();
             }
             return;
         }
@@ -428,7 +432,7 @@ impl<S: Socket, L: Ledger> Sessions<S, L> {
         &mut self,
         rt: &R,
         shared: &Shared<D, L>,
-        marks: &Marks,
+        counters: &Counters,
         look: Look,
         seconds: u32,
     ) {
@@ -437,7 +441,7 @@ impl<S: Socket, L: Ledger> Sessions<S, L> {
                 let holds_any = connection.holds_any(rt, shared);
                 if connection.is_late(look, seconds, holds_any) {
                     connection.end_with(None);
-                    marks.lapses();
+                    counters.lapses();
                     self.touch(key);
                 }
             }
@@ -505,7 +509,7 @@ fn hear_own<L: Ledger>(
     account: &mut Account<L>,
     client: u32,
     message: &Message,
-    answered: Answered<usize, L>,
+    answered: Ack<usize, L>,
 ) -> Result<(), SharedFault>
     ensures same { account.new.client ≡ account.old.client }
     // An answer to another client, or if nothing is on its way, is passed over.

@@ -4,13 +4,13 @@ use Rattle.linda_wire.specs.declared.reply.Reply.{Reply}
 use Rattle.linda_wire.specs.declared.reply.Reply.TheVariants as replies
 use Rattle.linda_wire.specs.Refusal.{code_of}
 use Rattle.linda_wire.specs.declared.refusal.Refusal.TheVariants as refusals
-use Rattle.linda_net_marks.specs.declared.marks.Tally.{Tally}
-use Rattle.linda_net_marks.specs.declared.refusals.Refused.{Refused}
-use Rattle.linda_net_marks.specs.declared.refusals.Why.{Why}
-use Rattle.linda_net_marks.specs.declared.refusals.Why.TheVariants as whys
+use Rattle.linda_net_marks.specs.declared.counters.CounterValues.{CounterValues}
+use Rattle.linda_net_marks.specs.declared.refusals.RefusalValues.{RefusalValues}
+use Rattle.linda_net_marks.specs.declared.refusals.RefusalReason.{RefusalReason}
+use Rattle.linda_net_marks.specs.declared.refusals.RefusalReason.TheVariants as whys
 
 -- Why a refusal of this code is sent, if that is for an operator to know.
-abbrev pub why_of_code : ℕ → Option Why
+abbrev pub why_of_code : ℕ → Option RefusalReason
 why_of_code code =
     if code == code_of refusals.Busy then Some whys.Busy
     else (if code == code_of refusals.TooManyClients then Some whys.Clients
@@ -21,7 +21,7 @@ why_of_code code =
     else None)))))
 
 -- Why the reply refuses its client, if that is for an operator to know.
-abbrev pub why_of : Reply → Option Why
+abbrev pub why_of : Reply → Option RefusalReason
 why_of (replies.Welcome last) = None
 why_of (replies.Stored n id) = None
 why_of (replies.Offer ticket id tuple) = None
@@ -32,7 +32,7 @@ why_of (replies.Refused code detail) = why_of_code code
 why_of (replies.Left n) = None
 
 -- How many more there are of each than before.
-abbrev pub more_than : Refused → Refused → Refused
+abbrev pub more_than : RefusalValues → RefusalValues → RefusalValues
 more_than now before = record {
   busy = now.busy - before.busy;
   clients = now.clients - before.clients;
@@ -41,7 +41,7 @@ more_than now before = record {
 }
 
 -- Nobody was refused.
-abbrev pub none_refused : Refused
+abbrev pub none_refused : RefusalValues
 none_refused = record { busy = 0; clients = 0; greetings = 0; malformed = 0 }
 
 -- One connection fewer, where they are counted.
@@ -50,7 +50,7 @@ one_less None = None
 one_less (Some left) = Some (left - 1)
 
 -- Nothing happened yet.
-abbrev pub no_tally : Tally
+abbrev pub no_tally : CounterValues
 no_tally = record {
   came = 0;
   over = 0;

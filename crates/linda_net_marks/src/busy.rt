@@ -20,7 +20,7 @@ const SPAN: u64 = 1_000;
 
 /// Refusals of one client number, each soon after the one before.
 #[derive(Clone, Copy, Debug, PartialEq, Eq)]
-pub(crate) struct Run {
+pub(crate) struct RefusalRun {
     pub(crate) client: u32,
     /// When the first of them came, and when the last one came, in milliseconds.
     pub(crate) first: u64,
@@ -29,16 +29,16 @@ pub(crate) struct Run {
 
 /// What a refusal comes to.
 #[derive(Clone, Copy, Debug, PartialEq, Eq)]
-pub(crate) struct Verdict {
+pub(crate) struct RefusalVerdict {
     /// The run that it belongs to.
-    pub(crate) run: Run,
+    pub(crate) run: RefusalRun,
     /// Whether it counts.
     pub(crate) counts: bool,
 }
 
 /// What a refusal of the client comes to, at this millisecond, after the run before, if there is
 /// one.
-pub(crate) fn judged(client: u32, before: Option<Run>, now: u64) -> Verdict
+pub(crate) fn judged(client: u32, before: Option<RefusalRun>, now: u64) -> RefusalVerdict
     ensures { result ≡ judged client before now }
 {
     let Some(run) = before else {
@@ -50,8 +50,8 @@ pub(crate) fn judged(client: u32, before: Option<Run>, now: u64) -> Verdict
     if now.saturating_sub(run.first) >= SPAN {
         return begun(client, now, true);
     }
-    Verdict {
-        run: Run {
+    RefusalVerdict {
+        run: RefusalRun {
             client: run.client,
             first: run.first,
             last: now,
@@ -61,11 +61,11 @@ pub(crate) fn judged(client: u32, before: Option<Run>, now: u64) -> Verdict
 }
 
 // A run begins with a refusal now, which counts or does not.
-fn begun(client: u32, now: u64, counts: bool) -> Verdict
+fn begun(client: u32, now: u64, counts: bool) -> RefusalVerdict
     ensures { result ≡ begun client now counts }
 {
-    Verdict {
-        run: Run {
+    RefusalVerdict {
+        run: RefusalRun {
             client,
             first: now,
             last: now,
@@ -76,16 +76,16 @@ fn begun(client: u32, now: u64, counts: bool) -> Verdict
 
 /// The runs of the client numbers that were refused last, in the order of their last refusals.
 #[derive(Drop)]
-pub(crate) struct Runs {
-    runs: Vec<Run>,
+pub(crate) struct RefusalRuns {
+    runs: Vec<RefusalRun>,
 }
 
-impl Runs {
+impl RefusalRuns {
     /// Nobody was refused. Takes no memory until somebody is.
-    pub(crate) fn new(alloc: Global) -> Runs
+    pub(crate) fn new(alloc: Global) -> RefusalRuns
         ensures { result.runs.items ≡ [] }
     {
-        Runs {
+        RefusalRuns {
             runs: Vec::new(alloc),
         }
     }
@@ -110,14 +110,14 @@ impl Runs {
 }
 
 // The client has no run.
-fn forget(runs: &mut Vec<Run>, client: u32)
+fn forget(runs: &mut Vec<RefusalRun>, client: u32)
     ensures { runs.new.items ≡ others client runs.old.items }
 {
     runs.retain(|run| run.client != client);
 }
 
 // There is room for one run more: if there are as many as are remembered, the first goes.
-fn make_room(runs: &mut Vec<Run>)
+fn make_room(runs: &mut Vec<RefusalRun>)
     ensures { runs.new.items ≡ newest runs.old.items }
 {
     if runs.len() >= MOST {
@@ -126,7 +126,7 @@ fn make_room(runs: &mut Vec<Run>)
 }
 
 // The run of the client, if there is one.
-fn run_of(runs: &[Run], client: u32) -> Option<Run>
+fn run_of(runs: &[RefusalRun], client: u32) -> Option<RefusalRun>
     ensures { result ≡ run_of client runs.now }
 {
     let Some((first, rest)) = runs.split_first() else {

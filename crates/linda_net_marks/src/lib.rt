@@ -1,20 +1,22 @@
 //! Counts of what happens at connections, whatever serves them.
 //!
-//! - `Marks` has the counts, which threads share; a `Tally` is what they come to.
-//! - A `Notice` is what is reported of them, and `Why` says why a client was refused.
+//! - `Counters` has the counts, which threads share; a `CounterValues` is what they come to.
+//! - A `Notice` is what is reported of them, and `RefusalReason` says why a client was refused.
 //! - `word_of` is what a client is told last if the server has a fault.
-//! - Only a client number that is refused Busy again and again counts (`Runs`).
+//! - Only a client number that is refused Busy again and again counts (`RefusalRuns`).
 #![tactic(auto)]
 
+mod bounds;
 mod busy;
-mod coming;
-mod marks;
+mod counters;
+mod elapsed;
 mod notice;
 mod refusals;
 mod word;
 
-pub use coming::{REST, one_less};
-pub use marks::{Marks, Tally};
-pub use notice::{Notice, millis_of};
-pub use refusals::{Refused, Why};
+pub use bounds::{ACCEPT_PAUSE, one_less};
+pub use counters::{CounterValues, Counters};
+pub use elapsed::{micros_since, millis_since};
+pub use notice::Notice;
+pub use refusals::{RefusalReason, RefusalValues};
 pub use word::word_of;

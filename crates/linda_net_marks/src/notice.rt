@@ -1,10 +1,6 @@
 //! Notices of what happens while connections are served.
 
-ghost use Rattle.std.specs.Prelude.{◌≡◌, ◌/◌, ◌-◌, ◌^◌, min};
-ghost use Rattle.std.specs.Duration.{as_nanos};
-
-use crate::refusals::Why;
-use std::time::Duration;
+use crate::refusals::RefusalReason;
 
 /// What happened.
 #[derive(Clone, Copy, Debug, PartialEq, Eq)]
@@ -23,7 +19,7 @@ pub enum Notice {
     /// A connection could not be had: reported as `Full` is.
     Missed,
     /// Clients are refused for this reason: reported as `Full` is.
-    Turned(Why),
+    Turned(RefusalReason),
     /// No thread could be had for whoever watches: nothing more is reported.
     Unwatched,
     /// No thread could be had for snapshots: none is taken.
@@ -32,14 +28,4 @@ pub enum Notice {
     NoStatus,
     /// The server went down.
     Down,
-}
-
-/// How many whole milliseconds a time has, as far as that can be counted.
-pub fn millis_of(passed: Duration) -> u64
-    ensures { result ≡ min (as_nanos passed / 1_000_000) (2 ^ 64 - 1) }
-{
-    match u64::try_from(passed.as_millis()) {
-        Ok(millis) => millis,
-        Err(_) => u64::MAX,
-    }
 }

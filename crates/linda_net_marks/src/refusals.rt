@@ -8,7 +8,7 @@ use std::sync::atomic::{AtomicU64, Ordering};
 
 /// Why a client was refused.
 #[derive(Clone, Copy, Debug, PartialEq, Eq)]
-pub enum Why {
+pub enum RefusalReason {
     /// Another connection has its number.
     Busy,
     /// The server keeps as many clients as it can.
@@ -21,19 +21,19 @@ pub enum Why {
 
 /// How often clients were refused, by the reason.
 #[derive(Clone, Copy, Debug, PartialEq, Eq)]
-pub struct Refused {
+pub struct RefusalValues {
     pub busy: u64,
     pub clients: u64,
     pub greetings: u64,
     pub malformed: u64,
 }
 
-impl Refused {
+impl RefusalValues {
     /// Nobody was refused.
-    pub fn none() -> Refused
+    pub fn none() -> RefusalValues
         ensures { result ≡ none_refused }
     {
-        Refused {
+        RefusalValues {
             busy: 0,
             clients: 0,
             greetings: 0,
@@ -42,10 +42,10 @@ impl Refused {
     }
 
     /// How many more there are than before.
-    pub fn since(&self, before: &Refused) -> Refused
+    pub fn since(&self, before: &RefusalValues) -> RefusalValues
         ensures { result ≡ more_than self.now before.now }
     {
-        Refused {
+        RefusalValues {
             busy: self.busy.saturating_sub(before.busy),
             clients: self.clients.saturating_sub(before.clients),
             greetings: self.greetings.saturating_sub(before.greetings),
@@ -56,17 +56,17 @@ impl Refused {
 
 /// The counts, which threads share. Nobody waits for them.
 #[derive(Drop)]
-pub(crate) struct Counts {
+pub(crate) struct RefusalCounters {
     busy: AtomicU64,
     clients: AtomicU64,
     greetings: AtomicU64,
     malformed: AtomicU64,
 }
 
-impl Counts {
+impl RefusalCounters {
     /// Nobody was refused.
-    pub(crate) fn new() -> Counts {
-        Counts {
+    pub(crate) fn new() -> RefusalCounters {
+        RefusalCounters {
             busy: AtomicU64::new(0),
             clients: AtomicU64::new(0),
             greetings: AtomicU64::new(0),
@@ -75,19 +75,19 @@ impl Counts {
     }
 
     /// A client was refused so.
-    pub(crate) fn add(&self, why: Why) {
+    pub(crate) fn add(&self, why: RefusalReason) {
         let count = match why {
-            Why::Busy => &self.busy,
-            Why::Clients => &self.clients,
-            Why::Greeting => &self.greetings,
-            Why::Malformed => &self.malformed,
+            RefusalReason::Busy => &self.busy,
+            RefusalReason::Clients => &self.clients,
+            RefusalReason::Greeting => &self.greetings,
+            RefusalReason::Malformed => &self.malformed,
         };
         let _ = count.fetch_add(1, Ordering::SeqCst);
     }
 
     /// The counts now.
-    pub(crate) fn now(&self) -> Refused {
-        Refused {
+    pub(crate) fn now(&self) -> RefusalValues {
+        RefusalValues {
             busy: self.busy.load(Ordering::SeqCst),
             clients: self.clients.load(Ordering::SeqCst),
             greetings: self.greetings.load(Ordering::SeqCst),
@@ -97,7 +97,7 @@ impl Counts {
 }
 
 /// Why the reply refuses its client, if that is for an operator to know.
-pub(crate) fn why_of(reply: &Reply) -> Option<Why>
+pub(crate) fn why_of(reply: &Reply) -> Option<RefusalReason>
     ensures { result ≡ why_of reply.now }
 {
     match reply {
@@ -113,21 +113,21 @@ pub(crate) fn why_of(reply: &Reply) -> Option<Why>
 }
 
 // Why a refusal of this code is sent, if that is for an operator to know.
-fn why_of_code(code: u8) -> Option<Why>
+fn why_of_code(code: u8) -> Option<RefusalReason>
     ensures { result ≡ why_of_code code }
 {
     if code == Refusal::Busy.code() {
-        Some(Why::Busy)
+        Some(RefusalReason::Busy)
     } else if code == Refusal::TooManyClients.code() {
-        Some(Why::Clients)
+        Some(RefusalReason::Clients)
     } else if code == Refusal::Malformed(0).code() {
-        Some(Why::Malformed)
+        Some(RefusalReason::Malformed)
     } else if code == Refusal::Version.code() {
-        Some(Why::Greeting)
+        Some(RefusalReason::Greeting)
     } else if code == Refusal::Known(0).code() {
-        Some(Why::Greeting)
+        Some(RefusalReason::Greeting)
     } else if code == Refusal::NoHello.code() {
-        Some(Why::Greeting)
+        Some(RefusalReason::Greeting)
     } else {
         None
     }

@@ -1,2 +1,2 @@
-pub mod Arrivals
-pub mod Course
+pub mod ServerEvents
+pub mod GreetingCourse

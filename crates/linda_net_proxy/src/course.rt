@@ -1,10 +1,10 @@
 //! Course of a link: which Hello it sends, and what follows if a greeting fails.
 
 ghost use Rattle.std.specs.Prelude.{◌≡◌};
-ghost use Rattle.linda_net_proxy.specs.Course as spec;
+ghost use Rattle.linda_net_proxy.specs.GreetingCourse as spec;
 
-use crate::arrivals::Arrival;
 use crate::fault::ProxyFault;
+use crate::server_events::ServerEvent;
 use linda_wire::{Message, Refusal, Reply, VERSION};
 
 /// How often a server is greeted whose connection was lost, a millisecond apart. A refusal Busy is
@@ -17,7 +17,7 @@ pub const FIRST_TRIES: u32 = 2_000;
 
 /// What follows of a greeting that failed.
 #[derive(Clone, Copy, Debug, PartialEq, Eq)]
-pub(crate) enum Next {
+pub(crate) enum GreetingStep {
     /// It is made again.
     Again,
     /// There is no connection. The server is greeted again once that is asked for.
@@ -28,7 +28,7 @@ pub(crate) enum Next {
 
 /// What counts of the greetings so far.
 #[derive(Clone, Copy, Debug, PartialEq, Eq)]
-pub(crate) struct Course {
+pub(crate) struct GreetingCourse {
     // The client was never used before.
     fresh: bool,
     // A Hello may have reached the server.
@@ -37,12 +37,12 @@ pub(crate) struct Course {
     left: u32,
 }
 
-impl Course {
+impl GreetingCourse {
     /// No greeting yet, of a client that was never used before, or of one that goes on.
-    pub(crate) fn new(fresh: bool) -> Course
+    pub(crate) fn new(fresh: bool) -> GreetingCourse
         ensures { result ≡ spec.begun fresh }
     {
-        Course {
+        GreetingCourse {
             fresh,
             is_met: false,
             left: FIRST_TRIES,
@@ -65,15 +65,15 @@ impl Course {
     }
 
     /// A greeting has failed so. What follows.
-    pub(crate) fn fail(&mut self, fault: ProxyFault) -> Next
+    pub(crate) fn fail(&mut self, fault: ProxyFault) -> GreetingStep
         ensures { (result, self.new) ≡ spec.after self.old fault }
     {
         if fault == ProxyFault::Lost && !self.is_met {
             self.welcome();
-            return Next::Again;
+            return GreetingStep::Again;
         }
         if !self.may_try_again(fault) {
-            return Next::Over;
+            return GreetingStep::Over;
         }
         self.count()
     }
@@ -94,18 +94,18 @@ impl Course {
     }
 
     // One more greeting has failed. What follows.
-    fn count(&mut self) -> Next
+    fn count(&mut self) -> GreetingStep
         ensures { (result, self.new) ≡ spec.failed self.old }
     {
         if self.left > 1 {
             self.left -= 1;
-            return Next::Again;
+            return GreetingStep::Again;
         }
         if self.is_met {
             self.left = MAX_TRIES;
-            return Next::Later;
+            return GreetingStep::Later;
         }
-        Next::Over
+        GreetingStep::Over
     }
 }
 
@@ -133,13 +133,13 @@ pub(crate) fn welcome_in(reply: &Reply) -> Result<u64, ProxyFault>
 }
 
 /// What is brought of a server that is given up for this fault.
-pub(crate) fn arrival_of(fault: ProxyFault) -> Arrival
+pub(crate) fn arrival_of(fault: ProxyFault) -> ServerEvent
     ensures { result ≡ spec.arrival_of fault }
 {
     match fault {
-        ProxyFault::Refused(code, detail) => Arrival::Refused(code, detail),
-        ProxyFault::NotAServer => Arrival::NotAServer,
-        ProxyFault::Memory => Arrival::Memory,
-        ProxyFault::Unreachable | ProxyFault::Lost => Arrival::NoConnection,
+        ProxyFault::Refused(code, detail) => ServerEvent::Refused(code, detail),
+        ProxyFault::NotAServer => ServerEvent::NotAServer,
+        ProxyFault::Memory => ServerEvent::Memory,
+        ProxyFault::Unreachable | ProxyFault::Lost => ServerEvent::NoConnection,
     }
 }

@@ -1,31 +1,31 @@
 //! Inbox for what comes from all servers of a client, in order of arrival.
 
-use crate::arrivals::{Arrival, Arrivals};
+use crate::server_events::{ServerEvent, ServerEvents};
 use std::alloc::Global;
 use std::sync::{Condvar, CondvarTimeouts, Mutex, Wait};
 use std::time::{Clock, Duration};
 
 /// What an inbox keeps under its lock.
 #[derive(Drop)]
-struct Kept {
-    arrivals: Arrivals,
+struct InboxState {
+    arrivals: ServerEvents,
     // Nobody takes any more.
     is_over: bool,
 }
 
 /// The arrivals of all servers, which the threads of their connections bring and one thread takes.
 #[derive(Drop)]
-pub struct Inbox {
-    kept: Mutex<Kept>,
+pub struct EventInbox {
+    kept: Mutex<InboxState>,
     arrived: Condvar,
 }
 
-impl Inbox {
+impl EventInbox {
     /// Nothing has come yet.
-    pub fn new(alloc: Global) -> Inbox {
-        Inbox {
-            kept: Mutex::new(Kept {
-                arrivals: Arrivals::new(alloc),
+    pub fn new(alloc: Global) -> EventInbox {
+        EventInbox {
+            kept: Mutex::new(InboxState {
+                arrivals: ServerEvents::new(alloc),
                 is_over: false,
             }),
             arrived: Condvar::new(),
@@ -33,14 +33,14 @@ impl Inbox {
     }
 
     /// Brings what came from a server.
-    pub fn bring(&self, rt: &impl Wait, server: u32, arrival: Arrival) {
+    pub fn bring(&self, rt: &impl Wait, server: u32, arrival: ServerEvent) {
         self.kept.lock(rt).arrivals.bring(server, arrival);
         self.arrived.notify_one();
     }
 
     /// What came first, after the number of its server; `None` where nothing has come for a
     /// millisecond.
-    pub fn take<R: Wait + Clock>(&self, rt: &R) -> Option<(u32, Arrival)> {
+    pub fn take<R: Wait + Clock>(&self, rt: &R) -> Option<(u32, ServerEvent)> {
         let (mut kept, _) = self.arrived.wait_timeout_while(
             rt,
             self.kept.lock(rt),
@@ -52,7 +52,7 @@ impl Inbox {
 
     /// What came first, after the number of its server; `None` if nothing waits. It waits for
     /// nobody.
-    pub fn take_now(&self, rt: &impl Wait) -> Option<(u32, Arrival)> {
+    pub fn take_now(&self, rt: &impl Wait) -> Option<(u32, ServerEvent)> {
         self.kept.lock(rt).arrivals.take()
     }
 

@@ -2,11 +2,11 @@
 
 ghost use Rattle.std.specs.Prelude.{◌≡◌, None, Some};
 
-use crate::arrivals::Arrival;
-use crate::course::{Course, Next, arrival_of};
+use crate::course::{GreetingCourse, GreetingStep, arrival_of};
 use crate::fault::ProxyFault;
-use crate::inbox::Inbox;
+use crate::inbox::EventInbox;
 use crate::proxy::{Proxy, end, send};
+use crate::server_events::ServerEvent;
 use linda_wire::Message;
 use std::alloc::{AllocError, Global};
 use std::net::{Net, TcpStream};
@@ -20,7 +20,7 @@ const LOOK: u64 = 10;
 
 /// The connection to one server. One thread keeps it up, another sends.
 #[derive(Drop)]
-pub struct Link {
+pub struct ServerLink {
     server: u32,
     port: u16,
     // Where the server listens in place of a port: on a unix socket at this path.
@@ -29,30 +29,30 @@ pub struct Link {
     // The client was never used before.
     fresh: bool,
     // The connection that there is.
-    connection: Mutex<Option<Connection>>,
+    connection: Mutex<Option<LinkConnection>>,
     // The server was given up, and is to be tried again.
     retries: Mutex<bool>,
 }
 
 // A connection, for whoever sends or ends it.
 #[derive(Drop)]
-struct Connection {
+struct LinkConnection {
     stream: TcpStream,
     // The server has welcomed the client on it.
     is_greeted: bool,
 }
 
-impl Link {
+impl ServerLink {
     /// No connection yet, to the server of this number, which listens on this port; of a client
     /// that was never used before, or of one that goes on.
-    pub fn new(server: u32, port: u16, client: u32, fresh: bool) -> Link
+    pub fn new(server: u32, port: u16, client: u32, fresh: bool) -> ServerLink
         ensures server { result.server ≡ server }
         ensures port { result.port ≡ port }
         ensures path { result.path ≡ None }
         ensures client { result.client ≡ client }
         ensures fresh { result.fresh ≡ fresh }
     {
-        Link {
+        ServerLink {
             server,
             port,
             path: None,
@@ -64,13 +64,13 @@ impl Link {
     }
 
     /// As `new` makes it, to a server that listens on the unix socket at this path.
-    pub fn at(server: u32, path: String, client: u32, fresh: bool) -> Link
+    pub fn at(server: u32, path: String, client: u32, fresh: bool) -> ServerLink
         ensures server { result.server ≡ server }
         ensures path { result.path ≡ Some path }
         ensures client { result.client ≡ client }
         ensures fresh { result.fresh ≡ fresh }
     {
-        let mut link = Link::new(server, 0, client, fresh);
+        let mut link = ServerLink::new(server, 0, client, fresh);
         link.path = Some(path);
         link
     }
@@ -125,9 +125,9 @@ impl Link {
         &self,
         rt: &R,
         alloc: Global,
-        inbox: &Inbox,
+        inbox: &EventInbox,
     ) {
-        let mut course = Course::new(self.fresh);
+        let mut course = GreetingCourse::new(self.fresh);
         for _ in rt.forever() {
             if inbox.is_over(rt) {
                 return;
@@ -151,20 +151,20 @@ impl Link {
     fn goes_on<R: Wait + Clock>(
         &self,
         rt: &R,
-        inbox: &Inbox,
-        next: Next,
+        inbox: &EventInbox,
+        next: GreetingStep,
         fault: ProxyFault,
     ) -> bool {
         match next {
-            Next::Again => {
+            GreetingStep::Again => {
                 thread::sleep(rt, Duration::from_millis(1));
                 true
             }
-            Next::Later => {
-                inbox.bring(rt, self.server, Arrival::NoConnection);
+            GreetingStep::Later => {
+                inbox.bring(rt, self.server, ServerEvent::NoConnection);
                 self.wait_retry(rt, inbox)
             }
-            Next::Over => {
+            GreetingStep::Over => {
                 inbox.bring(rt, self.server, arrival_of(fault));
                 false
             }
@@ -172,14 +172,14 @@ impl Link {
     }
 
     // Brings what comes over a greeted connection until it ends.
-    fn follow(&self, rt: &impl Wait, alloc: Global, inbox: &Inbox, proxy: Proxy) {
+    fn follow(&self, rt: &impl Wait, alloc: Global, inbox: &EventInbox, proxy: Proxy) {
         let mut proxy = proxy;
         self.listen(rt, alloc, inbox, &mut proxy);
         self.let_go(rt);
     }
 
     // Waits until the server is to be tried again. Says whether it is: else nobody takes any more.
-    fn wait_retry<R: Wait + Clock>(&self, rt: &R, inbox: &Inbox) -> bool {
+    fn wait_retry<R: Wait + Clock>(&self, rt: &R, inbox: &EventInbox) -> bool {
         for _ in rt.forever() {
             if inbox.is_over(rt) {
                 return false;
@@ -201,12 +201,12 @@ impl Link {
     }
 
     // Brings what comes until the connection ends.
-    fn listen(&self, rt: &impl Wait, alloc: Global, inbox: &Inbox, proxy: &mut Proxy) {
+    fn listen(&self, rt: &impl Wait, alloc: Global, inbox: &EventInbox, proxy: &mut Proxy) {
         for _ in rt.forever() {
             match proxy.receive(alloc) {
-                Ok(reply) => inbox.bring(rt, self.server, Arrival::Came(reply)),
+                Ok(reply) => inbox.bring(rt, self.server, ServerEvent::Came(reply)),
                 Err(ProxyFault::Memory) => {
-                    inbox.bring(rt, self.server, Arrival::Memory);
+                    inbox.bring(rt, self.server, ServerEvent::Memory);
                     return;
                 }
                 Err(_) => return,
@@ -220,12 +220,12 @@ impl Link {
         &self,
         rt: &R,
         alloc: Global,
-        inbox: &Inbox,
+        inbox: &EventInbox,
         fresh: bool,
     ) -> Result<Proxy, ProxyFault> {
         let mut proxy = self.connect(rt, alloc)?;
         let stream = proxy.sender()?;
-        *self.connection.lock(rt) = Some(Connection {
+        *self.connection.lock(rt) = Some(LinkConnection {
             stream,
             is_greeted: false,
         });
@@ -234,7 +234,7 @@ impl Link {
         }
         let last = proxy.greet(alloc, self.client, fresh)?;
         self.welcome(rt);
-        inbox.bring(rt, self.server, Arrival::Greeted(last));
+        inbox.bring(rt, self.server, ServerEvent::Greeted(last));
         Ok(proxy)
     }
 

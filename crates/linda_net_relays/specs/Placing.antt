@@ -1,7 +1,7 @@
 -- Places of connections among the loops.
 use Rattle.std.specs.Prelude.{◌==◌, ◌&&◌, ◌||◌, nat_lt, nat_le, if◌then◌else◌}
-use Rattle.linda_net_relays.specs.declared.relays.Load.{Load}
-use Rattle.linda_net_relays.specs.declared.relays.TheConstants.{FEW}
+use Rattle.linda_net_relays.specs.declared.loop_directory.Load.{Load}
+use Rattle.linda_net_relays.specs.declared.loop_directory.TheConstants.{FEW}
 
 -- Which of two loops the next connection goes to: the first loop as long as it has few, else the
 -- one that has fewer, and of two that have as many the one that comes first.

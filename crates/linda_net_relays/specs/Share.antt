@@ -1,6 +1,6 @@
 -- Shares of a turn: how much a loop takes, before it looks at others.
 use Rattle.std.specs.Prelude.{ℕ, ◌+◌, ◌*◌, ◌/◌, ◌&&◌, min, max, nat_lt, nat_le, Bool, if◌then◌else◌}
-use Rattle.linda_net_relays.specs.declared.share.Pace.{Pace}
+use Rattle.linda_net_relays.specs.declared.share.GroupPace.{GroupPace}
 use Rattle.linda_net_relays.specs.declared.share.TheConstants.{MOST_ASKS}
 
 -- More is taken if less than 1 MiB was read and answered, or is to be answered, and Asks took less
@@ -11,7 +11,7 @@ has_left read planned told micros =
 
 -- After a group of Asks that took 5 milliseconds the next has one. It may have twice as many after
 -- 256 groups that took less than a millisecond each, one after the other, and one more.
-abbrev pub pace_after : Pace → ℕ → Pace
+abbrev pub pace_after : GroupPace → ℕ → GroupPace
 pace_after pace micros =
     if nat_le 5_000 micros then record { asks = 1; calm = 0 }
     else (if nat_le 1_000 micros then record { asks = pace.asks; calm = 0 }

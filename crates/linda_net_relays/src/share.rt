@@ -24,7 +24,7 @@ const FAST: u64 = 1_000;
 
 /// How many Asks and Cancels go as one group, and how many groups were fast since that changed.
 #[derive(Clone, Copy)]
-pub struct Pace {
+pub struct GroupPace {
     pub asks: usize,
     pub calm: u32,
 }
@@ -40,7 +40,7 @@ pub struct Share {
     told: u64,
     // How many microseconds Asks and Cancels took.
     micros: u64,
-    pace: Pace,
+    pace: GroupPace,
 }
 
 impl Share {
@@ -51,7 +51,7 @@ impl Share {
             planned: 0,
             told: 0,
             micros: 0,
-            pace: Pace {
+            pace: GroupPace {
                 asks: MOST_ASKS,
                 calm: 0,
             },
@@ -107,25 +107,25 @@ fn has_left(read: u64, planned: u64, told: u64, micros: u64) -> bool
 }
 
 // How many Asks and Cancels go as one group, after one that took so long.
-fn pace_after(pace: Pace, micros: u64) -> Pace
+fn pace_after(pace: GroupPace, micros: u64) -> GroupPace
     ensures { result ≡ pace_after pace micros }
 {
     if micros >= MOST_MICROS {
-        return Pace { asks: 1, calm: 0 };
+        return GroupPace { asks: 1, calm: 0 };
     }
     if micros >= FAST {
-        return Pace {
+        return GroupPace {
             asks: pace.asks,
             calm: 0,
         };
     }
     if pace.calm >= MOST_CALM {
-        return Pace {
+        return GroupPace {
             asks: pace.asks.saturating_mul(2).min(MOST_ASKS),
             calm: 0,
         };
     }
-    Pace {
+    GroupPace {
         asks: pace.asks,
         calm: pace.calm + 1,
     }

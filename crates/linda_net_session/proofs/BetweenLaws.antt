@@ -4,9 +4,9 @@ use Rattle.std.proofs.lemmas.List.{take-append-drop}
 use Rattle.linda_wire.specs.declared.message.Message.{Message}
 use Rattle.linda_wire.specs.Stream.{Front, Partial, Whole, Broken, message_front}
 use Rattle.linda_wire.specs.declared.refusal.Refusal.{Refusal}
-use Rattle.linda_net_session.specs.declared.end.End.{End}
-use Rattle.linda_net_session.specs.declared.end.End.TheVariants as ends
-use Rattle.linda_net_session.specs.declared.route.Room.{Room}
+use Rattle.linda_net_session.specs.declared.end.SessionEnd.{SessionEnd}
+use Rattle.linda_net_session.specs.declared.end.SessionEnd.TheVariants as ends
+use Rattle.linda_net_session.specs.declared.route.OpenWays.{OpenWays}
 use Rattle.linda_net_session.specs.declared.route.Route.{Route}
 use Rattle.linda_net_session.specs.declared.route.Route.TheVariants as routes
 use Rattle.linda_net_session.specs.Session.{Session, word_of, is_open, is_fed, may_take, came, shut, ended, ended_by, broken, at_rest, took, wrote}
@@ -43,17 +43,17 @@ keeps_broken old new eq = is_then old (broken old) new (refl, refl, refl, refl) 
 
 -- ---- what is taken
 
-by_front : (front : Front Message) (room : Room) (old new : Session) → Waits room old front new → TakesNothing old new
+by_front : (front : Front Message) (room : OpenWays) (old new : Session) → Waits room old front new → TakesNothing old new
 by_front Partial room old new eq = is_then old (at_rest old) new (refl, refl, refl, refl) eq
 by_front (Whole m rest) room old new (inl stays) = is_then old old new (same old) stays.1
 by_front (Whole m rest) room old new (inr eq) = keeps_ended old new eq
 by_front (Broken fault) room old new eq = is_then old (ended (word_of fault) old) new (refl, refl, refl, refl) eq
 
-by_open : (may : Bool) (room : Room) (old new : Session) → WaitsBy may room old new → TakesNothing old new
+by_open : (may : Bool) (room : OpenWays) (old new : Session) → WaitsBy may room old new → TakesNothing old new
 by_open true room old new waits = by_front (message_front old.unread) room old new waits
 by_open false room old new eq = is_then old old new (same old) eq
 
-pub keeps_waiting : (room : Room) (old new : Session) → Nexts room old None new → TakesNothing old new
+pub keeps_waiting : (room : OpenWays) (old new : Session) → Nexts room old None new → TakesNothing old new
 keeps_waiting room old new waits = by_open (may_take old) room old new waits
 
 leads_taken : (route : Route) (s new : Session) → Leads route s new → new.taken ≡ s.taken
@@ -64,7 +64,7 @@ leads_taken (routes.Goes way) s new eq = ap (λ (x : Session). x.taken) eq
 leads_taken routes.Keep s new eq = ap (λ (x : Session). x.taken) eq
 
 -- After calls that took nothing a message was taken.
-pub taken_next : (room : Room) (old mid new : Session) (m : Message) (route : Route) → TakesNothing old mid → Takes room mid m route new
+pub taken_next : (room : OpenWays) (old mid new : Session) (m : Message) (route : Route) → TakesNothing old mid → Takes room mid m route new
     → TakesOne old m route new
 taken_next room old mid new m route nothing takes =
     leads_taken route (took m takes.rest (placed room m mid) mid) new takes.leads
@@ -97,7 +97,7 @@ sends_broken old new eq = subst (λ (s : Session). Sends old s) (sym eq) (refl, 
 
 -- ---- the end
 
-pub closed_by_end : (word : Option Refusal) (e : End) → is_open (ended_by word e) ≡ false
+pub closed_by_end : (word : Option Refusal) (e : SessionEnd) → is_open (ended_by word e) ≡ false
 closed_by_end word ends.Never = refl
 closed_by_end word ends.Shut = refl
 closed_by_end word (ends.Ending None) = refl

@@ -9,16 +9,16 @@ use Rattle.linda_wire.specs.declared.refusal.Refusal.{Refusal}
 use Rattle.linda_wire.specs.declared.reply.Reply.{Reply}
 use Rattle.linda_wire.specs.Frames.{message_frame, reply_frame, FitsMessage}
 use Rattle.linda_wire.specs.Stream.{payload_len, Partial, Whole, message_front}
-use Rattle.linda_net_session.specs.declared.end.End.{End}
-use Rattle.linda_net_session.specs.declared.end.End.TheVariants as ends
+use Rattle.linda_net_session.specs.declared.end.SessionEnd.{SessionEnd}
+use Rattle.linda_net_session.specs.declared.end.SessionEnd.TheVariants as ends
 use Rattle.linda_net_session.specs.declared.phase.TheConstants.{MOST_ASKED}
 use Rattle.linda_net_session.specs.declared.phase.Phase.{Phase}
 use Rattle.linda_net_session.specs.declared.phase.Phase.TheVariants as phases
 use Rattle.linda_net_session.specs.declared.phase.Way.{Way}
 use Rattle.linda_net_session.specs.declared.phase.Way.TheVariants as ways
-use Rattle.linda_net_session.specs.declared.route.Kind.{Kind}
-use Rattle.linda_net_session.specs.declared.route.Kind.TheVariants as kinds
-use Rattle.linda_net_session.specs.declared.route.Room.{Room}
+use Rattle.linda_net_session.specs.declared.route.MessageKind.{MessageKind}
+use Rattle.linda_net_session.specs.declared.route.MessageKind.TheVariants as kinds
+use Rattle.linda_net_session.specs.declared.route.OpenWays.{OpenWays}
 use Rattle.linda_net_session.specs.declared.route.Route.{Route}
 use Rattle.linda_net_session.specs.Place.{on_way, answered, place, place_ask, place_deed}
 use Rattle.linda_net_session.specs.Session.{Session, messages, is_closed, ended_by, shut_by, rested, begun, ended, shut, at_rest, in_phase, took, said, broken, wrote, session_of, unread_of}
@@ -41,7 +41,7 @@ begun_lawful = record {
 
 -- ---- another end, another phase
 
-said_ended : (word : Option Refusal) (e : End) (told : List Reply) (sent pending : List ℕ)
+said_ended : (word : Option Refusal) (e : SessionEnd) (told : List Reply) (sent pending : List ℕ)
     → HasSaid e told sent pending → HasSaid (ended_by word e) told sent pending
 said_ended word ends.Never told sent pending h = h
 said_ended word ends.Shut told sent pending h = h
@@ -50,7 +50,7 @@ said_ended word (ends.Ending (Some other)) told sent pending h = h
 said_ended word (ends.Told other) told sent pending h = h
 said_ended word ends.Broken told sent pending h = h
 
-last_ended : (word : Option Refusal) (e : End) (told : List Reply) → HasLast e told → HasLast (ended_by word e) told
+last_ended : (word : Option Refusal) (e : SessionEnd) (told : List Reply) → HasLast e told → HasLast (ended_by word e) told
 last_ended word ends.Never told h = tt
 last_ended word ends.Shut told h = tt
 last_ended word (ends.Ending None) told h = tt
@@ -67,14 +67,14 @@ ended_lawful word s l = record {
   rest = l.rest;
 }
 
-said_shut : (e : End) (told : List Reply) (sent pending : List ℕ) → HasSaid e told sent pending → HasSaid (shut_by e) told sent pending
+said_shut : (e : SessionEnd) (told : List Reply) (sent pending : List ℕ) → HasSaid e told sent pending → HasSaid (shut_by e) told sent pending
 said_shut ends.Never told sent pending h = h
 said_shut ends.Shut told sent pending h = h
 said_shut (ends.Ending word) told sent pending h = h
 said_shut (ends.Told word) told sent pending h = h
 said_shut ends.Broken told sent pending h = h
 
-last_shut : (e : End) (told : List Reply) → HasLast e told → HasLast (shut_by e) told
+last_shut : (e : SessionEnd) (told : List Reply) → HasLast e told → HasLast (shut_by e) told
 last_shut ends.Never told h = tt
 last_shut ends.Shut told h = tt
 last_shut (ends.Ending word) told h = tt
@@ -90,14 +90,14 @@ shut_lawful s l = record {
   rest = l.rest;
 }
 
-said_rested : (e : End) (told : List Reply) (sent pending : List ℕ) → HasSaid e told sent pending → HasSaid (rested e) told sent pending
+said_rested : (e : SessionEnd) (told : List Reply) (sent pending : List ℕ) → HasSaid e told sent pending → HasSaid (rested e) told sent pending
 said_rested ends.Never told sent pending h = h
 said_rested ends.Shut told sent pending h = h
 said_rested (ends.Ending word) told sent pending h = h
 said_rested (ends.Told word) told sent pending h = h
 said_rested ends.Broken told sent pending h = h
 
-last_rested : (e : End) (told : List Reply) → HasLast e told → HasLast (rested e) told
+last_rested : (e : SessionEnd) (told : List Reply) → HasLast e told → HasLast (rested e) told
 last_rested ends.Never told h = tt
 last_rested ends.Shut told h = tt
 last_rested (ends.Ending word) told h = tt
@@ -171,7 +171,7 @@ said_lawful r s is l = record {
         ∙ ap (λ (before : List ℕ). before ++ reply_frame r) h
         ∙ append_assoc sent pending (reply_frame r)
 
-    more : (e : End) (told : List Reply) (sent pending : List ℕ) → is_closed e ≡ false
+    more : (e : SessionEnd) (told : List Reply) (sent pending : List ℕ) → is_closed e ≡ false
         → HasSaid e told sent pending → HasSaid e (told ++ r ∷ []) sent (pending ++ reply_frame r)
     more ends.Never told sent pending is h = frames_more told sent pending h
     more ends.Shut told sent pending is h = frames_more told sent pending h
@@ -179,7 +179,7 @@ said_lawful r s is l = record {
     more (ends.Told word) told sent pending is h = absurd cc
     more ends.Broken told sent pending is h = absurd cc
 
-    open_last : (e : End) (told : List Reply) → is_closed e ≡ false → HasLast e told
+    open_last : (e : SessionEnd) (told : List Reply) → is_closed e ≡ false → HasLast e told
     open_last ends.Never told is = tt
     open_last ends.Shut told is = tt
     open_last (ends.Ending word) told is = tt
@@ -187,7 +187,7 @@ said_lawful r s is l = record {
     open_last ends.Broken told is = tt
 
 -- what went out is the front of the frames of what was told
-pub went_out : (e : End) (told : List Reply) (sent pending : List ℕ) → HasSaid e told sent pending
+pub went_out : (e : SessionEnd) (told : List Reply) (sent pending : List ℕ) → HasSaid e told sent pending
     → IsPrefixOf sent (flat_map reply_frame told)
 went_out ends.Never told sent pending h = (pending, h)
 went_out ends.Shut told sent pending h = (pending, h)
@@ -215,7 +215,7 @@ told_lawful word s l is h = record {
   rest = l.rest;
 }
   where
-    all_said : (e : End) → is_closed e ≡ false → HasSaid e s.told s.sent s.pending
+    all_said : (e : SessionEnd) → is_closed e ≡ false → HasSaid e s.told s.sent s.pending
         → flat_map reply_frame s.told ≡ s.sent ++ s.pending
     all_said ends.Never is h = h
     all_said ends.Shut is h = h
@@ -254,7 +254,7 @@ wrote_lawful count s within l = record {
         ap (λ (all : List ℕ). sent ++ all) (sym (take-append-drop count pending))
         ∙ sym (append_assoc sent (take count pending) (drop count pending))
 
-    on : (e : End) (pending : List ℕ) → count ≤ length pending → HasSaid e s.told s.sent pending
+    on : (e : SessionEnd) (pending : List ℕ) → count ≤ length pending → HasSaid e s.told s.sent pending
         → HasSaid e s.told (s.sent ++ take count pending) (drop count pending)
     on ends.Never pending within h = h ∙ split s.sent pending
     on ends.Shut pending within h = h ∙ split s.sent pending
@@ -273,7 +273,7 @@ few_deeds_after : (asks deeds : ℕ) (has_room : Bool) → asks + deeds ≤ MOST
 few_deeds_after asks deeds has_room few = grind (arith, few)
 
 -- few are on their way after one more was placed
-pub placed_few : (p : Phase) (kind : Kind) (room : Room) → on_way p ≤ MOST_ASKED → on_way (place p kind room).1 ≤ MOST_ASKED
+pub placed_few : (p : Phase) (kind : MessageKind) (room : OpenWays) → on_way p ≤ MOST_ASKED → on_way (place p kind room).1 ≤ MOST_ASKED
 placed_few phases.Fresh kind room few = omega arith
 placed_few phases.Greeting kind room few = few
 placed_few (phases.Open asks deeds) kinds.Hello room few = grind (arith, few)
@@ -315,7 +315,7 @@ told_more : (tells : List (Reply × Unit {0})) (r : Reply) → map (λ t. t.0) (
 told_more tells r = map-append (λ (t : Reply × Unit {0}). t.0) tells ((r, tt) ∷ [])
 
 pub say_keeps : (reads : List (List ℕ × ℕ)) (held : Option Message) (feed : List ℕ) (takes : List (Message × Route)) (tells tells' : List (Reply × Unit {0}))
-    (writes : List (List ℕ × ℕ)) (out out' : List ℕ) (phase : Phase) (end : End) (may_have : Bool) (r : Reply)
+    (writes : List (List ℕ × ℕ)) (out out' : List ℕ) (phase : Phase) (end : SessionEnd) (may_have : Bool) (r : Reply)
     → tells' ≡ tells ++ (r, tt) ∷ [] → out' ≡ out ++ reply_frame r → is_closed end ≡ false
     → IsLawful (session_of reads held feed takes tells writes out phase end may_have) → IsLawful (session_of reads held feed takes tells' writes out' phase end may_have)
 say_keeps reads held feed takes tells tells' writes out out' phase end may_have r more grown still l =
@@ -325,7 +325,7 @@ say_keeps reads held feed takes tells tells' writes out out' phase end may_have 
     )
 
 pub sent_keeps : (reads : List (List ℕ × ℕ)) (held : Option Message) (feed : List ℕ) (takes : List (Message × Route)) (tells : List (Reply × Unit {0}))
-    (writes writes' : List (List ℕ × ℕ)) (out out' : List ℕ) (phase : Phase) (end : End) (may_have : Bool) (count : ℕ)
+    (writes writes' : List (List ℕ × ℕ)) (out out' : List ℕ) (phase : Phase) (end : SessionEnd) (may_have : Bool) (count : ℕ)
     → writes' ≡ writes ++ (out, count) ∷ [] → out' ≡ drop count out → count ≤ length out
     → IsLawful (session_of reads held feed takes tells writes out phase end may_have) → IsLawful (session_of reads held feed takes tells writes' out' phase end may_have)
 sent_keeps reads held feed takes tells writes writes' out out' phase end may_have count more fewer within l =
@@ -336,7 +336,7 @@ sent_keeps reads held feed takes tells writes writes' out out' phase end may_hav
 
 -- a session whose message was taken
 pub took_is : (reads : List (List ℕ × ℕ)) (held held' : Option Message) (feed feed' : List ℕ) (takes takes' : List (Message × Route)) (tells : List (Reply × Unit {0}))
-    (writes : List (List ℕ × ℕ)) (out : List ℕ) (phase : Phase) (end : End) (may_have : Bool) (m : Message) (p q : Route × Phase)
+    (writes : List (List ℕ × ℕ)) (out : List ℕ) (phase : Phase) (end : SessionEnd) (may_have : Bool) (m : Message) (p q : Route × Phase)
     → held' ≡ None → takes' ≡ takes ++ (m, p.0) ∷ [] → p ≡ q
     → session_of reads held' feed' takes' tells writes out p.1 end may_have ≡ took m feed' q (session_of reads held feed takes tells writes out phase end may_have)
 took_is reads held held' feed feed' takes takes' tells writes out phase end may_have m p q none more same = rw (none, more, same) refl

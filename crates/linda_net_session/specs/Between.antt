@@ -1,7 +1,7 @@
 -- Sessions between two moments: what was taken, and what went out.
 use Rattle.std.specs.Prelude.{◌≡◌, ◌⊎◌, ◌++◌, ◌∷◌, []}
 use Rattle.linda_wire.specs.declared.message.Message.{Message}
-use Rattle.linda_net_session.specs.declared.end.End.TheVariants as ends
+use Rattle.linda_net_session.specs.declared.end.SessionEnd.TheVariants as ends
 use Rattle.linda_net_session.specs.declared.route.Route.{Route}
 use Rattle.linda_net_session.specs.Session.{Session}
 use Rattle.linda_net_session.specs.Turns.{Finishes}

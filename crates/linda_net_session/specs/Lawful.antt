@@ -7,8 +7,8 @@ use Rattle.linda_wire.specs.declared.reply.Reply.{Reply}
 use Rattle.linda_wire.specs.Frames.{message_frame, reply_frame, FitsMessage}
 use Rattle.linda_wire.specs.Refusal.{refused}
 use Rattle.linda_wire.specs.Stream.{Partial, HasNoValue, message_front}
-use Rattle.linda_net_session.specs.declared.end.End.{End}
-use Rattle.linda_net_session.specs.declared.end.End.TheVariants as ends
+use Rattle.linda_net_session.specs.declared.end.SessionEnd.{SessionEnd}
+use Rattle.linda_net_session.specs.declared.end.SessionEnd.TheVariants as ends
 use Rattle.linda_net_session.specs.declared.phase.TheConstants.{MOST_ASKED}
 use Rattle.linda_net_session.specs.Place.{on_way}
 use Rattle.linda_net_session.specs.Session.{Session, messages}
@@ -24,7 +24,7 @@ pub record IsReading (bytes : List ℕ) (ms : List Message) (rest : List ℕ) : 
 
 -- What went out and what waits are the frames of what was told; of a broken session, what went out
 -- is the front of them.
-abbrev pub HasSaid : End → List Reply → List ℕ → List ℕ → Type 0
+abbrev pub HasSaid : SessionEnd → List Reply → List ℕ → List ℕ → Type 0
 HasSaid ends.Never told sent pending = flat_map reply_frame told ≡ sent ++ pending
 HasSaid ends.Shut told sent pending = flat_map reply_frame told ≡ sent ++ pending
 HasSaid (ends.Ending word) told sent pending = flat_map reply_frame told ≡ sent ++ pending
@@ -33,7 +33,7 @@ HasSaid ends.Broken told sent pending =
     (pending ≡ []) × IsPrefixOf sent (flat_map reply_frame told)
 
 -- The last word, if there is one, is the last reply that was told.
-abbrev pub HasLast : End → List Reply → Type 0
+abbrev pub HasLast : SessionEnd → List Reply → Type 0
 HasLast ends.Never told = Unit {0}
 HasLast ends.Shut told = Unit {0}
 HasLast (ends.Ending word) told = Unit {0}

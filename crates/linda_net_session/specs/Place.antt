@@ -7,9 +7,9 @@ use Rattle.linda_net_session.specs.declared.phase.Phase.{Phase}
 use Rattle.linda_net_session.specs.declared.phase.Phase.TheVariants as phases
 use Rattle.linda_net_session.specs.declared.phase.Way.{Way}
 use Rattle.linda_net_session.specs.declared.phase.Way.TheVariants as ways
-use Rattle.linda_net_session.specs.declared.route.Kind.{Kind}
-use Rattle.linda_net_session.specs.declared.route.Kind.TheVariants as kinds
-use Rattle.linda_net_session.specs.declared.route.Room.{Room}
+use Rattle.linda_net_session.specs.declared.route.MessageKind.{MessageKind}
+use Rattle.linda_net_session.specs.declared.route.MessageKind.TheVariants as kinds
+use Rattle.linda_net_session.specs.declared.route.OpenWays.{OpenWays}
 use Rattle.linda_net_session.specs.declared.route.Route.{Route}
 use Rattle.linda_net_session.specs.declared.route.Route.TheVariants as routes
 
@@ -27,7 +27,7 @@ answered ways.Asks (phases.Open asks deeds) = phases.Open (asks - 1) deeds
 answered ways.Deeds (phases.Open asks deeds) = phases.Open asks (deeds - 1)
 
 -- A Hello, a message that bears no number, or one that does.
-abbrev pub kind_of : Message → Kind
+abbrev pub kind_of : Message → MessageKind
 kind_of (messages.Hello version client fresh) = kinds.Hello
 kind_of (messages.Out n tuple) = kinds.Deed
 kind_of (messages.Ask ticket remove template) = kinds.Ask
@@ -56,7 +56,7 @@ place_deed asks deeds has_room =
 -- Where a message goes, and how far its session is then. The first one greets, and nothing goes
 -- while that is on its way. A second Hello is refused, once all is answered. An Ask after a deed of
 -- its own session goes with the deeds.
-abbrev pub place : Phase → Kind → Room → Route × Phase
+abbrev pub place : Phase → MessageKind → OpenWays → Route × Phase
 place phases.Fresh kind room = (routes.Greet, phases.Greeting)
 place phases.Greeting kind room = (routes.Keep, phases.Greeting)
 place (phases.Open asks deeds) kinds.Hello room =

@@ -9,8 +9,8 @@ use Rattle.linda_wire.specs.declared.refusal.Refusal.{Refusal}
 use Rattle.linda_wire.specs.declared.refusal.Refusal.TheVariants as refusals
 use Rattle.linda_wire.specs.declared.reply.Reply.{Reply}
 use Rattle.linda_wire.specs.Frames.{message_frame, reply_frame}
-use Rattle.linda_net_session.specs.declared.end.End.{End}
-use Rattle.linda_net_session.specs.declared.end.End.TheVariants as ends
+use Rattle.linda_net_session.specs.declared.end.SessionEnd.{SessionEnd}
+use Rattle.linda_net_session.specs.declared.end.SessionEnd.TheVariants as ends
 use Rattle.linda_net_session.specs.declared.limits.TheConstants.{MOST_UNSENT}
 use Rattle.linda_net_session.specs.declared.phase.Phase.{Phase}
 use Rattle.linda_net_session.specs.declared.phase.Phase.TheVariants as phases
@@ -29,7 +29,7 @@ pub record Session : Type 0 where
   pub sent : List ℕ
   pub pending : List ℕ
   pub phase : Phase
-  pub ends : End
+  pub ends : SessionEnd
   -- no whole message is left, as was seen
   pub rests : Bool
 
@@ -40,7 +40,7 @@ messages taken = map (λ t. t.0) taken
 -- ---- the end
 
 -- Whether something may still be taken.
-abbrev pub is_open : End → Bool
+abbrev pub is_open : SessionEnd → Bool
 is_open ends.Never = true
 is_open ends.Shut = true
 is_open (ends.Ending word) = false
@@ -48,7 +48,7 @@ is_open (ends.Told word) = false
 is_open ends.Broken = false
 
 -- Whether more bytes may come.
-abbrev pub is_fed : End → Bool
+abbrev pub is_fed : SessionEnd → Bool
 is_fed ends.Never = true
 is_fed ends.Shut = false
 is_fed (ends.Ending word) = false
@@ -56,7 +56,7 @@ is_fed (ends.Told word) = false
 is_fed ends.Broken = false
 
 -- Whether nothing more is told.
-abbrev pub is_closed : End → Bool
+abbrev pub is_closed : SessionEnd → Bool
 is_closed ends.Never = false
 is_closed ends.Shut = false
 is_closed (ends.Ending word) = false
@@ -64,7 +64,7 @@ is_closed (ends.Told word) = true
 is_closed ends.Broken = true
 
 -- Nothing more is taken. The first word that there was is told last.
-abbrev pub ended_by : Option Refusal → End → End
+abbrev pub ended_by : Option Refusal → SessionEnd → SessionEnd
 ended_by word ends.Never = ends.Ending word
 ended_by word ends.Shut = ends.Ending word
 ended_by word (ends.Ending None) = ends.Ending word
@@ -73,7 +73,7 @@ ended_by word (ends.Told other) = ends.Told other
 ended_by word ends.Broken = ends.Broken
 
 -- No more bytes come.
-abbrev pub shut_by : End → End
+abbrev pub shut_by : SessionEnd → SessionEnd
 shut_by ends.Never = ends.Shut
 shut_by ends.Shut = ends.Shut
 shut_by (ends.Ending word) = ends.Ending word
@@ -81,7 +81,7 @@ shut_by (ends.Told word) = ends.Told word
 shut_by ends.Broken = ends.Broken
 
 -- No whole message is left: it ends, if no more bytes come.
-abbrev pub rested : End → End
+abbrev pub rested : SessionEnd → SessionEnd
 rested ends.Never = ends.Never
 rested ends.Shut = ends.Ending None
 rested (ends.Ending word) = ends.Ending word
@@ -195,7 +195,7 @@ unread_of (Some m) feed = message_frame m ++ feed
 -- A session with these fields. What came is a feed and how long it was before; what went out is
 -- what waited and how much of that went out.
 abbrev pub session_of : List (List ℕ × ℕ) → Option Message → List ℕ → List (Message × Route)
-    → List (Reply × Unit {0}) → List (List ℕ × ℕ) → List ℕ → Phase → End → Bool → Session
+    → List (Reply × Unit {0}) → List (List ℕ × ℕ) → List ℕ → Phase → SessionEnd → Bool → Session
 session_of reads held feed takes tells writes out phase end may_have = record {
   received = flat_map (λ r. drop r.1 r.0) reads;
   unread = unread_of held feed;

@@ -5,10 +5,10 @@ use Rattle.linda_wire.specs.declared.refusal.Refusal.TheVariants as refusals
 use Rattle.linda_wire.specs.declared.reply.Reply.{Reply}
 use Rattle.linda_wire.specs.Refusal.{refused}
 use Rattle.linda_wire.specs.Stream.{Front, Partial, Whole, Broken, message_front}
-use Rattle.linda_net_session.specs.declared.end.End.{End}
-use Rattle.linda_net_session.specs.declared.end.End.TheVariants as ends
+use Rattle.linda_net_session.specs.declared.end.SessionEnd.{SessionEnd}
+use Rattle.linda_net_session.specs.declared.end.SessionEnd.TheVariants as ends
 use Rattle.linda_net_session.specs.declared.phase.Phase.{Phase}
-use Rattle.linda_net_session.specs.declared.route.Room.{Room}
+use Rattle.linda_net_session.specs.declared.route.OpenWays.{OpenWays}
 use Rattle.linda_net_session.specs.declared.route.Route.{Route}
 use Rattle.linda_net_session.specs.declared.route.Route.TheVariants as routes
 use Rattle.linda_net_session.specs.Place.{place, kind_of, on_way, is_keep}
@@ -35,11 +35,11 @@ Leads (routes.Goes way) old new = new ≡ old
 Leads routes.Keep old new = new ≡ old
 
 -- Where the message goes, and how far the session is then.
-abbrev pub placed : Room → Message → Session → Route × Phase
+abbrev pub placed : OpenWays → Message → Session → Route × Phase
 placed room m s = place s.phase (kind_of m) room
 
 -- The message at the front was taken, and went here.
-pub record Takes (room : Room) (old : Session) (m : Message) (route : Route) (new : Session)
+pub record Takes (room : OpenWays) (old : Session) (m : Message) (route : Route) (new : Session)
     : Type 0 where
   pub may : may_take old ≡ true
   pub rest : List ℕ
@@ -50,23 +50,23 @@ pub record Takes (room : Room) (old : Session) (m : Message) (route : Route) (ne
 
 -- Nothing was taken. A message at the front that cannot go stays there; one for which there is no
 -- memory ends the session. If none is whole the session rests. A fault ends it with its offset.
-abbrev pub Waits : Room → Session → Front Message → Session → Type 0
+abbrev pub Waits : OpenWays → Session → Front Message → Session → Type 0
 Waits room old Partial new = new ≡ at_rest old
 Waits room old (Whole m rest) new =
     (((placed room m old).0 ≡ routes.Keep) × (new ≡ old)) ⊎ (new ≡ ended None old)
 Waits room old (Broken fault) new = new ≡ ended (word_of fault) old
 
-abbrev pub WaitsBy : Bool → Room → Session → Session → Type 0
+abbrev pub WaitsBy : Bool → OpenWays → Session → Session → Type 0
 WaitsBy true room old new = Waits room old (message_front old.unread) new
 WaitsBy false room old new = new ≡ old
 
 -- What a call for the next message did.
-abbrev pub Nexts : Room → Session → Option (Message × Route) → Session → Type 0
+abbrev pub Nexts : OpenWays → Session → Option (Message × Route) → Session → Type 0
 Nexts room old (Some found) new = Takes room old found.0 found.1 new
 Nexts room old None new = WaitsBy (may_take old) room old new
 
 -- The last word is told, if there is one.
-abbrev pub Closes : End → Session → Session → Type 0
+abbrev pub Closes : SessionEnd → Session → Session → Type 0
 Closes ends.Never old new = new ≡ old
 Closes ends.Shut old new = new ≡ old
 Closes (ends.Ending None) old new = new ≡ record old { ends = ends.Told None }

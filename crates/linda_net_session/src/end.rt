@@ -7,7 +7,7 @@ use linda_wire::Refusal;
 
 /// Whether a session goes on.
 #[derive(Clone, Copy, Debug, PartialEq, Eq)]
-pub enum End {
+pub enum SessionEnd {
     /// It goes on.
     Never,
     /// No more bytes come. What came is taken to its end.
@@ -20,17 +20,17 @@ pub enum End {
     Broken,
 }
 
-impl End {
+impl SessionEnd {
     /// Whether something may still be taken.
     pub fn is_open(self) -> bool
         ensures { result ≡ is_open self }
     {
         match self {
-            End::Never => true,
-            End::Shut => true,
-            End::Ending(_) => false,
-            End::Told(_) => false,
-            End::Broken => false,
+            SessionEnd::Never => true,
+            SessionEnd::Shut => true,
+            SessionEnd::Ending(_) => false,
+            SessionEnd::Told(_) => false,
+            SessionEnd::Broken => false,
         }
     }
 
@@ -39,51 +39,51 @@ impl End {
         ensures { result ≡ is_closed self }
     {
         match self {
-            End::Never => false,
-            End::Shut => false,
-            End::Ending(_) => false,
-            End::Told(_) => true,
-            End::Broken => true,
+            SessionEnd::Never => false,
+            SessionEnd::Shut => false,
+            SessionEnd::Ending(_) => false,
+            SessionEnd::Told(_) => true,
+            SessionEnd::Broken => true,
         }
     }
 
     /// Nothing more is taken, and this is told last, if nothing else is.
-    pub(crate) fn ended_by(self, word: Option<Refusal>) -> End
+    pub(crate) fn ended_by(self, word: Option<Refusal>) -> SessionEnd
         ensures { result ≡ ended_by word self }
     {
         match self {
-            End::Never => End::Ending(word),
-            End::Shut => End::Ending(word),
-            End::Ending(None) => End::Ending(word),
-            End::Ending(Some(_)) => self,
-            End::Told(_) => self,
-            End::Broken => self,
+            SessionEnd::Never => SessionEnd::Ending(word),
+            SessionEnd::Shut => SessionEnd::Ending(word),
+            SessionEnd::Ending(None) => SessionEnd::Ending(word),
+            SessionEnd::Ending(Some(_)) => self,
+            SessionEnd::Told(_) => self,
+            SessionEnd::Broken => self,
         }
     }
 
     /// No more bytes come.
-    pub(crate) fn shut(self) -> End
+    pub(crate) fn shut(self) -> SessionEnd
         ensures { result ≡ shut_by self }
     {
         match self {
-            End::Never => End::Shut,
-            End::Shut => self,
-            End::Ending(_) => self,
-            End::Told(_) => self,
-            End::Broken => self,
+            SessionEnd::Never => SessionEnd::Shut,
+            SessionEnd::Shut => self,
+            SessionEnd::Ending(_) => self,
+            SessionEnd::Told(_) => self,
+            SessionEnd::Broken => self,
         }
     }
 
     /// No whole message is left: if no more bytes come, it ends.
-    pub(crate) fn rested(self) -> End
+    pub(crate) fn rested(self) -> SessionEnd
         ensures { result ≡ rested self }
     {
         match self {
-            End::Never => self,
-            End::Shut => End::Ending(None),
-            End::Ending(_) => self,
-            End::Told(_) => self,
-            End::Broken => self,
+            SessionEnd::Never => self,
+            SessionEnd::Shut => SessionEnd::Ending(None),
+            SessionEnd::Ending(_) => self,
+            SessionEnd::Told(_) => self,
+            SessionEnd::Broken => self,
         }
     }
 }

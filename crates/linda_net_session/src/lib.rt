@@ -13,9 +13,9 @@ mod phase;
 mod route;
 mod session;
 
-pub use end::End;
+pub use end::SessionEnd;
 pub use laws::{goes_out_as_told, one_story};
 pub use limits::MOST_UNSENT;
 pub use phase::{MOST_ASKED, Phase, Way};
-pub use route::{Kind, Room, Route, kind_of, place};
+pub use route::{MessageKind, OpenWays, Route, kind_of, place};
 pub use session::Session;

@@ -8,7 +8,7 @@ use linda_wire::Message;
 
 /// What a message is, by what comes of it.
 #[derive(Clone, Copy, Debug, PartialEq, Eq)]
-pub enum Kind {
+pub enum MessageKind {
     /// It greets.
     Hello,
     /// It bears no number, so no deed comes of it.
@@ -19,7 +19,7 @@ pub enum Kind {
 
 /// The ways on which there is room for one message more.
 #[derive(Clone, Copy, Debug, PartialEq, Eq)]
-pub struct Room {
+pub struct OpenWays {
     pub asks: bool,
     pub deeds: bool,
 }
@@ -52,42 +52,42 @@ impl Route {
 }
 
 /// The kind of the message.
-pub fn kind_of(message: &Message) -> Kind
+pub fn kind_of(message: &Message) -> MessageKind
     ensures { result ≡ spec.kind_of message.now }
 {
     match message {
-        Message::Hello { .. } => Kind::Hello,
-        Message::Ask { .. } => Kind::Ask,
-        Message::Cancel { .. } => Kind::Ask,
-        Message::Out { .. } => Kind::Deed,
-        Message::Accept { .. } => Kind::Deed,
-        Message::Leave { .. } => Kind::Deed,
+        Message::Hello { .. } => MessageKind::Hello,
+        Message::Ask { .. } => MessageKind::Ask,
+        Message::Cancel { .. } => MessageKind::Ask,
+        Message::Out { .. } => MessageKind::Deed,
+        Message::Accept { .. } => MessageKind::Deed,
+        Message::Leave { .. } => MessageKind::Deed,
     }
 }
 
 /// Where the next message of a session goes, and how far the session is then.
-pub fn place(phase: Phase, kind: Kind, room: Room) -> (Route, Phase)
+pub fn place(phase: Phase, kind: MessageKind, room: OpenWays) -> (Route, Phase)
     ensures { result ≡ spec.place phase kind room }
 {
     match phase {
         Phase::Fresh => (Route::Greet, Phase::Greeting),
         Phase::Greeting => (Route::Keep, phase),
         Phase::Open { asks, deeds } => match kind {
-            Kind::Hello => {
+            MessageKind::Hello => {
                 if asks == 0 && deeds == 0 {
                     (Route::Busy, phase)
                 } else {
                     (Route::Keep, phase)
                 }
             }
-            Kind::Ask => {
+            MessageKind::Ask => {
                 if deeds == 0 {
                     place_ask(asks, deeds, room.asks)
                 } else {
                     place_deed(asks, deeds, room.deeds)
                 }
             }
-            Kind::Deed => place_deed(asks, deeds, room.deeds),
+            MessageKind::Deed => place_deed(asks, deeds, room.deeds),
         },
     }
 }

@@ -13,11 +13,11 @@ ghost use Rattle.linda_net_session.specs.Session.{unread_of};
 ghost use Rattle.linda_net_session.specs.Lawful.{IsLawful};
 ghost use Rattle.linda_net_session.specs.Turns.{Says, Tells, Leads, Nexts, Closes, Finishes};
 
-use crate::end::End;
+use crate::end::SessionEnd;
 use crate::limits::MOST_UNSENT;
 use crate::outgoing::Outgoing;
 use crate::phase::{Phase, Way};
-use crate::route::{Room, Route, kind_of, place};
+use crate::route::{OpenWays, Route, kind_of, place};
 use http_server::Log;
 use linda_wire::{Feed, FrameFault, Message, Refusal, Reply};
 use std::alloc::{AllocError, Global};
@@ -33,7 +33,7 @@ pub struct Session {
     held: Option<Message>,
     out: Outgoing,
     phase: Phase,
-    end: End,
+    end: SessionEnd,
     // A whole message may be there.
     may_have: bool,
     // Histories, which take no memory.
@@ -71,7 +71,7 @@ impl Session {
             held: None,
             out: Outgoing::new(alloc),
             phase: Phase::Fresh,
-            end: End::Never,
+            end: SessionEnd::Never,
             may_have: false,
             reads: Log::new(),
             takes: Log::new(),
@@ -90,11 +90,11 @@ impl Session {
         ensures err { OnErr result (self.new ≡ ended None self.old) }
     {
         match self.end {
-            End::Never => {}
-            End::Shut => return Ok(()),
-            End::Ending(_) => return Ok(()),
-            End::Told(_) => return Ok(()),
-            End::Broken => return Ok(()),
+            SessionEnd::Never => {}
+            SessionEnd::Shut => return Ok(()),
+            SessionEnd::Ending(_) => return Ok(()),
+            SessionEnd::Told(_) => return Ok(()),
+            SessionEnd::Broken => return Ok(()),
         }
         let len = self.feed.rest();
         match self.feed.feed(bytes) {
@@ -119,7 +119,7 @@ impl Session {
 
     /// The next message, and where it goes: never `Keep`, and after `Busy` nothing is to be done
     /// with it. `None` if no message is whole, or it cannot go now.
-    pub fn next(&mut self, room: Room) -> Option<(Message, Route)>
+    pub fn next(&mut self, room: OpenWays) -> Option<(Message, Route)>
         ensures { Nexts room self.old result self.new }
     {
         if !self.may_take() {
@@ -235,7 +235,7 @@ impl Session {
         ensures { self.new ≡ broken self.old }
     {
         self.out.clear();
-        self.end = End::Broken;
+        self.end = SessionEnd::Broken;
     }
 
     /// The client is told the last word, if there is one, once nothing more is taken and all is
@@ -246,25 +246,25 @@ impl Session {
         if self.is_waiting() {
             return;
         }
-        if let End::Ending(word) = self.end {
+        if let SessionEnd::Ending(word) = self.end {
             self.close(word);
         }
     }
 
     // It is told its last word, if there is one.
     fn close(&mut self, word: Option<Refusal>)
-        requires { self.old.ends ≡ End.Ending word }
+        requires { self.old.ends ≡ SessionEnd.Ending word }
         ensures { Closes self.old.ends self.old self.new }
     {
         let Some(refusal) = word else {
-            self.end = End::Told(None);
+            self.end = SessionEnd::Told(None);
             return;
         };
         let reply = refusal.reply();
         match self.out.put(&reply) {
             Ok(()) => {
                 self.tells = self.tells.and(&reply, &());
-                self.end = End::Told(word);
+                self.end = SessionEnd::Told(word);
             }
             Err(_) => self.fail(),
         }
@@ -304,14 +304,14 @@ impl Session {
     pub fn wants_read(&self) -> bool
         ensures { result ≡ spec.wants_read self.now }
     {
-        self.may_take() && self.end == End::Never && !self.may_have
+        self.may_take() && self.end == SessionEnd::Never && !self.may_have
     }
 
     /// Whether there may be something to take.
     pub fn has_more(&self) -> bool
         ensures { result ≡ spec.has_more self.now }
     {
-        self.may_take() && !(self.end == End::Never && !self.may_have)
+        self.may_take() && !(self.end == SessionEnd::Never && !self.may_have)
     }
 
     /// Whether something is still to be written.
@@ -336,7 +336,7 @@ impl Session {
     }
 
     /// Whether it goes on.
-    pub fn end_of(&self) -> End
+    pub fn end_of(&self) -> SessionEnd
         ensures { result ≡ self.now.ends }
     {
         self.end

@@ -1,9 +1,9 @@
 //! Connections that come, each with two threads of its own.
 
-use crate::connection::{Connection, write_news};
+use crate::connection::{ThreadConnection, write_news};
 use crate::reader::read_messages;
 use linda_disk::Disk;
-use linda_net_marks::{Marks, REST, one_less};
+use linda_net_marks::{ACCEPT_PAUSE, Counters, one_less};
 use linda_shared::Shared;
 use std::alloc::Global;
 use std::net::{TcpListener, TcpStream};
@@ -20,11 +20,11 @@ pub fn accept_all<D: Disk + Send, L: Ledger + Send + Sync, R: Threads + Wait + C
     alloc: Global,
     listener: &TcpListener,
     shared: &Shared<D, L>,
-    marks: &Marks,
+    counters: &Counters,
     sessions: Option<u32>,
 ) {
     thread::scope(thread::scope_env(), rt, |scope| {
-        begin_all(scope, rt, alloc, listener, shared, marks, sessions);
+        begin_all(scope, rt, alloc, listener, shared, counters, sessions);
     });
 }
 
@@ -35,7 +35,7 @@ fn begin_all<'s, E, D: Disk + Send, L: Ledger + Send + Sync, R: Threads + Wait +
     alloc: Global,
     listener: &TcpListener,
     shared: &'s Shared<D, L>,
-    marks: &'s Marks,
+    counters: &'s Counters,
     sessions: Option<u32>,
 ) {
     let mut left = sessions;
@@ -48,12 +48,12 @@ fn begin_all<'s, E, D: Disk + Send, L: Ledger + Send + Sync, R: Threads + Wait +
         }
         match stream {
             Ok(stream) => {
-                begin(scope, rt, alloc, shared, marks, stream);
+                begin(scope, rt, alloc, shared, counters, stream);
                 left = one_less(left);
             }
             Err(_) => {
-                marks.misses();
-                thread::sleep(rt, Duration::from_millis(REST));
+                counters.misses();
+                thread::sleep(rt, Duration::from_millis(ACCEPT_PAUSE));
             }
         }
         if left == Some(0) {
@@ -68,14 +68,14 @@ fn begin<'s, E, D: Disk + Send, L: Ledger + Send + Sync, R: Threads + Wait + Clo
     rt: &'s R,
     alloc: Global,
     shared: &'s Shared<D, L>,
-    marks: &'s Marks,
+    counters: &'s Counters,
     stream: TcpStream,
 ) {
-    marks.comes();
-    let begun = scope.spawn(move || converse(rt, alloc, shared, marks, stream));
+    counters.comes();
+    let begun = scope.spawn(move || converse(rt, alloc, shared, counters, stream));
     if begun.is_err() {
-        marks.closes();
-        marks.ends();
+        counters.closes();
+        counters.ends();
     }
 }
 
@@ -84,19 +84,19 @@ fn converse<D: Disk + Send, L: Ledger + Send + Sync, R: Threads + Wait + Clock +
     rt: &R,
     alloc: Global,
     shared: &Shared<D, L>,
-    marks: &Marks,
+    counters: &Counters,
     stream: TcpStream,
 ) {
     let _ = stream.set_nodelay(true);
-    let connection = Connection::new(alloc, stream);
+    let connection = ThreadConnection::new(alloc, stream);
     let lent = &connection;
     thread::scope(thread::scope_env(), rt, |scope| {
-        let news = move || write_news(rt, alloc, shared, marks, lent);
+        let news = move || write_news(rt, alloc, shared, counters, lent);
         if scope.spawn(news).is_ok() {
-            read_messages(rt, alloc, shared, marks, lent);
+            read_messages(rt, alloc, shared, counters, lent);
         } else {
-            marks.closes();
+            counters.closes();
         }
     });
-    marks.ends();
+    counters.ends();
 }

@@ -1,8 +1,8 @@
 //! A connection of two threads: its socket, and its session under a lock.
 
-use crate::talk::{Next, Talk};
+use crate::talk::{Talk, TalkEvent};
 use linda_disk::Disk;
-use linda_net_marks::Marks;
+use linda_net_marks::Counters;
 use linda_shared::{Outlet, Shared};
 use linda_wire::Refusal;
 use std::alloc::Global;
@@ -21,7 +21,7 @@ struct Slot<L: Ledger> {
 /// A connection. Two threads write: the one that reads and submits, what its own messages led to,
 /// and another one, what others' messages sent.
 #[derive(Drop)]
-pub(crate) struct Connection<L: Ledger> {
+pub(crate) struct ThreadConnection<L: Ledger> {
     stream: TcpStream,
     // Whoever has it writes. It is locked before a mailbox is emptied, so replies go out in their
     // order.
@@ -30,10 +30,10 @@ pub(crate) struct Connection<L: Ledger> {
     filled: Condvar,
 }
 
-impl<L: Ledger> Connection<L> {
+impl<L: Ledger> ThreadConnection<L> {
     /// Nobody was greeted yet.
-    pub(crate) fn new(alloc: Global, stream: TcpStream) -> Connection<L> {
-        Connection {
+    pub(crate) fn new(alloc: Global, stream: TcpStream) -> ThreadConnection<L> {
+        ThreadConnection {
             stream,
             talk: Mutex::new(Talk::new(alloc)),
             slot: Mutex::new(Slot {
@@ -61,10 +61,10 @@ impl<L: Ledger> Connection<L> {
 
     /// What it has next. What is there for the client is written first: so if its second Hello is
     /// refused here, that comes after what the server sent it before.
-    pub(crate) fn next<R: Wait>(&self, rt: &R, alloc: Global, marks: &Marks) -> Next {
+    pub(crate) fn next<R: Wait>(&self, rt: &R, alloc: Global, counters: &Counters) -> TalkEvent {
         let mut guard = self.talk.lock(rt);
-        guard.tell_news(rt, alloc, marks);
-        let next = guard.next(alloc, marks);
+        guard.tell_news(rt, alloc, counters);
+        let next = guard.next(alloc, counters);
         guard.write(rt, &self.stream);
         next
     }
@@ -77,7 +77,7 @@ impl<L: Ledger> Connection<L> {
     pub(crate) fn welcome<R: Wait>(
         &self,
         rt: &R,
-        marks: &Marks,
+        counters: &Counters,
         outlet: Outlet<L>,
         last: u64,
     ) -> Result<(), Outlet<L>> {
@@ -86,7 +86,7 @@ impl<L: Ledger> Connection<L> {
             return Err(outlet);
         };
         let mut guard = self.talk.lock(rt);
-        guard.welcome(marks, outlet, last);
+        guard.welcome(counters, outlet, last);
         guard.write(rt, &self.stream);
         drop(guard);
         self.slot.lock(rt).outlet = Some(second);
@@ -95,9 +95,9 @@ impl<L: Ledger> Connection<L> {
     }
 
     /// The client is refused, which is written. It may greet again.
-    pub(crate) fn refuse<R: Wait>(&self, rt: &R, marks: &Marks, code: u8, detail: u64) {
+    pub(crate) fn refuse<R: Wait>(&self, rt: &R, counters: &Counters, code: u8, detail: u64) {
         let mut guard = self.talk.lock(rt);
-        guard.refuse(marks, code, detail);
+        guard.refuse(counters, code, detail);
         guard.write(rt, &self.stream);
     }
 
@@ -112,12 +112,12 @@ impl<L: Ledger> Connection<L> {
         &self,
         rt: &R,
         alloc: Global,
-        marks: &Marks,
+        counters: &Counters,
         taken: Result<(), Option<Refusal>>,
     ) {
         let mut guard = self.talk.lock(rt);
         match taken {
-            Ok(()) => guard.tell_news(rt, alloc, marks),
+            Ok(()) => guard.tell_news(rt, alloc, counters),
             Err(word) => guard.end(word),
         }
         guard.all_came_back();
@@ -125,20 +125,25 @@ impl<L: Ledger> Connection<L> {
     }
 
     /// Writes what is there for the client. Says whether the connection can go on.
-    pub(crate) fn flush<R: Wait>(&self, rt: &R, alloc: Global, marks: &Marks) -> bool {
+    pub(crate) fn flush<R: Wait>(&self, rt: &R, alloc: Global, counters: &Counters) -> bool {
         let mut guard = self.talk.lock(rt);
-        guard.tell_news(rt, alloc, marks);
+        guard.tell_news(rt, alloc, counters);
         guard.write(rt, &self.stream);
         !guard.has_failed()
     }
 
     /// Writes its last word, if there is one, after the replies that are there. Nothing is written
     /// any more. Returns the outlet, if the client was greeted. Nobody waits for one any more.
-    pub(crate) fn close<R: Wait>(&self, rt: &R, alloc: Global, marks: &Marks) -> Option<Outlet<L>> {
+    pub(crate) fn close<R: Wait>(
+        &self,
+        rt: &R,
+        alloc: Global,
+        counters: &Counters,
+    ) -> Option<Outlet<L>> {
         self.slot.lock(rt).is_over = true;
         self.filled.notify_all();
         let mut guard = self.talk.lock(rt);
-        guard.close(rt, alloc, marks);
+        guard.close(rt, alloc, counters);
         guard.write(rt, &self.stream);
         guard.take_outlet()
     }
@@ -173,13 +178,13 @@ pub(crate) fn write_news<D: Disk, L: Ledger, R: Wait + Clock>(
     rt: &R,
     alloc: Global,
     shared: &Shared<D, L>,
-    marks: &Marks,
-    connection: &Connection<L>,
+    counters: &Counters,
+    connection: &ThreadConnection<L>,
 ) {
     for _ in rt.forever() {
         match connection.wait_outlet(rt) {
             (_, Some(outlet)) => {
-                follow(rt, alloc, marks, connection, &outlet);
+                follow(rt, alloc, counters, connection, &outlet);
                 return;
             }
             (false, None) => return,
@@ -197,13 +202,13 @@ pub(crate) fn write_news<D: Disk, L: Ledger, R: Wait + Clock>(
 fn follow<L: Ledger, R: Wait>(
     rt: &R,
     alloc: Global,
-    marks: &Marks,
-    connection: &Connection<L>,
+    counters: &Counters,
+    connection: &ThreadConnection<L>,
     outlet: &Outlet<L>,
 ) {
     for _ in rt.forever() {
         let goes_on = outlet.wait_news(rt);
-        if !connection.flush(rt, alloc, marks) {
+        if !connection.flush(rt, alloc, counters) {
             connection.shut();
             return;
         }

@@ -1,7 +1,7 @@
 //! Connections with two threads each: one reads and submits, the other writes what others send.
 //!
 //! - `accept_all` takes the connections of a listener and gives each its threads.
-//! - A `Connection` is a socket, and its `Session` under a lock (`Talk`).
+//! - A `ThreadConnection` is a socket, and its `Session` under a lock (`Talk`).
 //! - A `Reader` reads it, submits what its session takes, and writes what that led to.
 #![tactic(auto)]
 

@@ -5,10 +5,10 @@ ghost use Rattle.linda_shared.specs.Greeting.{greeting_of};
 ghost use Rattle.linda_shared_queue.specs.Seat.{IsRequest};
 ghost use Rattle.linda_net_threads.specs.Talk.{seat_of};
 
-use crate::connection::Connection;
-use crate::talk::Next;
+use crate::connection::ThreadConnection;
+use crate::talk::TalkEvent;
 use linda_disk::Disk;
-use linda_net_marks::{Marks, word_of};
+use linda_net_marks::{Counters, word_of};
 use linda_shared::{Greeted, Outlet, Seat, Shared};
 use linda_store_step::MAX_BATCH;
 use linda_wire::{Message, Refusal};
@@ -27,8 +27,8 @@ struct Reader<'a, D: Disk, L: Ledger, R: Wait + Clock> {
     rt: &'a R,
     alloc: Global,
     shared: &'a Shared<D, L>,
-    marks: &'a Marks,
-    connection: &'a Connection<L>,
+    counters: &'a Counters,
+    connection: &'a ThreadConnection<L>,
     seat: Option<Seat<L>>,
 }
 
@@ -37,12 +37,12 @@ impl<D: Disk, L: Ledger, R: Wait + Clock> Reader<'_, D, L, R> {
     fn run(&mut self) {
         let mut buffer = [0; PIECE];
         for _ in self.rt.forever() {
-            match self.connection.next(self.rt, self.alloc, self.marks) {
-                Next::Greeting(message) => self.greet(&message),
-                Next::Run(messages) => self.submit(&messages),
-                Next::Busy => {}
-                Next::None => self.read(&mut buffer),
-                Next::End => return,
+            match self.connection.next(self.rt, self.alloc, self.counters) {
+                TalkEvent::Greeting(message) => self.greet(&message),
+                TalkEvent::Run(messages) => self.submit(&messages),
+                TalkEvent::Busy => {}
+                TalkEvent::None => self.read(&mut buffer),
+                TalkEvent::End => return,
             }
         }
     }
@@ -69,7 +69,7 @@ impl<D: Disk, L: Ledger, R: Wait + Clock> Reader<'_, D, L, R> {
         match self.shared.greet(self.rt, message) {
             Ok(greeted) => {
                 if let Greeted::Refused(code, _) = &greeted {
-                    self.marks.turns_away(self.rt, message, *code);
+                    self.counters.turns_away(self.rt, message, *code);
                 }
                 let _ = self.settle(greeted);
             }
@@ -86,11 +86,14 @@ impl<D: Disk, L: Ledger, R: Wait + Clock> Reader<'_, D, L, R> {
     {
         match greeted {
             Greeted::Refused(code, detail) => {
-                self.connection.refuse(self.rt, self.marks, code, detail);
+                self.connection.refuse(self.rt, self.counters, code, detail);
                 true
             }
             Greeted::Welcome(seat, outlet, last) => {
-                match self.connection.welcome(self.rt, self.marks, outlet, last) {
+                match self
+                    .connection
+                    .welcome(self.rt, self.counters, outlet, last)
+                {
                     Ok(()) => {
                         self.seat = Some(seat);
                         true
@@ -111,7 +114,7 @@ impl<D: Disk, L: Ledger, R: Wait + Clock> Reader<'_, D, L, R> {
             None => Err(None),
         };
         self.connection
-            .answer(self.rt, self.alloc, self.marks, taken);
+            .answer(self.rt, self.alloc, self.counters, taken);
     }
 }
 
@@ -165,20 +168,20 @@ pub(crate) fn read_messages<D: Disk, L: Ledger, R: Wait + Clock>(
     rt: &R,
     alloc: Global,
     shared: &Shared<D, L>,
-    marks: &Marks,
-    connection: &Connection<L>,
+    counters: &Counters,
+    connection: &ThreadConnection<L>,
 ) {
     let mut reader = Reader {
         rt,
         alloc,
         shared,
-        marks,
+        counters,
         connection,
         seat: None,
     };
     reader.run();
     let Reader { seat, .. } = reader;
-    let outlet = connection.close(rt, alloc, marks);
+    let outlet = connection.close(rt, alloc, counters);
     leave(rt, shared, seat, outlet);
     connection.shut();
 }

@@ -6,8 +6,8 @@ ghost use Rattle.linda_net_session.specs.Session.{in_phase, wrote};
 ghost use Rattle.linda_net_session.specs.Turns.{Tells};
 ghost use Rattle.linda_net_threads.specs.Talk.{IsRun, Grows};
 
-use linda_net_marks::Marks;
-use linda_net_session::{End, MOST_ASKED, Phase, Room, Route, Session, Way};
+use linda_net_marks::Counters;
+use linda_net_session::{MOST_ASKED, OpenWays, Phase, Route, Session, SessionEnd, Way};
 use linda_shared::Outlet;
 use linda_wire::{Message, Refusal, Reply};
 use std::alloc::Global;
@@ -18,14 +18,14 @@ use std::sync::Wait;
 use std::sync::ledger::Ledger;
 
 /// There is room for each message that may go: a session has few on their way.
-const ROOM: Room = Room {
+const ROOM: OpenWays = OpenWays {
     asks: true,
     deeds: true,
 };
 
 /// What a connection has next.
 #[derive(Drop)]
-pub(crate) enum Next {
+pub(crate) enum TalkEvent {
     /// A message of a client that is not greeted.
     Greeting(Message),
     /// Messages that go together, in order.
@@ -71,26 +71,26 @@ impl<L: Ledger> Talk<L> {
 
     /// Whether it failed.
     pub(crate) fn has_failed(&self) -> bool {
-        matches!(self.session.end_of(), End::Broken)
+        matches!(self.session.end_of(), SessionEnd::Broken)
     }
 
     /// What it has next.
-    pub(crate) fn next(&mut self, alloc: Global, marks: &Marks) -> Next {
+    pub(crate) fn next(&mut self, alloc: Global, counters: &Counters) -> TalkEvent {
         let Some((message, route)) = self.session.next(ROOM) else {
             return if self.session.wants_read() {
-                Next::None
+                TalkEvent::None
             } else {
-                Next::End
+                TalkEvent::End
             };
         };
         match route {
-            Route::Greet => Next::Greeting(message),
+            Route::Greet => TalkEvent::Greeting(message),
             Route::Busy => {
-                marks.sends(&Refusal::Busy.reply());
-                Next::Busy
+                counters.sends(&Refusal::Busy.reply());
+                TalkEvent::Busy
             }
-            Route::Goes(_) => Next::Run(self.run(alloc, message)),
-            Route::Keep => Next::End,
+            Route::Goes(_) => TalkEvent::Run(self.run(alloc, message)),
+            Route::Keep => TalkEvent::End,
         }
     }
 
@@ -134,25 +134,25 @@ impl<L: Ledger> Talk<L> {
     }
 
     /// The client is welcome, and its replies come out of this outlet.
-    pub(crate) fn welcome(&mut self, marks: &Marks, outlet: Outlet<L>, last: u64)
+    pub(crate) fn welcome(&mut self, counters: &Counters, outlet: Outlet<L>, last: u64)
         ensures { self.old.session.phase ≡ Phase.Greeting →
             Tells (Reply.Welcome last) (in_phase (Phase.Open 0 0) self.old.session)
             self.new.session }
     {
         self.outlet = Some(outlet);
-        self.count(marks, &Reply::Welcome { last });
+        self.count(counters, &Reply::Welcome { last });
         if let Phase::Greeting = self.session.phase() {
             self.session.welcome(last);
         }
     }
 
     /// The client is refused. It may greet again.
-    pub(crate) fn refuse(&mut self, marks: &Marks, code: u8, detail: u64)
+    pub(crate) fn refuse(&mut self, counters: &Counters, code: u8, detail: u64)
         ensures { self.old.session.phase ≡ Phase.Greeting →
             Tells (Reply.Refused code detail) (in_phase Phase.Fresh self.old.session)
             self.new.session }
     {
-        self.count(marks, &Reply::Refused { code, detail });
+        self.count(counters, &Reply::Refused { code, detail });
         if let Phase::Greeting = self.session.phase() {
             self.session.refuse(code, detail);
         }
@@ -166,13 +166,13 @@ impl<L: Ledger> Talk<L> {
     }
 
     /// Takes in what is there for the client, in order.
-    pub(crate) fn tell_news<R: Wait>(&mut self, rt: &R, alloc: Global, marks: &Marks) {
+    pub(crate) fn tell_news<R: Wait>(&mut self, rt: &R, alloc: Global, counters: &Counters) {
         let replies = match &mut self.outlet {
             Some(outlet) => outlet.drain(rt, alloc),
             None => return,
         };
         for reply in replies.iter() {
-            self.count(marks, reply);
+            self.count(counters, reply);
             self.session.tell(reply);
         }
     }
@@ -198,10 +198,10 @@ impl<L: Ledger> Talk<L> {
 
     /// If there is a last word, takes in what is there for the client, and then that. Nothing goes
     /// out after it.
-    pub(crate) fn close<R: Wait>(&mut self, rt: &R, alloc: Global, marks: &Marks) {
-        if let End::Ending(Some(word)) = self.session.end_of() {
-            self.tell_news(rt, alloc, marks);
-            marks.sends(&word.reply());
+    pub(crate) fn close<R: Wait>(&mut self, rt: &R, alloc: Global, counters: &Counters) {
+        if let SessionEnd::Ending(Some(word)) = self.session.end_of() {
+            self.tell_news(rt, alloc, counters);
+            counters.sends(&word.reply());
         }
         self.session.finish();
     }
@@ -212,9 +212,9 @@ impl<L: Ledger> Talk<L> {
     }
 
     // A reply is counted if it still goes out.
-    fn count(&self, marks: &Marks, reply: &Reply) {
+    fn count(&self, counters: &Counters, reply: &Reply) {
         if !self.session.end_of().is_closed() {
-            marks.sends(reply);
+            counters.sends(reply);
         }
     }
 

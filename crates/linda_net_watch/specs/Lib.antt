@@ -1,2 +1,2 @@
-pub mod Troubles
+pub mod Alerts
 pub mod Ahead

@@ -61,8 +61,8 @@ impl Ahead {
     }
 }
 
-// To which length the file is to be written, if it is: so many bytes were taken at the last look, so
-// many are now, and it reaches so far.
+// To which length the file is to be written, if it is: so many bytes were taken at the last look,
+// so many are now, and it reaches so far.
 fn aim(before: usize, used: usize, reach: usize) -> Option<usize>
     ensures slow { used < before + 1_024 → result ≡ None }
     ensures near { used + room_for used / 2 ≤ reach → result ≡ None }

@@ -6,7 +6,7 @@ ghost use Rattle.std.specs.Duration.{as_nanos};
 use crate::ahead::Ahead;
 use crate::watching::take_snapshot;
 use linda_disk::Disk;
-use linda_net_marks::Marks;
+use linda_net_marks::Counters;
 use linda_shared::Shared;
 use std::sync::ledger::Ledger;
 use std::sync::{Mutex, Wait};
@@ -25,7 +25,7 @@ const PAUSES: u64 = 3;
 pub fn take_snapshots<D: Disk, L: Ledger, R: Wait + Clock>(
     rt: &R,
     shared: &Shared<D, L>,
-    marks: &Marks,
+    counters: &Counters,
     is_over: &Mutex<bool>,
 ) {
     let mut pause: u64 = 0;
@@ -38,7 +38,7 @@ pub fn take_snapshots<D: Disk, L: Ledger, R: Wait + Clock>(
         pause = match left_of(pause) {
             Some(left) => left,
             None if shared.pays(rt) => {
-                let millis = take_snapshot(rt, shared, marks, is_over);
+                let millis = take_snapshot(rt, shared, counters, is_over);
                 ahead.begin_anew();
                 pause_after(millis)
             }

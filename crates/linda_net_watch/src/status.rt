@@ -1,22 +1,22 @@
 //! Status of a server over HTTP, beside the connections that it serves.
 //!
-//! - A `Teller` has the pages, which it spells from the server and what happened at it.
-//! - A `Station` is the `HttpServer` of linda_net_http that answers by them.
+//! - A `StatusPages` has the pages, which it spells from the server and what happened at it.
+//! - A `StatusServer` is the `HttpServer` of linda_net_http that answers by them.
 
-mod station;
+mod status_server;
 
 use linda_disk::Disk;
-pub use linda_net_http::{Asked, Listener, Told};
-use linda_net_marks::Tally;
+pub use linda_net_http::{Listener, PageQuery, PageResult};
+use linda_net_marks::CounterValues;
 use linda_shared::Shared;
-pub use station::Station;
+pub use status_server::StatusServer;
 use std::alloc::AllocError;
 use std::sync::Wait;
 use std::sync::ledger::Ledger;
 use std::time::Clock;
 
 /// Who has the pages that are asked for.
-pub trait Teller {
+pub trait StatusPages {
     /// Writes the page that is asked for after what is there, and returns of which kind it is; or
     /// why there is none.
     ///
@@ -27,15 +27,15 @@ pub trait Teller {
         &self,
         rt: &R,
         shared: &Shared<D, L>,
-        tally: &Tally,
-        asked: Asked<'_>,
+        tally: &CounterValues,
+        asked: PageQuery<'_>,
         page: &mut String,
-    ) -> Result<Told, AllocError>;
+    ) -> Result<PageResult, AllocError>;
 }
 
 /// Where it is asked how the server does, and who has the pages.
 #[derive(Drop)]
-pub struct Status<A: Teller> {
+pub struct Status<A: StatusPages> {
     pub listener: Listener,
     pub teller: A,
 }
@@ -44,15 +44,15 @@ pub struct Status<A: Teller> {
 #[derive(Drop)]
 pub struct Unasked;
 
-impl Teller for Unasked {
+impl StatusPages for Unasked {
     fn spell<D: Disk, L: Ledger, R: Wait + Clock>(
         &self,
         _rt: &R,
         _shared: &Shared<D, L>,
-        _tally: &Tally,
-        _asked: Asked<'_>,
+        _tally: &CounterValues,
+        _asked: PageQuery<'_>,
         _page: &mut String,
-    ) -> Result<Told, AllocError> {
-        Ok(Told::Nothing)
+    ) -> Result<PageResult, AllocError> {
+        Ok(PageResult::Nothing)
     }
 }

@@ -1,14 +1,14 @@
 //! Notices about a server while its connections are served, and the thread that gives them.
 
 ghost use Rattle.std.specs.Prelude.{◌≡◌, ◌↔◌, ◌≤◌, IsTrue};
-ghost use Rattle.linda_net_watch.specs.Troubles.{notice_of_snapshot};
+ghost use Rattle.linda_net_watch.specs.Alerts.{notice_of_snapshot};
 
+use crate::alert_state::AlertState;
 use crate::looking::look;
 use crate::seconds::Seconds;
-use crate::seen::Seen;
 use crate::snapshots::snapshot;
 use linda_disk::Disk;
-use linda_net_marks::{Marks, Notice, Tally, millis_of};
+use linda_net_marks::{CounterValues, Counters, Notice, millis_since};
 use linda_shared::{Gauge, Shared, SharedFault};
 use std::sync::ledger::Ledger;
 use std::sync::{Mutex, Wait};
@@ -24,7 +24,7 @@ const TROUBLES: u32 = 8;
 /// Who is told what happens while connections are served.
 pub trait Watcher {
     /// This happened; so much the server and its connections come to then.
-    fn tell<C: Clock>(&mut self, clock: &C, notice: Notice, gauge: &Gauge, tally: &Tally);
+    fn tell<C: Clock>(&mut self, clock: &C, notice: Notice, gauge: &Gauge, tally: &CounterValues);
 
     /// Whether what the server writes is kept, as far as whoever is told knows: asked once a
     /// minute. If it is not the server goes down.
@@ -38,7 +38,13 @@ pub trait Watcher {
 pub struct Silent;
 
 impl Watcher for Silent {
-    fn tell<C: Clock>(&mut self, _clock: &C, _notice: Notice, _gauge: &Gauge, _tally: &Tally) {}
+    fn tell<C: Clock>(
+        &mut self,
+        _clock: &C,
+        _notice: Notice,
+        _gauge: &Gauge,
+        _tally: &CounterValues,
+    ) {}
 }
 
 /// Looks ten times a second until it is over, and then once more, reports what happened, and says
@@ -47,26 +53,26 @@ pub fn watch<D: Disk, L: Ledger, R: Wait + Clock, T: Watcher>(
     rt: &R,
     shared: &Shared<D, L>,
     is_over: &Mutex<bool>,
-    marks: &Marks,
+    counters: &Counters,
     watcher: &Mutex<T>,
     seconds: Seconds,
 ) {
     let mut seconds = seconds;
-    let mut seen = Seen::new();
+    let mut seen = AlertState::new();
     let mut begin = Instant::now(rt).ok();
     for _ in rt.forever() {
         let over = *is_over.lock(rt);
         seconds.pass(rt, shared);
-        if let Some(notice) = marks.take_snapshot(rt) {
-            tell(rt, shared, marks, watcher, notice);
+        if let Some(notice) = counters.take_snapshot(rt) {
+            tell(rt, shared, counters, watcher, notice);
         }
-        let tally = marks.tally();
-        tell_troubles(rt, shared, marks, watcher, &mut seen, &tally);
+        let tally = counters.tally();
+        tell_troubles(rt, shared, counters, watcher, &mut seen, &tally);
         if over {
             return;
         }
         if is_minute(millis_since(rt, begin)) {
-            tell(rt, shared, marks, watcher, Notice::Minute);
+            tell(rt, shared, counters, watcher, Notice::Minute);
             seen.end_minute(&tally);
             begin = Instant::now(rt).ok();
             end_if_not_kept(rt, shared, watcher);
@@ -80,7 +86,7 @@ pub fn watch<D: Disk, L: Ledger, R: Wait + Clock, T: Watcher>(
 pub(crate) fn take_snapshot<D: Disk, L: Ledger, R: Wait + Clock>(
     rt: &R,
     shared: &Shared<D, L>,
-    marks: &Marks,
+    counters: &Counters,
     is_over: &Mutex<bool>,
 ) -> u64 {
     let begin = Instant::now(rt).ok();
@@ -88,7 +94,7 @@ pub(crate) fn take_snapshot<D: Disk, L: Ledger, R: Wait + Clock>(
     let millis = millis_since(rt, begin);
     if let Some(taken) = taken {
         if let Some(notice) = notice_of(&taken, millis) {
-            marks.keep_snapshot(rt, notice);
+            counters.keep_snapshot(rt, notice);
         }
     }
     millis
@@ -114,17 +120,17 @@ fn notice_of(taken: &Result<(), SharedFault>, millis: u64) -> Option<Notice>
 fn tell_troubles<D: Disk, L: Ledger, R: Wait + Clock, T: Watcher>(
     rt: &R,
     shared: &Shared<D, L>,
-    marks: &Marks,
+    counters: &Counters,
     watcher: &Mutex<T>,
-    seen: &mut Seen,
-    tally: &Tally,
+    seen: &mut AlertState,
+    tally: &CounterValues,
 ) {
     let is_down = shared.is_down(rt);
     for _ in 0..TROUBLES {
         let Some(notice) = seen.next(tally, is_down) else {
             return;
         };
-        tell(rt, shared, marks, watcher, notice);
+        tell(rt, shared, counters, watcher, notice);
     }
 }
 
@@ -132,12 +138,12 @@ fn tell_troubles<D: Disk, L: Ledger, R: Wait + Clock, T: Watcher>(
 pub fn tell<D: Disk, L: Ledger, R: Wait + Clock, T: Watcher>(
     rt: &R,
     shared: &Shared<D, L>,
-    marks: &Marks,
+    counters: &Counters,
     watcher: &Mutex<T>,
     notice: Notice,
 ) {
     let gauge = shared.gauge(rt);
-    let tally = marks.tally();
+    let tally = counters.tally();
     watcher.lock(rt).tell(rt, notice, &gauge, &tally);
 }
 
@@ -150,17 +156,6 @@ fn end_if_not_kept<D: Disk, L: Ledger, R: Wait + Clock, T: Watcher>(
     let is_kept = watcher.lock(rt).is_kept(rt);
     if !is_kept {
         shared.give_up(rt);
-    }
-}
-
-// How many milliseconds have gone by since then; 0 where the clock cannot be read.
-fn millis_since<R: Clock>(rt: &R, begin: Option<Instant>) -> u64 {
-    let Some(begin) = begin else {
-        return 0;
-    };
-    match begin.elapsed(rt) {
-        Ok(passed) => millis_of(passed),
-        Err(_) => 0,
     }
 }
 

@@ -1,6 +1,6 @@
 -- Minutes of a log: what the line of each says, and what is kept for the next one.
 use Rattle.std.specs.Prelude.{ℕ, ◌-◌}
-use Rattle.linda_net_marks.specs.declared.marks.Tally.{Tally}
+use Rattle.linda_net_marks.specs.declared.counters.CounterValues.{CounterValues}
 use Rattle.linda_net_marks.specs.Counting.{more_than, none_refused}
 use Rattle.linda_status.specs.Status.{unserved}
 use Rattle.linda_serve.specs.declared.serving.minutes.Counted.{Counted}
@@ -10,7 +10,7 @@ abbrev pub none_counted : Counted
 none_counted = record { deeds = 0; refused = 0; unserved = 0; turned = none_refused; late = 0 }
 
 -- what there is in all, with so many deeds
-abbrev pub counted : ℕ → Tally → Counted
+abbrev pub counted : ℕ → CounterValues → Counted
 counted deeds tally = record {
   deeds = deeds;
   refused = tally.refused;

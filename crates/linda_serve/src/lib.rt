@@ -2,8 +2,8 @@
 //!
 //! - `open_store` opens it for this server only, or creates it if there is none. What it opened is
 //!   up.
-//! - `serve_folder` serves it by a `Plan`, to clients that connect to a port of this machine. If
-//!   there is a sink, a `Log` of what happens goes there: a line for each `Notice` of linda_net,
+//! - `serve_folder` serves it by a `ServePlan`, to clients that connect to a port of this machine.
+//!   If there is a sink, a `Log` of what happens goes there: a line for each `Notice` of linda_net,
 //!   one at the begin and one at the end, with its `Cause`.
 //! - `inspect_folder` says what it comes to, and opens its files only for reading;
 //!   `inspect_folder_as_json` does so as one JSON object.
@@ -17,8 +17,8 @@ mod serving;
 
 pub use inspecting::{inspect_folder, inspect_folder_as_json};
 pub use linda_disk::{FileCall, FileTrouble};
-pub use linda_net::{Gauge, Notice, Refused, Tally, Watcher, Why};
+pub use linda_net::{CounterValues, Gauge, Notice, RefusalReason, RefusalValues, Watcher};
 pub use serving::{
-    Cause, InUse, Log, Place, Plan, ServingFault, StatusAt, Unwaited, open_store, serve_folder,
-    stamp_of,
+    Cause, InUse, Log, ServePlan, ServingFault, SocketFile, StatusAt, Unwaited, open_store,
+    serve_folder, stamp_of,
 };

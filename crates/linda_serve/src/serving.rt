@@ -24,7 +24,7 @@ use fault::served;
 use heap::keep_heap;
 use linda_disk::FileDisk;
 use linda_net::{
-    Gauge, Limits, Listener, Listeners, Shared, SharedFault, Status, Tally, serve_loop,
+    CounterValues, Gauge, Limits, Listener, Listeners, Shared, SharedFault, Status, serve_loop,
     serve_watched,
 };
 use linda_server::Durable;
@@ -32,7 +32,7 @@ pub use linda_server::InUse;
 use linda_shared_accounts::PARTS;
 use linda_status::{About, Pages};
 pub use log::{Cause, Log};
-pub use socket::Place;
+pub use socket::SocketFile;
 use socket::{OwnFile, file_at, listen_at, remove};
 pub use stamp::stamp_of;
 use start::{BankTrouble, Begun, Course};
@@ -58,11 +58,11 @@ const STATUS_MODE: u32 = 0o600;
 
 /// What is served, where, and for how long.
 #[derive(Clone, Copy, Debug)]
-pub struct Plan<'a> {
+pub struct ServePlan<'a> {
     /// The port of this machine, or 0 for any that is free, if it listens on one.
     pub port: Option<u16>,
     /// The unix socket, if it listens on one; only loops serve it.
-    pub socket: Option<Place<'a>>,
+    pub socket: Option<SocketFile<'a>>,
     /// The folder of the store.
     pub folder: &'a str,
     /// After how many connections it ends, if it does.
@@ -97,22 +97,24 @@ pub enum StatusAt<'a> {
 /// is lost. If there is a place for it, the server says there how it does, as docs/OPERATING.md has
 /// it too.
 ///
-/// While another server has the folder open it waits, if the plan says so: it tries again ten times a
-/// second, and reads nothing of the store before it has the lock. It listens once the store is opened.
+/// While another server has the folder open it waits, if the plan says so: it tries again ten times
+/// a second, and reads nothing of the store before it has the lock. It listens once the store is
+/// opened.
 ///
 /// A socket's file has its mode from the first moment on. One that is left of a server that was
 /// killed is replaced, and it is removed at the end. Anything else at its path stays.
 ///
 /// If its records have as many bytes as the last snapshot left in the bank, one is taken first. If
-/// the last one was cut off, or this one cannot be written, its room is given back, and the next one
-/// is put off until there are records of half of that room, or as many as make one due, unless a
-/// deed is refused for room: so a disk that has no room for a snapshot is no reason to serve nobody.
+/// the last one was cut off, or this one cannot be written, its room is given back, and the next
+/// one is put off until there are records of half of that room, or as many as make one due, unless
+/// a deed is refused for room: so a disk that has no room for a snapshot is no reason to serve
+/// nobody.
 ///
 /// # Errors
 ///
 /// As `open_store` returns them, but `InUse` only if it does not wait, and then `Io` if a port or a
-/// socket cannot be listened on, or there is neither, or the output fails. `Down` if the server went down, at the next connection or
-/// at the end. `Memory`.
+/// socket cannot be listened on, or there is neither, or the output fails. `Down` if the server
+/// went down, at the next connection or at the end. `Memory`.
 pub fn serve_folder<
     F: Files<File = File> + Net,
     S: Net<Listener = TcpListener, Stream = TcpStream>
@@ -129,7 +131,7 @@ pub fn serve_folder<
     alloc: Global,
     writer: &mut W,
     sink: Option<&mut E>,
-    plan: &Plan<'_>,
+    plan: &ServePlan<'_>,
 ) -> Result<(), ServingFault> {
     let mut log = Log::new(alloc, sink)?;
     let begun = open_when_free(files, rt, alloc, &mut log, plan)?;
@@ -170,7 +172,7 @@ fn listen<F: Files<File = File> + Net, S: Net<Listener = TcpListener, Stream = T
     files: &F,
     rt: &S,
     alloc: Global,
-    plan: &Plan<'_>,
+    plan: &ServePlan<'_>,
 ) -> Result<Listeners, ServingFault> {
     let port = match plan.port {
         Some(port) => Some(listen_on(rt, port)?),
@@ -236,7 +238,7 @@ fn tell_and_serve<
     blank: Blank,
     listeners: Listeners,
     asked: Result<Option<Listener>, ServingFault>,
-    plan: &Plan<'_>,
+    plan: &ServePlan<'_>,
 ) -> Result<(), ServingFault>
     requires up { server.down ≡ false }
     requires blank { (blank.name ≡ L.name) × (blank.parts ≡ L.parts) × (L.parts ≡ PARTS) }
@@ -292,7 +294,7 @@ fn tell_start<S: Clock, E: Write>(rt: &S, log: &mut Log<'_, E>, course: &Course,
 }
 
 // The listener of a port whose connections have two threads each, if the plan wants that.
-fn by_threads<'a>(listeners: &'a Listeners, plan: &Plan<'_>) -> Option<&'a TcpListener> {
+fn by_threads<'a>(listeners: &'a Listeners, plan: &ServePlan<'_>) -> Option<&'a TcpListener> {
     if !plan.by_threads || listeners.socket.is_some() {
         return None;
     }
@@ -305,7 +307,7 @@ fn tell_end<L: Ledger, S: Wait + Clock, E: Write>(
     log: Log<'_, E>,
     shared: Shared<FileDisk, L>,
     ended: Result<(), SharedFault>,
-    tally: &Tally,
+    tally: &CounterValues,
 ) -> Result<(), ServingFault> {
     let mut log = log;
     let gauge = shared.gauge(rt);
@@ -381,8 +383,8 @@ fn listen_for_status<
 }
 
 // The unix socket with this path where it is asked how the server does.
-fn place_of_status(path: &str) -> Place<'_> {
-    Place {
+fn place_of_status(path: &str) -> SocketFile<'_> {
+    SocketFile {
         path,
         mode: STATUS_MODE,
     }
@@ -399,7 +401,7 @@ fn kept_status(asked: &Result<Option<Listener>, ServingFault>) -> Option<UnixLis
 }
 
 // The file of a socket that is listened on, if there is one.
-fn own_file<F: Files>(files: &F, socket: Option<Place<'_>>) -> Option<OwnFile> {
+fn own_file<F: Files>(files: &F, socket: Option<SocketFile<'_>>) -> Option<OwnFile> {
     let socket = socket?;
     file_at(files, socket.path)
 }

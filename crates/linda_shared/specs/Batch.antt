@@ -5,11 +5,11 @@ use Rattle.linda_shared_queue.specs.declared.address.Address.{Address}
 use Rattle.linda_shared_queue.specs.declared.answer.Answer.{Answer}
 
 -- The messages, each with its client, and of each answer whether it has its copy.
-pub record Batch : Type 0 where
+pub record LeaderBatch : Type 0 where
   pub messages : List (ℕ × Message)
   pub answers : List Bool
 
-abbrev pub batch_of : List (ℕ × Message) → List Bool → Batch
+abbrev pub batch_of : List (ℕ × Message) → List Bool → LeaderBatch
 batch_of messages answers = record { messages = messages; answers = answers }
 
 -- a message that waits, as it is in hand: with the client whose mailbox its answer goes to

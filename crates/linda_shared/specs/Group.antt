@@ -9,19 +9,19 @@ use Rattle.linda_shared_accounts.specs.declared.effect.Effect.{Effect}
 use Rattle.linda_shared_accounts.specs.declared.effect.Effect.TheVariants as effects
 use Rattle.linda_shared_accounts.specs.declared.fault.SharedFault.{SharedFault}
 use Rattle.linda_shared_accounts.specs.declared.fault.SharedFault.TheVariants as faults
-use Rattle.linda_shared_accounts.specs.declared.job.Answered.{Answered}
+use Rattle.linda_shared_accounts.specs.declared.pending_ack.Ack.{Ack}
 use Rattle.linda_shared_accounts.specs.declared.receipt.Receipt.{Receipt}
 use Rattle.linda_shared_accounts.specs.Effect.{told_of}
 use Rattle.linda_shared_held.specs.Posted.{WereTaken}
 
 -- How many messages there is room for; those that were asked, each with its client, and the
 -- addresses of their answers, in order.
-pub record Group (A : Type 0) : Type 0 where
+pub record MessageGroup (A : Type 0) : Type 0 where
   pub room : ℕ
   pub messages : List (ℕ × Message)
   pub addresses : List A
 
-abbrev pub group_of : {A : Type 0} → ℕ → List (ℕ × Message) → List A → Group A
+abbrev pub group_of : {A : Type 0} → ℕ → List (ℕ × Message) → List A → MessageGroup A
 group_of room messages addresses =
     record { room = room; messages = messages; addresses = addresses }
 
@@ -29,9 +29,9 @@ group_of room messages addresses =
 -- answer, in order.
 pub record ServedGroup (A L : Type 0) : Type 0 where
   pub room : ℕ
-  pub answers : List ((ℕ × Message) × Answered A L)
+  pub answers : List ((ℕ × Message) × Ack A L)
 
-abbrev pub served_of : {A L : Type 0} → ℕ → List ((ℕ × Message) × Answered A L) → ServedGroup A L
+abbrev pub served_of : {A L : Type 0} → ℕ → List ((ℕ × Message) × Ack A L) → ServedGroup A L
 served_of room answers = record { room = room; answers = answers }
 
 -- each of these with the one of those at its position

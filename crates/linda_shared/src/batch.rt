@@ -10,7 +10,7 @@ ghost use Rattle.linda_shared.specs.Batch.{batch_of, parcel, has_copy};
 ghost use Rattle.linda_shared.specs.Group.{group_of};
 
 use crate::given::settle;
-use crate::group::Group;
+use crate::group::MessageGroup;
 use crate::served::ServedGroup;
 use linda_disk::Disk;
 use linda_shared_held::Held;
@@ -25,18 +25,18 @@ use std::sync::ledger::Ledger;
 /// clients, in order, and of each answer whether it has a copy. The client of a message is the one
 /// that its answer goes to.
 #[derive(Drop)]
-pub(crate) struct Batch<L: Ledger> {
-    group: Group<Address<L>, L>,
+pub(crate) struct LeaderBatch<L: Ledger> {
+    group: MessageGroup<Address<L>, L>,
     pub(crate) answers: Vec<Answer<Address<L>, L>>,
 }
 
-impl<L: Ledger> Model for Batch<L> {
+impl<L: Ledger> Model for LeaderBatch<L> {
     ghost use Rattle.std.specs.Prelude.{◌≡◌, ◌+◌, ◌≤◌, length, map, vec_len, vec_capacity};
     ghost use Rattle.linda_store_step.specs.declared.size.TheConstants.{MAX_BATCH};
     ghost use Rattle.linda_shared.specs.Batch as seen;
     ghost use Rattle.linda_shared.specs.Batch.{batch_of, has_copy};
 
-    ghost Value = { seen.Batch };
+    ghost Value = { seen.LeaderBatch };
 
     ghost view = { λ t. batch_of t.group.messages (map has_copy t.answers.items) };
 
@@ -47,14 +47,14 @@ impl<L: Ledger> Model for Batch<L> {
         × (MAX_BATCH ≤ vec_capacity t.answers) };
 }
 
-impl<L: Ledger> Batch<L> {
+impl<L: Ledger> LeaderBatch<L> {
     /// Nothing is in hand, and there is room for a batch.
-    pub(crate) fn new(alloc: Global) -> Result<Batch<L>, AllocError>
+    pub(crate) fn new(alloc: Global) -> Result<LeaderBatch<L>, AllocError>
         ensures { IfOk result (λ t. t ≡ batch_of [] []) }
     {
-        let group = Group::new(alloc, MAX_BATCH)?;
+        let group = MessageGroup::new(alloc, MAX_BATCH)?;
         let answers = Vec::with_capacity(alloc, MAX_BATCH)?;
-        Ok(Batch { group, answers })
+        Ok(LeaderBatch { group, answers })
     }
 
     /// Takes what waits of one kind, up to a batch.
@@ -80,8 +80,8 @@ impl<L: Ledger> Batch<L> {
         }
     }
 
-    /// Serves all that was asked, and writes an answer with a copy for each. Where there is no memory
-    /// for all copies the server is given up, and the answers are lost.
+    /// Serves all that was asked, and writes an answer with a copy for each. Where there is no
+    /// memory for all copies the server is given up, and the answers are lost.
     pub(crate) fn serve<D: Disk>(&mut self, alloc: Global, held: &mut Held<D, L>) -> bool
         ensures served { self.new.messages ≡ [] }
         ensures each { length self.new.answers
@@ -89,7 +89,7 @@ impl<L: Ledger> Batch<L> {
         ensures kept { result ≡ true → All IsTrue self.new.answers }
         ensures down { result ≡ false → held.new.server.down ≡ true }
     {
-        let group = std::mem::replace(&mut self.group, Group::without_room(alloc));
+        let group = std::mem::replace(&mut self.group, MessageGroup::without_room(alloc));
         let served = group.serve(alloc, held);
         self.group = write_all(alloc, served, &mut self.answers);
         settle(&mut self.answers, held)
@@ -108,7 +108,7 @@ fn write_all<L: Ledger>(
     alloc: Global,
     served: ServedGroup<Address<L>, L>,
     answers: &mut Vec<Answer<Address<L>, L>>,
-) -> Group<Address<L>, L>
+) -> MessageGroup<Address<L>, L>
     requires { vec_len answers.old + length served.answers ≤ vec_capacity answers.old }
     ensures group { result ≡ group_of served.room [] [] }
     ensures answers { (vec_len answers.new ≡ vec_len answers.old + length served.answers)

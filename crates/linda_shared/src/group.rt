@@ -9,7 +9,7 @@ ghost use Rattle.linda_shared.specs.Group.{group_of, told_in, AreTold, IsEffectO
 
 use crate::served::ServedGroup;
 use linda_disk::Disk;
-use linda_shared_accounts::{Account, Answered, Asked};
+use linda_shared_accounts::{Account, Ack, PendingAck};
 use linda_shared_held::Held;
 use linda_store_step::MAX_GROUP;
 use linda_wire::Message;
@@ -21,21 +21,21 @@ use std::sync::ledger::Ledger;
 /// its part of the ledger. There is room for a given number, and for their answers, so nothing that
 /// it does takes memory. Contracts see the messages and the addresses, in order.
 #[derive(Drop)]
-pub struct Group<A: Drop, L: Ledger> {
+pub struct MessageGroup<A: Drop, L: Ledger> {
     pub(crate) room: usize,
     pub(crate) messages: Vec<(u32, Message)>,
-    pub(crate) asked: Vec<Asked<A, L>>,
+    pub(crate) asked: Vec<PendingAck<A, L>>,
     // Room for the answers.
-    pub(crate) answered: Vec<Answered<A, L>>,
+    pub(crate) answered: Vec<Ack<A, L>>,
 }
 
-impl<A: Drop, L: Ledger> Model for Group<A, L> {
+impl<A: Drop, L: Ledger> Model for MessageGroup<A, L> {
     ghost use Rattle.std.specs.Prelude.{◌≡◌, ◌≤◌, [], map, vec_len, vec_capacity};
     ghost use Rattle.linda_store_step.specs.declared.size.TheConstants.{MAX_GROUP};
     ghost use Rattle.linda_shared.specs.Group as seen;
     ghost use Rattle.linda_shared.specs.Group.{group_of};
 
-    ghost Value = { seen.Group A };
+    ghost Value = { seen.MessageGroup A };
 
     ghost view = { λ g. group_of g.room g.messages.items (map (λ a. a.address) g.asked.items) };
 
@@ -46,20 +46,20 @@ impl<A: Drop, L: Ledger> Model for Group<A, L> {
         × (g.room ≤ vec_capacity g.answered) };
 }
 
-impl<A: Drop, L: Ledger> Group<A, L> {
+impl<A: Drop, L: Ledger> MessageGroup<A, L> {
     /// Nothing is asked, and there is room for so many messages.
     ///
     /// # Errors
     ///
     /// `AllocError`: nothing was made.
-    pub fn new(alloc: Global, room: usize) -> Result<Group<A, L>, AllocError>
+    pub fn new(alloc: Global, room: usize) -> Result<MessageGroup<A, L>, AllocError>
         requires { room ≤ MAX_GROUP }
         ensures { IfOk result (λ g. g ≡ group_of room [] []) }
     {
         let messages = Vec::with_capacity(alloc, room)?;
         let asked = Vec::with_capacity(alloc, room)?;
         let answered = Vec::with_capacity(alloc, room)?;
-        Ok(Group {
+        Ok(MessageGroup {
             room,
             messages,
             asked,
@@ -69,10 +69,10 @@ impl<A: Drop, L: Ledger> Group<A, L> {
 
     /// Nothing is asked, and there is no room. It takes no memory: for the place of a group that
     /// is being served.
-    pub fn without_room(alloc: Global) -> Group<A, L>
+    pub fn without_room(alloc: Global) -> MessageGroup<A, L>
         ensures { result ≡ group_of 0 [] [] }
     {
-        Group {
+        MessageGroup {
             room: 0,
             messages: Vec::new(alloc),
             asked: Vec::new(alloc),
@@ -97,7 +97,7 @@ impl<A: Drop, L: Ledger> Group<A, L> {
     }
 
     /// This message of this client, which was asked so, joins the others.
-    pub(crate) fn push(&mut self, client: u32, message: Message, asked: Asked<A, L>)
+    pub(crate) fn push(&mut self, client: u32, message: Message, asked: PendingAck<A, L>)
         requires { length self.old.messages < self.old.room }
         ensures { self.new ≡ group_of self.old.room (self.old.messages ++ (client, message) ∷ [])
             (self.old.addresses ++ asked.address ∷ []) }
@@ -118,7 +118,7 @@ impl<A: Drop, L: Ledger> Group<A, L> {
         // and so a deed is one that its own message asks for.
         ensures own { All (λ a. IsEffectOf a.0 a.1.told) result.answers }
     {
-        let Group {
+        let MessageGroup {
             room,
             mut messages,
             mut asked,
@@ -135,7 +135,7 @@ impl<A: Drop, L: Ledger> Group<A, L> {
     }
 }
 
-impl<L: Ledger> Group<usize, L> {
+impl<L: Ledger> MessageGroup<usize, L> {
     /// A message of this account goes on its way. Its answer comes back with this key.
     pub fn ask(&mut self, account: &mut Account<L>, key: usize, message: Message)
         requires room { length self.old.messages < self.old.room }

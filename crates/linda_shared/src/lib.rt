@@ -6,9 +6,9 @@
 //! out of an `Outlet`, which never asks for the server.
 //!
 //! One thread may serve many sessions too, and then waits for none of them: each is an `Account`,
-//! its messages go to the server in a `Group` with those of the others (`admit`, `serve_group`,
-//! `depart`), and `hear_answer` is what it hears of each answer of the `ServedGroup`. What is sent to
-//! clients goes to a `Post`.
+//! its messages go to the server in a `MessageGroup` with those of the others (`admit`,
+//! `serve_group`, `depart`), and `hear_answer` is what it hears of each answer of the
+//! `ServedGroup`. What is sent to clients goes to a `ReplySink`.
 #![tactic(auto)]
 
 mod addressed;
@@ -27,19 +27,19 @@ mod workers;
 
 pub use gate::Gate;
 pub use greeted::Greeted;
-pub use group::Group;
-pub use linda_shared_accounts::{Account, Answered, MOST_ASKED, Receipt, SharedFault};
+pub use group::MessageGroup;
+pub use linda_shared_accounts::{Account, Ack, MOST_ASKED, Receipt, SharedFault};
 pub use linda_shared_held::{Gauge, Progress, Report};
 pub use linda_shared_listing::{
     ClientPage, Gathered, KindPage, ListedClient, ListedKind, ListedReply, ListedTuple, Longest,
     MOST_KINDS, MOST_LOOKED, TakenCount, TuplePage, TupleQuery,
 };
 pub use linda_shared_outbox::Sent;
-pub use linda_shared_queue::{Outlet, hear_answer};
+pub use linda_shared_queue::{Outlet, hear_answer, outlet_crosses};
 pub use linda_store_step::MAX_GROUP;
 pub use seat::Seat;
-pub use send::{outlet_crosses, seat_crosses, shared_may_be_lent};
+pub use send::{seat_crosses, shared_may_be_lent};
 pub use served::ServedGroup;
-pub use shared::{Post, Shared};
+pub use shared::{ReplySink, Shared};
 pub use worker::{MOST_TURNS, Next, Worker};
 pub use workers::{Worked, run_workers};

@@ -6,8 +6,8 @@ ghost use Rattle.linda_shared.specs.declared.locked.TheConstants.{LET_GO};
 ghost use Rattle.linda_shared_outbox.specs.Waiting.{waits_for};
 ghost use Rattle.linda_shared_outbox.specs.Replies.{handed_out};
 
-use crate::batch::Batch;
-use crate::shared::Post;
+use crate::batch::LeaderBatch;
+use crate::shared::ReplySink;
 use linda_disk::Disk;
 use linda_shared_held::Held;
 use linda_shared_outbox::Sent;
@@ -25,7 +25,7 @@ const LET_GO: usize = 64;
 #[derive(Drop)]
 pub(crate) struct Locked<D: Disk, L: Ledger> {
     pub(crate) held: Held<D, L>,
-    pub(crate) batch: Batch<L>,
+    pub(crate) batch: LeaderBatch<L>,
     pub(crate) is_given_up: bool,
 }
 
@@ -74,7 +74,7 @@ impl<D: Disk, L: Ledger> Locked<D, L> {
     }
 
     /// Posts what waits in the server's outboxes.
-    pub(crate) fn post_all<R: Wait, P: Post>(&mut self, rt: &R, alloc: Global, posts: &mut P)
+    pub(crate) fn post_all<R: Wait, P: ReplySink>(&mut self, rt: &R, alloc: Global, posts: &mut P)
         // Nothing is left there, unless the server was given up: then nothing goes out.
         ensures all { self.old.is_given_up ≡ false
             → (c : ℕ) → handed_out (waits_for self.new.held.boxes c) ≡ [] }

@@ -3,7 +3,6 @@
 use crate::seat::Seat;
 use crate::shared::Shared;
 use linda_disk::Disk;
-use linda_shared_queue::Outlet;
 use std::sync::ledger::Ledger;
 
 fn wants_send<T: Send>(_x: &T) {}
@@ -18,9 +17,4 @@ pub fn shared_may_be_lent<D: Disk + Send, L: Ledger + Send + Sync>(shared: &Shar
 /// A seat may cross threads.
 pub fn seat_crosses<L: Ledger + Send + Sync>(seat: &Seat<L>) {
     wants_send(seat);
-}
-
-/// An outlet may cross threads.
-pub fn outlet_crosses<L: Ledger + Send + Sync>(outlet: &Outlet<L>) {
-    wants_send(outlet);
 }

@@ -3,8 +3,8 @@
 ghost use Rattle.std.specs.Prelude.{◌≡◌, ◌∷◌, [], length, IfSome, IfNone};
 ghost use Rattle.linda_shared.specs.Group.{group_of};
 
-use crate::group::Group;
-use linda_shared_accounts::{Answered, Asked};
+use crate::group::MessageGroup;
+use linda_shared_accounts::{Ack, PendingAck};
 use linda_wire::Message;
 use std::marker::Model;
 use std::sync::ledger::Ledger;
@@ -16,9 +16,9 @@ pub struct ServedGroup<A: Drop, L: Ledger> {
     pub(crate) room: usize,
     // The first one last, as the answers come.
     pub(crate) messages: Vec<(u32, Message)>,
-    pub(crate) answered: Vec<Answered<A, L>>,
+    pub(crate) answered: Vec<Ack<A, L>>,
     // Room for what is asked next.
-    pub(crate) asked: Vec<Asked<A, L>>,
+    pub(crate) asked: Vec<PendingAck<A, L>>,
 }
 
 impl<A: Drop, L: Ledger> Model for ServedGroup<A, L> {
@@ -48,7 +48,7 @@ impl<A: Drop, L: Ledger> ServedGroup<A, L> {
     }
 
     /// The next message, in order, with its client and its own answer; none once all are taken.
-    pub fn next(&mut self) -> Option<(u32, Message, Answered<A, L>)>
+    pub fn next(&mut self) -> Option<(u32, Message, Ack<A, L>)>
         ensures next { IfSome result (λ r.
             self.old.answers ≡ ((r.0, r.1), r.2) ∷ self.new.answers) }
         ensures none { IfNone result (self.old.answers ≡ []) }
@@ -62,7 +62,7 @@ impl<A: Drop, L: Ledger> ServedGroup<A, L> {
     }
 
     /// The room of these messages, for others. What was not taken is dropped.
-    pub fn into_group(self) -> Group<A, L>
+    pub fn into_group(self) -> MessageGroup<A, L>
         ensures { result ≡ group_of self.room [] [] }
     {
         let ServedGroup {
@@ -73,7 +73,7 @@ impl<A: Drop, L: Ledger> ServedGroup<A, L> {
         } = self;
         messages.clear();
         answered.clear();
-        Group {
+        MessageGroup {
             room,
             messages,
             asked,

@@ -14,9 +14,9 @@ mod submit;
 ghost use Rattle.std.specs.Prelude.{◌≡◌, false};
 ghost use Rattle.linda_shared_accounts.specs.declared.limits.TheConstants.{PARTS};
 
-use crate::batch::Batch;
+use crate::batch::LeaderBatch;
 use crate::locked::Locked;
-pub use group::Post;
+pub use group::ReplySink;
 use linda_disk::Disk;
 use linda_shared_accounts::SharedFault;
 use linda_shared_held::{Durable, Gauge, Held, Progress};
@@ -48,7 +48,7 @@ impl<D: Disk, L: Ledger> Shared<D, L> {
         requires up { server.down ≡ false }
         requires blank { (blank.name ≡ L.name) × (blank.parts ≡ L.parts) × (L.parts ≡ PARTS) }
     {
-        let batch = Batch::new(alloc)?;
+        let batch = LeaderBatch::new(alloc)?;
         let router = Router::new(alloc)?;
         let held = Held::new(alloc, server, blank);
         Ok(Shared {
@@ -152,8 +152,8 @@ impl<D: Disk, L: Ledger> Shared<D, L> {
         self.locked.lock(rt).held.copy_clients(self.alloc, most)
     }
 
-    /// Gives up the copy of the clients, for a snapshot that is not begun after all. Nothing changes
-    /// that a session sees.
+    /// Gives up the copy of the clients, for a snapshot that is not begun after all. Nothing
+    /// changes that a session sees.
     pub fn forget_copy<R: Wait>(&self, rt: &R) {
         self.locked.lock(rt).held.forget_copy();
     }
@@ -202,9 +202,9 @@ impl<D: Disk, L: Ledger> Shared<D, L> {
         answer
     }
 
-    /// Forgets the receipts of deeds that were told, if there are many, and gives back the memory of
-    /// some that were forgotten. Each group does so too: this is for a program that serves, in which
-    /// no group may come for long. Nothing changes that a session sees.
+    /// Forgets the receipts of deeds that were told, if there are many, and gives back the memory
+    /// of some that were forgotten. Each group does so too: this is for a program that serves, in
+    /// which no group may come for long. Nothing changes that a session sees.
     pub fn forget<R: Wait>(&self, rt: &R) {
         self.locked.lock(rt).forget(self.alloc, MAX_GROUP);
     }

@@ -1,6 +1,6 @@
 //! Sessions that work, each in a thread of its own.
 
-mod begun;
+mod running_worker;
 
 ghost use Rattle.std.specs.Prelude.{◌≡◌, ◌+◌, ◌<◌, ◌≤◌, ◌++◌, ◌∷◌, [], map, vec_len, vec_capacity};
 ghost use Rattle.std.specs.Prelude.{IfOk, IfErr};
@@ -11,10 +11,10 @@ use crate::gate::Gate;
 use crate::seat::Seat;
 use crate::shared::Shared;
 use crate::worker::Worker;
-use begun::{Begun, Ended, begin};
 use linda_disk::Disk;
 use linda_shared_accounts::SharedFault;
 use linda_shared_queue::Outlet;
+use running_worker::{RunningWorker, WorkerResult, begin};
 use std::alloc::Global;
 use std::sync::Wait;
 use std::sync::atomic::AtomicU64;
@@ -96,8 +96,8 @@ fn begin_all<
     gate: &'s G,
     refused: &'s AtomicU64,
     workers: Vec<(Seat<L>, Outlet<L>, W)>,
-    begun: Vec<Begun<L>>,
-) -> Vec<Begun<L>>
+    begun: Vec<RunningWorker<L>>,
+) -> Vec<RunningWorker<L>>
     requires none { begun.items ≡ [] }
     requires room { vec_len workers ≤ vec_capacity begun }
     ensures { map (λ b. b.before.value) result.items ≡ map (λ w. w.0) workers.items }
@@ -115,7 +115,11 @@ fn begin_all<
 }
 
 // Waits for the end of each.
-fn join_all<L: Ledger, R: Threads>(rt: &R, begun: Vec<Begun<L>>, seats: Vec<Seat<L>>) -> Worked<L>
+fn join_all<L: Ledger, R: Threads>(
+    rt: &R,
+    begun: Vec<RunningWorker<L>>,
+    seats: Vec<Seat<L>>,
+) -> Worked<L>
     requires none { seats.items ≡ [] }
     requires room { vec_len begun ≤ vec_capacity seats }
     ensures { AllHaveWorked (map (λ b. b.before.value) begun.items) result.seats.items }
@@ -129,14 +133,14 @@ fn join_all<L: Ledger, R: Threads>(rt: &R, begun: Vec<Begun<L>>, seats: Vec<Seat
 
 impl<L: Ledger> Worked<L> {
     // One more has ended.
-    fn add(&mut self, ended: Ended<L>)
+    fn add(&mut self, ended: WorkerResult<L>)
         requires { vec_len self.old.seats < vec_capacity self.old.seats }
         ensures seats { self.new.seats.items ≡ self.old.seats.items ++ ended.seat ∷ [] }
         ensures end { self.new.end ≡ spec.first_of self.old.end ended.end }
         ensures room { (vec_len self.new.seats ≡ vec_len self.old.seats + 1)
             × (vec_capacity self.new.seats ≡ vec_capacity self.old.seats) }
     {
-        let Ended { seat, end } = ended;
+        let WorkerResult { seat, end } = ended;
         self.seats.push_reserved(seat);
         self.end = first_of(self.end, end);
     }

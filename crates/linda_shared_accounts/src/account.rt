@@ -9,8 +9,8 @@ ghost use Rattle.linda_shared_accounts.specs.Ring.{with_receipt};
 ghost use Rattle.linda_shared_accounts.specs.Effect.{weight};
 
 use crate::effect::Effect;
-use crate::job::{Answered, Asked};
 use crate::limits::{ACCOUNT_PARTS, MOST_ASKED};
+use crate::pending_ack::{Ack, PendingAck};
 use crate::ring::Ring;
 use crate::shared_receipt::SharedReceipt;
 use std::marker::Model;
@@ -76,7 +76,7 @@ impl<L: Ledger> Account<L> {
     }
 
     /// A message goes on its way.
-    pub fn ask<A: Drop>(&mut self, address: A) -> Asked<A, L>
+    pub fn ask<A: Drop>(&mut self, address: A) -> PendingAck<A, L>
         requires { self.old.asked < MOST_ASKED }
         ensures account { self.new ≡ account_of self.old.client self.old.deeds (self.old.asked + 1)
             self.old.ring }
@@ -84,31 +84,31 @@ impl<L: Ledger> Account<L> {
     {
         let part = self.share.split_off(1, 0);
         self.asked += 1;
-        Asked { address, part }
+        PendingAck { address, part }
     }
 
     /// A message comes back that nobody took on.
-    pub fn recall<A: Drop>(&mut self, asked: Asked<A, L>) -> A
+    pub fn recall<A: Drop>(&mut self, asked: PendingAck<A, L>) -> A
         requires { 0 < self.old.asked }
         ensures account { self.new ≡ account_of self.old.client self.old.deeds (self.old.asked - 1)
             self.old.ring }
         ensures address { result ≡ asked.address }
     {
-        let Asked { address, part, .. } = asked;
+        let PendingAck { address, part, .. } = asked;
         self.share.merge(part);
         self.asked -= 1;
         address
     }
 
     /// An answer comes back.
-    pub fn hear<A: Drop>(&mut self, answered: Answered<A, L>) -> (A, Effect<SharedReceipt>)
+    pub fn hear<A: Drop>(&mut self, answered: Ack<A, L>) -> (A, Effect<SharedReceipt>)
         requires { 0 < self.old.asked }
         ensures account { self.new
             ≡ account_of self.old.client (self.old.deeds + weight answered.told)
             (self.old.asked - 1) self.old.ring }
         ensures told { (result.0 ≡ answered.address) × (result.1 ≡ answered.told) }
     {
-        let Answered {
+        let Ack {
             address,
             told,
             part,

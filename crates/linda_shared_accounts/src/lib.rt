@@ -1,8 +1,8 @@
 //! Accounts of what was reported to each session, beside what was stored.
 //!
 //! A session carries an `Account`: of how many deeds it heard, its last receipts, and its parts of
-//! a ledger. Each message goes to the server with one part (`Asked`) and comes back with what was
-//! reported (`Answered`), which the `Accounts` under the server's lock has written into the ledger.
+//! a ledger. Each message goes to the server with one part (`PendingAck`) and comes back with what was
+//! reported (`Ack`), which the `Accounts` under the server's lock has written into the ledger.
 //! So once all accounts are back, what was reported in all is what was reported to them; and
 //! `Accounts::compare` says whether that is what was stored.
 //!
@@ -14,9 +14,9 @@ mod accounts;
 mod asking;
 mod effect;
 mod fault;
-mod job;
 mod laws;
 mod limits;
+mod pending_ack;
 mod place;
 mod places;
 mod receipt;
@@ -31,12 +31,12 @@ pub use accounts::Accounts;
 pub use asking::is_deed_of;
 pub use effect::Effect;
 pub use fault::SharedFault;
-pub use job::{Answered, Asked};
 pub use laws::{
     cut_rings_are_rings, each_message_is_told_once, receipts_tell_what_was_done,
     receipts_weigh_one_each, true_receipts_go_on,
 };
 pub use limits::{ACCOUNT_PARTS, MOST_ASKED, PARTS, RING_SIZE};
+pub use pending_ack::{Ack, PendingAck};
 pub use place::Place;
 pub use receipt::Receipt;
 pub use ring::Ring;

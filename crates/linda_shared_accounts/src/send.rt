@@ -2,7 +2,7 @@
 
 use crate::account::Account;
 use crate::accounts::Accounts;
-use crate::job::{Answered, Asked};
+use crate::pending_ack::{Ack, PendingAck};
 use std::sync::ledger::Ledger;
 
 fn wants<T: Send>(_x: &T) {}
@@ -19,8 +19,8 @@ pub fn accounts_cross<L: Ledger + Send + Sync>(accounts: &Accounts<L>) {
 
 /// A message on its way there, and its answer on its way back, may cross threads.
 pub fn jobs_cross<A: Send + Drop, L: Ledger + Send + Sync>(
-    asked: &Asked<A, L>,
-    answered: &Answered<A, L>,
+    asked: &PendingAck<A, L>,
+    answered: &Ack<A, L>,
 ) {
     wants(asked);
     wants(answered);

@@ -45,7 +45,7 @@ use linda_bag::IndexBag;
 use linda_disk::Disk;
 use linda_moment::Moment;
 use linda_server::Durable;
-use linda_shared_accounts::{Accounts, Answered, Asked, Effect, SharedFault, SharedReceipt};
+use linda_shared_accounts::{Accounts, Ack, Effect, PendingAck, SharedFault, SharedReceipt};
 use linda_shared_outbox::Outboxes;
 use linda_store_state::State;
 use linda_wire::Message;
@@ -125,8 +125,8 @@ impl<D: Disk, L: Ledger> Held<D, L> {
         &mut self,
         alloc: Global,
         messages: &[(u32, Message)],
-        asked: &mut Vec<Asked<A, L>>,
-        answered: &mut Vec<Answered<A, L>>,
+        asked: &mut Vec<PendingAck<A, L>>,
+        answered: &mut Vec<Ack<A, L>>,
     ) -> Result<(), SharedFault>
         requires few { length messages.now ≤ MAX_GROUP }
         requires one_each { length messages.now ≡ vec_len asked.old }

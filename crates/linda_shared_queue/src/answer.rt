@@ -3,7 +3,7 @@
 ghost use Rattle.std.specs.Prelude.{◌≡◌, None, is_none, IfSome};
 ghost use Rattle.std.specs.Option.{ForSome};
 
-use linda_shared_accounts::{Answered, Effect, Receipt, SharedReceipt};
+use linda_shared_accounts::{Ack, Effect, Receipt, SharedReceipt};
 use std::alloc::Global;
 use std::sync::ledger::Ledger;
 
@@ -14,14 +14,14 @@ use std::sync::ledger::Ledger;
 #[derive(Drop)]
 pub struct Answer<A: Drop, L: Ledger> {
     address: A,
-    answered: Answered<(), L>,
+    answered: Ack<(), L>,
     copy: Option<Effect<Receipt>>,
     ghost same: { ForSome copy (λ told. told ≡ answered.told) },
 }
 
 impl<A: Drop, L: Ledger> Answer<A, L> {
     /// The answer with a copy, where there is memory for one.
-    pub fn of(alloc: Global, answered: Answered<A, L>) -> Answer<A, L>
+    pub fn of(alloc: Global, answered: Ack<A, L>) -> Answer<A, L>
         ensures to { result.address ≡ answered.address }
         ensures told { result.answered.told ≡ answered.told }
     {
@@ -78,7 +78,7 @@ impl<A: Drop, L: Ledger> Answer<A, L> {
     }
 
     /// The answer and its copy.
-    pub fn into_parts(self) -> (Answered<(), L>, Option<Effect<Receipt>>)
+    pub fn into_parts(self) -> (Ack<(), L>, Option<Effect<Receipt>>)
         ensures same { IfSome result.1 (λ told. told ≡ result.0.told) }
         ensures parts { (result.0.told ≡ self.answered.told) × (result.1 ≡ self.copy) }
     {

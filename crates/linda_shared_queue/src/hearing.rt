@@ -11,7 +11,7 @@ ghost use Rattle.linda_shared_queue.specs.Seat.{with_told, back, IsLeft, IsLost,
 
 use crate::answer::Answer;
 use linda_shared_accounts::{
-    Account, Answered, Effect, Receipt, SharedFault, SharedReceipt, is_deed_of,
+    Account, Ack, Effect, Receipt, SharedFault, SharedReceipt, is_deed_of,
 };
 use linda_wire::Message;
 use std::sync::ledger::Ledger;
@@ -67,7 +67,7 @@ pub fn hear<A: Drop, L: Ledger>(
 pub fn hear_answer<A: Drop, L: Ledger>(
     account: &mut Account<L>,
     message: &Message,
-    answered: Answered<A, L>,
+    answered: Ack<A, L>,
 ) -> Result<(), SharedFault>
     requires { 0 < account.old.asked }
     // It was told nothing, or a deed that the message asks for, whose receipt joined the ring after

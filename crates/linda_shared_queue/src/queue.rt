@@ -11,7 +11,7 @@ ghost use Rattle.linda_shared_queue.specs.Queue as spec;
 ghost use Rattle.linda_shared_queue.specs.Queue.{seen, all_seen, line, fits, all_ask, asks_next};
 
 use crate::address::Address;
-use linda_shared_accounts::{Account, Asked};
+use linda_shared_accounts::{Account, PendingAck};
 use linda_wire::Message;
 use std::alloc::{AllocError, Global};
 use std::collections::VecDeque;
@@ -24,7 +24,7 @@ pub struct Waiting<L: Ledger> {
     /// What is asked.
     pub message: Message,
     /// Where the answer goes.
-    pub asked: Asked<Address<L>, L>,
+    pub asked: PendingAck<Address<L>, L>,
     // How many messages of the same call stand after it.
     behind: usize,
 }

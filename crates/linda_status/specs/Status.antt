@@ -5,14 +5,14 @@ use Rattle.std.specs.Prelude.{Option, Some, None}
 use Rattle.std.specs.Fmt.{decimal}
 use Rattle.std.specs.Str.{bytes_eq}
 use Rattle.linda_shared_held.specs.declared.gauge.Gauge.{Gauge}
-use Rattle.linda_net_marks.specs.declared.marks.Tally.{Tally}
-use Rattle.linda_status.specs.declared.pages.Form.{Form}
-use Rattle.linda_status.specs.declared.pages.Form.TheVariants as forms
-use Rattle.linda_status.specs.declared.figure.Figure.{Figure}
-use Rattle.linda_status.specs.declared.figure.Figure.TheVariants as figures
+use Rattle.linda_net_marks.specs.declared.counters.CounterValues.{CounterValues}
+use Rattle.linda_status.specs.declared.pages.PageKind.{PageKind}
+use Rattle.linda_status.specs.declared.pages.PageKind.TheVariants as forms
+use Rattle.linda_status.specs.declared.metric.Metric.{Metric}
+use Rattle.linda_status.specs.declared.metric.Metric.TheVariants as figures
 
 -- What is at a path, if anything is.
-abbrev pub form_at : List ℕ → Option Form
+abbrev pub form_at : List ℕ → Option PageKind
 form_at path =
     if bytes_eq path (codes "/") then Some forms.Page
     else (if bytes_eq path (codes "/metrics") then Some forms.Metrics
@@ -25,7 +25,7 @@ form_at path =
 
 -- how many connections were not served: those for which no thread could be had, and those that
 -- could not be had
-abbrev pub unserved : Tally → ℕ
+abbrev pub unserved : CounterValues → ℕ
 unserved tally = min (tally.closed + tally.missed) (2 ^ 64 - 1)
 
 -- 1 if the server is up, 0 if it is down
@@ -35,7 +35,7 @@ is_up false = 1
 
 -- What a number of a server comes to; so many clients are away and took a tuple by their last
 -- message.
-abbrev pub value_of : Figure → Gauge → Tally → ℕ → ℕ
+abbrev pub value_of : Metric → Gauge → CounterValues → ℕ → ℕ
 value_of figures.Up gauge tally absent = is_up gauge.is_down
 value_of figures.Tuples gauge tally absent = gauge.tuples
 value_of figures.Waits gauge tally absent = gauge.waits

@@ -6,9 +6,9 @@ ghost use Rattle.linda_status.specs.Status.{member, time_member};
 
 use crate::about::{About, push_about};
 use crate::lists::spell_text;
-use crate::row::ROWS;
+use crate::metric_row::ROWS;
 use crate::seconds::push_seconds;
-use linda_net_marks::Tally;
+use linda_net_marks::CounterValues;
 use linda_shared::Gauge;
 use std::alloc::{AllocError, Global};
 
@@ -20,7 +20,7 @@ pub(crate) fn spell_json(
     about: &About<'_>,
     uptime: Option<u64>,
     gauge: &Gauge,
-    tally: &Tally,
+    tally: &CounterValues,
     absent: u64,
 ) -> Result<(), AllocError> {
     let mut before = "{";

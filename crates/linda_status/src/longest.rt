@@ -8,13 +8,13 @@ ghost use Rattle.linda_status.specs.Longest.{json_takes, json_template, json_wai
 ghost use Rattle.linda_status.specs.Longest.{json_waits, json_waits_to_end, json_waits_to_holds};
 ghost use Rattle.linda_status.specs.Longest.{json_wanted};
 
+use crate::list_range::read_limit;
 use crate::listed::push_rows_to_end;
 use crate::lists::{spell_bytes, spell_down, spell_wrong};
-use crate::part::read_limit;
 use linda_disk::Disk;
 use linda_hold::{LongWait, Request};
 use linda_inspect::{push_json_member, push_json_string};
-use linda_net_watch::Told;
+use linda_net_watch::PageResult;
 use linda_shared::{Longest, Shared};
 use linda_text::push_template;
 use linda_tuple::Template;
@@ -35,7 +35,7 @@ pub(crate) fn spell_longest<D: Disk, L: Ledger, R: Wait>(
     shared: &Shared<D, L>,
     query: &[u8],
     page: &mut String,
-) -> Result<Told, AllocError> {
+) -> Result<PageResult, AllocError> {
     match read_limit(alloc, query)? {
         Ok(limit) => spell_those(rt, alloc, shared, limit, page),
         Err(wrong) => spell_wrong(wrong, page),
@@ -49,7 +49,7 @@ fn spell_those<D: Disk, L: Ledger, R: Wait>(
     shared: &Shared<D, L>,
     limit: usize,
     page: &mut String,
-) -> Result<Told, AllocError> {
+) -> Result<PageResult, AllocError> {
     let Some(found) = shared.list_longest(rt, limit)? else {
         return spell_down(page);
     };

@@ -4,9 +4,9 @@ ghost use Rattle.std.specs.Prelude.{◌≡◌, ◌++◌, ◌∷◌, [], codes, I
 ghost use Rattle.std.specs.String.{string_bytes};
 ghost use Rattle.linda_status.specs.Status.{sample, time_sample};
 
-use crate::row::{ROWS, Row};
+use crate::metric_row::{MetricRow, ROWS};
 use crate::seconds::push_seconds;
-use linda_net_marks::Tally;
+use linda_net_marks::CounterValues;
 use linda_shared::Gauge;
 use std::alloc::AllocError;
 
@@ -15,7 +15,7 @@ use std::alloc::AllocError;
 pub(crate) fn spell_metrics(
     page: &mut String,
     gauge: &Gauge,
-    tally: &Tally,
+    tally: &CounterValues,
     absent: u64,
 ) -> Result<(), AllocError> {
     for row in ROWS {
@@ -33,7 +33,7 @@ pub(crate) fn spell_metrics(
 }
 
 // Writes what a metric means, and of which kind it is.
-fn spell_head(page: &mut String, row: &Row) -> Result<(), AllocError> {
+fn spell_head(page: &mut String, row: &MetricRow) -> Result<(), AllocError> {
     write!(page, "# HELP {} {}\n", row.metric, row.help)?;
     write!(page, "# TYPE {} {}\n", row.metric, row.kind)
 }

@@ -1,9 +1,9 @@
 //! The page that people read.
 
-/// It asks for the numbers once a second, shows them, and draws the last minutes of some. Its heading
-/// and its title say which server it is. It shows the ten tags of which there are most tuples, and the
-/// ten clients that wait or hold a tuple for longest, for which it asks every five seconds, and leads
-/// to all lists. Nothing of it comes from elsewhere.
+/// It asks for the numbers once a second, shows them, and draws the last minutes of some. Its
+/// heading and its title say which server it is. It shows the ten tags of which there are most
+/// tuples, and the ten clients that wait or hold a tuple for longest, for which it asks every five
+/// seconds, and leads to all lists. Nothing of it comes from elsewhere.
 pub(crate) const PAGE: &str = r##"<!DOCTYPE html>
 <html lang="en">
 <head>

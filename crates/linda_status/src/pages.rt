@@ -13,8 +13,8 @@ use crate::page::PAGE;
 use crate::tagged::spell_tagged;
 use crate::tags::spell_tags;
 use linda_disk::Disk;
-use linda_net_marks::Tally;
-use linda_net_watch::{Asked, Teller, Told};
+use linda_net_marks::CounterValues;
+use linda_net_watch::{PageQuery, PageResult, StatusPages};
 use linda_shared::Shared;
 use std::alloc::{AllocError, Global};
 use std::sync::Wait;
@@ -26,7 +26,7 @@ pub(crate) const JSON: &str = "application/json";
 
 /// What is at a path.
 #[derive(Clone, Copy)]
-enum Form {
+enum PageKind {
     /// A page that people read.
     Page,
     /// The text that Prometheus reads.
@@ -56,37 +56,37 @@ pub struct Pages<'a> {
     pub begin: Option<Instant>,
 }
 
-impl<'a> Teller for Pages<'a> {
+impl<'a> StatusPages for Pages<'a> {
     fn spell<D: Disk, L: Ledger, R: Wait + Clock>(
         &self,
         rt: &R,
         shared: &Shared<D, L>,
-        tally: &Tally,
-        asked: Asked<'_>,
+        tally: &CounterValues,
+        asked: PageQuery<'_>,
         page: &mut String,
-    ) -> Result<Told, AllocError> {
+    ) -> Result<PageResult, AllocError> {
         let Some(form) = form_at(asked.path) else {
-            return Ok(Told::Nothing);
+            return Ok(PageResult::Nothing);
         };
         match form {
-            Form::Page => page.push_str(PAGE)?,
-            Form::Metrics => {
+            PageKind::Page => page.push_str(PAGE)?,
+            PageKind::Metrics => {
                 let absent = taken_by_absent(rt, shared);
                 spell_metrics(page, &shared.gauge(rt), tally, absent)?;
                 spell_tagged(rt, self.alloc, shared, self.metrics, page)?;
             }
-            Form::Json => {
+            PageKind::Json => {
                 let absent = taken_by_absent(rt, shared);
                 let uptime = seconds_since(rt, self.begin);
                 let gauge = shared.gauge(rt);
                 spell_json(self.alloc, page, &self.about, uptime, &gauge, tally, absent)?;
             }
-            Form::Tuples => return spell_tuples(rt, self.alloc, shared, asked.query, page),
-            Form::Clients => return spell_clients(rt, self.alloc, shared, asked.query, page),
-            Form::Tags => return spell_tags(rt, self.alloc, shared, asked.query, page),
-            Form::Longest => return spell_longest(rt, self.alloc, shared, asked.query, page),
+            PageKind::Tuples => return spell_tuples(rt, self.alloc, shared, asked.query, page),
+            PageKind::Clients => return spell_clients(rt, self.alloc, shared, asked.query, page),
+            PageKind::Tags => return spell_tags(rt, self.alloc, shared, asked.query, page),
+            PageKind::Longest => return spell_longest(rt, self.alloc, shared, asked.query, page),
         }
-        Ok(Told::Page(kind_of(form)))
+        Ok(PageResult::Page(kind_of(form)))
     }
 }
 
@@ -97,37 +97,37 @@ fn seconds_since<R: Clock>(rt: &R, begin: Option<Instant>) -> Option<u64> {
 }
 
 // What is at this path, if anything is.
-fn form_at(path: &[u8]) -> Option<Form>
+fn form_at(path: &[u8]) -> Option<PageKind>
     ensures { result ≡ form_at path.now }
 {
     if path == b"/".as_slice() {
-        Some(Form::Page)
+        Some(PageKind::Page)
     } else if path == b"/metrics".as_slice() {
-        Some(Form::Metrics)
+        Some(PageKind::Metrics)
     } else if path == b"/status.json".as_slice() {
-        Some(Form::Json)
+        Some(PageKind::Json)
     } else if path == b"/tuples".as_slice() {
-        Some(Form::Tuples)
+        Some(PageKind::Tuples)
     } else if path == b"/clients".as_slice() {
-        Some(Form::Clients)
+        Some(PageKind::Clients)
     } else if path == b"/tags".as_slice() {
-        Some(Form::Tags)
+        Some(PageKind::Tags)
     } else if path == b"/longest".as_slice() {
-        Some(Form::Longest)
+        Some(PageKind::Longest)
     } else {
         None
     }
 }
 
 // How a form is named in an answer.
-fn kind_of(form: Form) -> &'static str {
+fn kind_of(form: PageKind) -> &'static str {
     match form {
-        Form::Page => "text/html; charset=utf-8",
-        Form::Metrics => "text/plain; version=0.0.4",
-        Form::Json => JSON,
-        Form::Tuples => JSON,
-        Form::Clients => JSON,
-        Form::Tags => JSON,
-        Form::Longest => JSON,
+        PageKind::Page => "text/html; charset=utf-8",
+        PageKind::Metrics => "text/plain; version=0.0.4",
+        PageKind::Json => JSON,
+        PageKind::Tuples => JSON,
+        PageKind::Clients => JSON,
+        PageKind::Tags => JSON,
+        PageKind::Longest => JSON,
     }
 }

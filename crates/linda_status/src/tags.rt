@@ -9,11 +9,11 @@ ghost use Rattle.linda_status.specs.Tags.{json_tag_page, json_tags, json_tags_to
 ghost use Rattle.linda_status.specs.Tags.{to_go, AreMost};
 
 use crate::kinds::Kinds;
+use crate::list_range::read_limit;
 use crate::lists::{spell_bytes, spell_down, spell_wrong};
-use crate::part::read_limit;
 use linda_disk::Disk;
 use linda_inspect::{push_json_atom, push_json_member};
-use linda_net_watch::Told;
+use linda_net_watch::PageResult;
 use linda_shared::{KindPage, ListedKind, Shared};
 use std::alloc::{AllocError, Global};
 use std::sync::Wait;
@@ -32,7 +32,7 @@ pub(crate) fn spell_tags<D: Disk, L: Ledger, R: Wait + Clock>(
     shared: &Shared<D, L>,
     query: &[u8],
     page: &mut String,
-) -> Result<Told, AllocError> {
+) -> Result<PageResult, AllocError> {
     match read_limit(alloc, query)? {
         Ok(limit) => spell_tag_page(rt, alloc, shared, limit, page),
         Err(wrong) => spell_wrong(wrong, page),
@@ -46,7 +46,7 @@ fn spell_tag_page<D: Disk, L: Ledger, R: Wait + Clock>(
     shared: &Shared<D, L>,
     limit: usize,
     page: &mut String,
-) -> Result<Told, AllocError> {
+) -> Result<PageResult, AllocError> {
     let Some(found) = most_kinds(rt, alloc, shared, limit)? else {
         return spell_down(page);
     };
@@ -55,8 +55,8 @@ fn spell_tag_page<D: Disk, L: Ledger, R: Wait + Clock>(
     spell_bytes(&out, page)
 }
 
-// Those of which there are most, so many at most, and whether they are all; nothing if the server is
-// down.
+// Those of which there are most, so many at most, and whether they are all; nothing if the server
+// is down.
 fn most_kinds<D: Disk, L: Ledger, R: Wait + Clock>(
     rt: &R,
     alloc: Global,

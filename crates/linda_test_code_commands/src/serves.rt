@@ -4,7 +4,7 @@ use linda_bag::Bag;
 use linda_book::KeptReply;
 use linda_call::{CallFault, call};
 use linda_disk::FileDisk;
-use linda_serve::{Plan, ServingFault, open_store, serve_folder};
+use linda_serve::{ServePlan, ServingFault, open_store, serve_folder};
 use linda_server::Durable;
 use linda_text::write_tuple;
 use std::alloc::{AllocError, Global};
@@ -120,7 +120,7 @@ fn serve_and_call<
         let _ = scope
             .spawn(move || call_server(rt, alloc, port, printed))
             .is_err();
-        let plan = Plan {
+        let plan = ServePlan {
             port: Some(port),
             socket: None,
             folder: FOLDER,

@@ -2,7 +2,7 @@
 
 ghost use Rattle.std.specs.Prelude.{◌≤◌, length};
 
-use linda_gate_pass::Gate;
+use linda_gate_pass::ClientGate;
 use std::alloc::{AllocError, Global};
 use std::process::Abort;
 
@@ -58,7 +58,7 @@ const CHECK: [u8; 61] = [
 fn passed(alloc: Global, bytes: &[u8], cut: usize) -> Vec<u8>
     requires { cut ≤ length bytes.now }
 {
-    let mut gate = Gate::new(alloc);
+    let mut gate = ClientGate::new(alloc);
     let mut out = Vec::new(alloc);
     if gate.received(&bytes[..cut], &mut out).is_ok() {
         let _ = gate.received(&bytes[cut..], &mut out).is_ok();

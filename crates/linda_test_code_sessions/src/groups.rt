@@ -6,8 +6,8 @@ ghost use Rattle.linda_shared_accounts.specs.declared.limits.TheConstants.{PARTS
 
 use linda_disk::MemDisk;
 use linda_shared::{
-    Account, Group, MAX_GROUP, MOST_ASKED, Post, Sent, ServedGroup, Shared, SharedFault,
-    hear_answer,
+    Account, MAX_GROUP, MOST_ASKED, MessageGroup, ReplySink, Sent, ServedGroup, Shared,
+    SharedFault, hear_answer,
 };
 use linda_shared_accounts::PARTS;
 use linda_test_script::{read_batch, write_reply};
@@ -56,7 +56,7 @@ pub(crate) struct Posted {
     pub(crate) is_lost: bool,
 }
 
-impl Post for Posted {
+impl ReplySink for Posted {
     fn post<R: Wait>(&mut self, _rt: &R, sent: Sent) {
         let is_kept = self.sent.push(sent).is_ok();
         self.is_lost = self.is_lost || !is_kept;
@@ -119,7 +119,7 @@ fn place_of<L: Ledger>(accounts: &[Account<L>], client: u32) -> Option<usize> {
 
 // Puts a message of a client into the group.
 fn put_in<L: Ledger>(
-    group: &mut Group<usize, L>,
+    group: &mut MessageGroup<usize, L>,
     accounts: &mut [Account<L>],
     client: u32,
     message: Message,
@@ -150,7 +150,7 @@ pub(crate) fn play_group<L: Ledger, R: Wait>(
     let Ok(messages) = read_batch(alloc, words) else {
         return Err(AllocError);
     };
-    let mut group = Group::new(alloc, MAX_GROUP)?;
+    let mut group = MessageGroup::new(alloc, MAX_GROUP)?;
     for (client, message) in messages {
         put_in(&mut group, accounts, client, message)?;
     }

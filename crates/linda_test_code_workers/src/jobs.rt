@@ -12,22 +12,22 @@ use std::time::Clock;
 /// By id, what was put and what was taken: the job's number and one; 0 if nothing was. And how
 /// often an id came twice, or a tuple that is no job.
 #[derive(Drop)]
-pub(super) struct Tally {
+pub(super) struct CounterValues {
     put: Vec<AtomicU64>,
     taken: Vec<AtomicU64>,
     wrong: AtomicU64,
 }
 
-impl Tally {
+impl CounterValues {
     /// For ids below this one.
-    pub(super) fn new(alloc: Global, end: usize) -> Result<Tally, AllocError> {
+    pub(super) fn new(alloc: Global, end: usize) -> Result<CounterValues, AllocError> {
         let mut all = Vec::new(alloc);
         let mut taken = Vec::new(alloc);
         for _ in 0..end {
             all.push(AtomicU64::new(0))?;
             taken.push(AtomicU64::new(0))?;
         }
-        Ok(Tally {
+        Ok(CounterValues {
             put: all,
             taken,
             wrong: AtomicU64::new(0),
@@ -77,7 +77,7 @@ impl Tally {
 #[derive(Drop)]
 pub(super) struct Jobs<'t> {
     alloc: Global,
-    tally: &'t Tally,
+    tally: &'t CounterValues,
     all: u64,
     number: u64,
     stored: u64,
@@ -88,7 +88,7 @@ pub(super) struct Jobs<'t> {
 
 impl<'t> Jobs<'t> {
     /// Nothing is put yet.
-    pub(super) fn new(alloc: Global, tally: &'t Tally, all: u64) -> Jobs<'t> {
+    pub(super) fn new(alloc: Global, tally: &'t CounterValues, all: u64) -> Jobs<'t> {
         Jobs {
             alloc,
             tally,

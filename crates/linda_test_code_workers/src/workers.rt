@@ -3,7 +3,7 @@
 ghost use Rattle.std.specs.Prelude.{◌≡◌};
 ghost use Rattle.linda_shared_accounts.specs.declared.limits.TheConstants.{PARTS};
 
-use super::jobs::{Jobs, Tally};
+use super::jobs::{CounterValues, Jobs};
 use linda_disk::{MemDisk, Torn};
 use linda_shared::{Gate, Report, Seat, Shared, SharedFault, Worked, run_workers};
 use linda_shared_accounts::PARTS;
@@ -101,7 +101,7 @@ fn work<L: Ledger + Send + Sync, R: Threads + Wait + Clock + Abort + Sync>(
     alloc: Global,
     shared: &Shared<MemDisk, L>,
     crew: &Crew,
-    tally: &Tally,
+    tally: &CounterValues,
 ) -> Result<Vec<Seat<L>>, AllocError> {
     let workers = workers_of(rt, alloc, shared, crew, tally)?;
     let Ok(Worked { seats, end }) = run_workers(rt, alloc, shared, workers, &crew.gate) else {
@@ -118,7 +118,7 @@ fn workers_of<'t, S: Drop, O: Drop, H: Host<S, O>, R: Wait>(
     alloc: Global,
     host: &H,
     crew: &Crew,
-    tally: &'t Tally,
+    tally: &'t CounterValues,
 ) -> Result<Vec<(S, O, Jobs<'t>)>, AllocError> {
     let mut workers = Vec::new(alloc);
     for client in 1..crew.clients.saturating_add(1) {
@@ -168,7 +168,7 @@ fn do_all<L: Ledger + Send + Sync, R: Threads + Wait + Clock + Abort + Sync>(
     all: u64,
 ) -> Result<(), AllocError> {
     let ids = usize::try_from(all).unwrap_or(0);
-    let tally = Tally::new(alloc, ids.saturating_add(1))?;
+    let tally = CounterValues::new(alloc, ids.saturating_add(1))?;
     let seats = work(rt, alloc, shared, crew, &tally)?;
     if crew.end.is_ok() {
         let told = told_by(shared.finish(rt, seats));
@@ -284,7 +284,7 @@ fn told_until_down<L: Ledger + Send + Sync, R: Threads + Wait + Clock + Abort + 
         end: Err(SharedFault::Down),
         gate: Gates::Open,
     };
-    let tally = Tally::new(alloc, 401)?;
+    let tally = CounterValues::new(alloc, 401)?;
     let seats = work(rt, alloc, shared, &crew, &tally)?;
     let told = deeds_told(&seats);
     assert!(rt; shared.is_down(rt));

@@ -2,7 +2,8 @@
 
 use crate::texts::done;
 use linda_serve::{
-    Cause, FileCall, FileTrouble, Gauge, InUse, Log, Notice, Refused, Tally, Watcher, Why, stamp_of,
+    Cause, CounterValues, FileCall, FileTrouble, Gauge, InUse, Log, Notice, RefusalReason,
+    RefusalValues, Watcher, stamp_of,
 };
 use linda_test_script::{WordsFault, read_number, read_numbered, split_word};
 use std::alloc::{AllocError, Global};
@@ -26,13 +27,13 @@ const GAUGE: Gauge = Gauge {
 };
 
 /// What came to it.
-const TALLY: Tally = Tally {
+const TALLY: CounterValues = CounterValues {
     came: 7,
     over: 4,
     refused: 6,
     closed: 2,
     missed: 3,
-    turned: Refused {
+    turned: RefusalValues {
         busy: 4,
         clients: 3,
         greetings: 2,
@@ -218,12 +219,12 @@ fn call_of(name: &str) -> Result<FileCall, WordsFault> {
 }
 
 // The reason of this name for which clients are refused.
-fn why_of(name: &str) -> Result<Why, WordsFault> {
+fn why_of(name: &str) -> Result<RefusalReason, WordsFault> {
     match name {
-        "busy" => Ok(Why::Busy),
-        "clients" => Ok(Why::Clients),
-        "greeting" => Ok(Why::Greeting),
-        "malformed" => Ok(Why::Malformed),
+        "busy" => Ok(RefusalReason::Busy),
+        "clients" => Ok(RefusalReason::Clients),
+        "greeting" => Ok(RefusalReason::Greeting),
+        "malformed" => Ok(RefusalReason::Malformed),
         _ => Err(WordsFault::Unknown),
     }
 }

@@ -4,7 +4,7 @@ use crate::disk::TornDisk;
 use crate::net::Pipe;
 use crate::side::{Counts, Loop, Place, Renewal, Side};
 use linda_net_loops::Serving;
-use linda_net_relays::{Look, Relay, Relays};
+use linda_net_relays::{Look, LoopDirectory, LoopInbox};
 use linda_shared::{Progress, Shared, SharedFault};
 use mio::{Poll, Token, Waker};
 use std::alloc::Global;
@@ -14,23 +14,27 @@ use std::sync::Wait;
 use std::sync::ledger::Ledger;
 use std::time::Clock;
 
-/// A server and its connections. Its loops take turns, so nobody waits for their bells.
+/// A server and its connections. Its loops take turns, so none of them is woken.
 #[derive(Drop)]
 pub struct Rig<L: Ledger> {
     shared: Shared<TornDisk, L>,
-    relays: Relays,
+    directory: LoopDirectory,
     first: Serving<Pipe, L>,
     second: Serving<Pipe, L>,
 }
 
 impl<L: Ledger> Rig<L> {
     /// A server without connections.
-    pub fn new(alloc: Global, shared: Shared<TornDisk, L>, relays: Relays) -> io::Result<Rig<L>> {
+    pub fn new(
+        alloc: Global,
+        shared: Shared<TornDisk, L>,
+        directory: LoopDirectory,
+    ) -> io::Result<Rig<L>> {
         let first = Serving::new(alloc, 0)?;
         let second = Serving::new(alloc, 1)?;
         Ok(Rig {
             shared,
-            relays,
+            directory,
             first,
             second,
         })
@@ -44,14 +48,14 @@ impl<L: Ledger> Rig<L> {
 }
 
 /// What two loops hand to each other.
-pub fn relays_of<R: Net>(rt: &R, alloc: Global) -> io::Result<Relays> {
-    let mut relays = Vec::new(alloc);
+pub fn relays_of<R: Net>(rt: &R, alloc: Global) -> io::Result<LoopDirectory> {
+    let mut inboxes = Vec::new(alloc);
     for _ in 0..2 {
         let poll = Poll::new(rt)?;
-        let bell = Waker::new(poll.registry(), Token(0))?;
-        relays.push(Relay::new(alloc, bell))?;
+        let waker = Waker::new(poll.registry(), Token(0))?;
+        inboxes.push(LoopInbox::new(alloc, waker))?;
     }
-    Ok(Relays::new(alloc, relays))
+    Ok(LoopDirectory::new(alloc, inboxes))
 }
 
 // What came of a snapshot that was not taken.
@@ -88,8 +92,8 @@ impl<L: Ledger> Side for Rig<L> {
 
     fn turn<R: Wait + Clock>(&mut self, rt: &R, which: Loop) {
         let _ = match which {
-            Loop::First => self.first.turn(rt, &self.shared, &self.relays),
-            Loop::Second => self.second.turn(rt, &self.shared, &self.relays),
+            Loop::First => self.first.turn(rt, &self.shared, &self.directory),
+            Loop::Second => self.second.turn(rt, &self.shared, &self.directory),
         };
     }
 
@@ -97,10 +101,10 @@ impl<L: Ledger> Side for Rig<L> {
         match which {
             Loop::First => self
                 .first
-                .look(rt, &self.shared, &self.relays, look, seconds),
+                .look(rt, &self.shared, &self.directory, look, seconds),
             Loop::Second => self
                 .second
-                .look(rt, &self.shared, &self.relays, look, seconds),
+                .look(rt, &self.shared, &self.directory, look, seconds),
         }
     }
 

@@ -1,10 +1,8 @@
 //! A unix socket that a command line names: where a server listens, and who may connect.
 
-ghost use Rattle.std.specs.Prelude.{◌≡◌, ◌<◌, ◌^◌, true, map, codes, IfOk, IfSome};
-ghost use Rattle.std.specs.String.{string_bytes};
+ghost use Rattle.std.specs.Prelude.{◌≡◌, ◌<◌, ◌^◌, codes, IfOk, IfSome};
 ghost use Rattle.clap.specs.Matches.{first_value};
 ghost use Rattle.clap.specs.Words.{found_of};
-ghost use Rattle.linda_args.specs.Commands.{IsAfterCall, IsAfterServe};
 ghost use Rattle.linda_args.specs.Options.{IsSocket, mode_in, octal_digit, octal_of};
 
 use clap::ArgMatches;
@@ -86,55 +84,4 @@ fn octal(digit: u8) -> Option<u32>
         return None;
     }
     Some(u32::from(digit - b'0'))
-}
-
-/// Whether the words of the command line, of which the first names the program, are to serve, and
-/// one of the options of a socket is among them.
-pub(super) fn serves_at_socket(words: &[String]) -> bool
-    ensures yes { result ≡ true → IsAfterServe (map string_bytes words.now) }
-{
-    match words {
-        [_, command, later @ ..] => command.as_str() == "serve" && has_option(later),
-        _ => false,
-    }
-}
-
-/// Whether the words of the command line are a call, and the option of a socket is among them.
-pub(super) fn calls_at_sockets(words: &[String]) -> bool
-    ensures yes { result ≡ true → IsAfterCall (map string_bytes words.now) }
-{
-    match words {
-        [_, command, later @ ..] => command.as_str() == "call" && has_socket(later),
-        _ => false,
-    }
-}
-
-// Whether one of the words is the option of a socket.
-fn has_socket(words: &[String]) -> bool {
-    for word in words {
-        if is_socket(word.as_str()) {
-            return true;
-        }
-    }
-    false
-}
-
-// Whether the word is the option of a socket, with its value or without.
-fn is_socket(word: &str) -> bool {
-    word == "--socket" || word.starts_with("--socket=")
-}
-
-// Whether one of the words is an option of a socket.
-fn has_option(words: &[String]) -> bool {
-    for word in words {
-        if is_option(word.as_str()) {
-            return true;
-        }
-    }
-    false
-}
-
-// Whether the word is an option of a socket, with its value or without.
-fn is_option(word: &str) -> bool {
-    is_socket(word) || word == "--mode" || word.starts_with("--mode=")
 }

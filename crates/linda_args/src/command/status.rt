@@ -1,13 +1,15 @@
 //! Places of the status, a port or a path, and the tags that are counted there.
 
-ghost use Rattle.std.specs.Prelude.{◌≡◌, ℕ, List, [], Some, true, map, codes, unwrap_or, IfOk, IfSome};
+ghost use Rattle.std.specs.Prelude.{◌≡◌, ℕ, List, [], Some, map, codes, unwrap_or, IfOk};
+ghost use Rattle.std.specs.Prelude.{IfSome};
 ghost use Rattle.std.specs.String.{string_bytes};
 ghost use Rattle.clap.specs.Matches.{first_value, one_text};
 ghost use Rattle.clap.specs.Words.{found_of};
-ghost use Rattle.linda_args.specs.Commands.{IsAfterServe, IsStatusPlace};
+ghost use Rattle.linda_args.specs.Commands.{IsStatusPlace};
 ghost use Rattle.linda_args.specs.Options.{IsStatus, options_of};
 
 use super::options::short_number;
+use super::words::has_slash;
 use clap::ArgMatches;
 use std::alloc::{AllocError, Global};
 
@@ -78,33 +80,4 @@ pub(super) fn metrics_found(alloc: Global, matches: &ArgMatches) -> Result<Vec<S
         }
     }
     Ok(metrics)
-}
-
-/// Whether the words of the command line, of which the first names the program, are to serve, and
-/// the option of the status has a value with a slash.
-pub(super) fn asks_at_path(words: &[String]) -> bool
-    ensures yes { result ≡ true → IsAfterServe (map string_bytes words.now) }
-{
-    match words {
-        [_, command, later @ ..] => command.as_str() == "serve" && has_path(later),
-        _ => false,
-    }
-}
-
-// Whether one of the words is the option of the status with a path, or the path follows it.
-fn has_path(words: &[String]) -> bool {
-    let mut is_value = false;
-    for word in words {
-        let word = word.as_str();
-        if has_slash(word) && (is_value || word.starts_with("--status=")) {
-            return true;
-        }
-        is_value = word == "--status";
-    }
-    false
-}
-
-// Whether the text has a slash: then it names a path.
-fn has_slash(text: &str) -> bool {
-    text.contains('/')
 }

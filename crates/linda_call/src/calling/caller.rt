@@ -11,9 +11,9 @@ use super::fault::CallFault;
 use super::kept::{write_kept, write_none, write_without_id};
 use super::manner::Manner;
 use super::party::Party;
-use super::ring::{Fate, MOST, News, Ring};
+use super::ring::{Fate, MOST, News, PutRing};
 use linda_client::{ClientFault, Outcome, Reaction};
-use linda_net_proxy::{Arrival, Inbox, Link};
+use linda_net_proxy::{EventInbox, ServerEvent, ServerLink};
 use linda_shell_text::{Request, behind_word, read_request, write_outcome, write_refusal};
 use linda_text::skip_blanks;
 use linda_tuple::Tuple;
@@ -30,9 +30,9 @@ pub(super) struct Caller<'a> {
     party: Party,
     // Lines that put tuples do not wait for one another.
     together: bool,
-    ring: Ring,
-    links: &'a [Link],
-    inbox: &'a Inbox,
+    ring: PutRing,
+    links: &'a [ServerLink],
+    inbox: &'a EventInbox,
     start: Instant,
 }
 
@@ -46,8 +46,8 @@ impl<'a> Caller<'a> {
     pub(super) fn new(
         rt: &impl Clock,
         alloc: Global,
-        inbox: &'a Inbox,
-        links: &'a [Link],
+        inbox: &'a EventInbox,
+        links: &'a [ServerLink],
         number: u32,
         manner: Manner,
     ) -> Result<Caller<'a>, CallFault>
@@ -62,7 +62,7 @@ impl<'a> Caller<'a> {
         Ok(Caller {
             party,
             together: manner.together,
-            ring: Ring::new(alloc, number, servers),
+            ring: PutRing::new(alloc, number, servers),
             links,
             inbox,
             start,
@@ -235,15 +235,15 @@ impl Caller<'_> {
     }
 
     // Hears what came while the client does nothing: the puts under way hear it, and what has come
-    // of them is written. A Gap is passed over while puts wait at its server. The server refused one
-    // before, which is what is reported; or what it answers went out over a new connection before
-    // its Welcome was heard, and was sent again after that.
+    // of them is written. A Gap is passed over while puts wait at its server. The server refused
+    // one before, which is what is reported; or what it answers went out over a new connection
+    // before its Welcome was heard, and was sent again after that.
     fn hear_beside<S: Wait, W: Write>(
         &mut self,
         rt: &S,
         alloc: Global,
         server: u32,
-        arrival: Arrival,
+        arrival: ServerEvent,
         writer: &mut W,
     ) -> Result<(), CallFault> {
         if is_gap(&arrival) && self.ring.waits_at(server) {
@@ -304,7 +304,7 @@ impl Caller<'_> {
         for _ in rt.forever() {
             match self.inbox.take_now(rt) {
                 None => return Ok(()),
-                Some((server, Arrival::NoConnection)) if self.ring.is_empty() => {
+                Some((server, ServerEvent::NoConnection)) if self.ring.is_empty() => {
                     self.retry(rt, server);
                 }
                 Some((server, arrival)) => {
@@ -356,11 +356,12 @@ impl Caller<'_> {
         for _ in rt.forever() {
             match self.inbox.take(rt) {
                 None => {}
-                Some((from, Arrival::Came(reply))) if is_answer(from, &reply, server, number) => {
-                    if let Some(line) = write_kept(alloc, server, client, &reply)? {
-                        return Ok(line);
+                Some((from, ServerEvent::Came(reply))) if is_answer(from, &reply, server, number) =>
+                    {
+                        if let Some(line) = write_kept(alloc, server, client, &reply)? {
+                            return Ok(line);
+                        }
                     }
-                }
                 Some((from, arrival)) => {
                     let is_greeted = from == server && is_greeting(&arrival);
                     self.hear(rt, alloc, from, arrival, writer)?;
@@ -438,7 +439,7 @@ impl Caller<'_> {
         rt: &S,
         alloc: Global,
         server: u32,
-        arrival: Arrival,
+        arrival: ServerEvent,
         writer: &mut W,
     ) -> Result<bool, CallFault> {
         let reaction = self.party.take(alloc, server, arrival)?;
@@ -506,30 +507,30 @@ fn is_last(line: &[u8]) -> bool {
 }
 
 // Whether a server says that messages before one are missing.
-fn is_gap(arrival: &Arrival) -> bool
+fn is_gap(arrival: &ServerEvent) -> bool
     ensures { result ≡ spec.is_gap arrival.now }
 {
     match arrival {
-        Arrival::Came(Reply::Refused { code, .. }) => *code == Refusal::Gap(0).code(),
+        ServerEvent::Came(Reply::Refused { code, .. }) => *code == Refusal::Gap(0).code(),
         _ => false,
     }
 }
 
 // What comes of puts by what a server brings.
-fn news_in(server: u32, arrival: &Arrival) -> Option<News>
+fn news_in(server: u32, arrival: &ServerEvent) -> Option<News>
     ensures { result ≡ spec.news_in server arrival.now }
 {
     match arrival {
-        Arrival::Greeted(last) => Some(News::Welcomed {
+        ServerEvent::Greeted(last) => Some(News::Welcomed {
             server,
             last: *last,
         }),
-        Arrival::Came(Reply::Stored { n, id }) => Some(News::Stored {
+        ServerEvent::Came(Reply::Stored { n, id }) => Some(News::Stored {
             server,
             number: *n,
             id: *id,
         }),
-        Arrival::Came(Reply::Refused { code, detail }) => Some(News::Refused {
+        ServerEvent::Came(Reply::Refused { code, detail }) => Some(News::Refused {
             server,
             code: *code,
             detail: *detail,
@@ -539,8 +540,8 @@ fn news_in(server: u32, arrival: &Arrival) -> Option<News>
 }
 
 // Whether a server welcomed the client.
-fn is_greeting(arrival: &Arrival) -> bool {
-    matches!(arrival, Arrival::Greeted(_))
+fn is_greeting(arrival: &ServerEvent) -> bool {
+    matches!(arrival, ServerEvent::Greeted(_))
 }
 
 // Writes a line, with its line feed, and flushes it.

@@ -21,9 +21,9 @@ ghost use Rattle.linda_call.specs.declared.calling.fault.CallFault.TheVariants a
 
 use super::fault::CallFault;
 use super::numbers::{homeward, number_of, onward};
-use super::standing::{Meeting, Standing, first_unmet, put, settle, standing_at, unmet};
+use super::standing::{Meeting, ServerStanding, first_unmet, put, settle, standing_at, unmet};
 use linda_client::{Client, ClientFault, Reaction};
-use linda_net_proxy::Arrival;
+use linda_net_proxy::ServerEvent;
 use linda_shell_text::Request;
 use linda_wire::{Message, Reply};
 use std::alloc::Global;
@@ -32,7 +32,7 @@ use std::alloc::Global;
 #[derive(Drop)]
 pub(super) struct Party {
     client: Client,
-    standings: Vec<Standing>,
+    standings: Vec<ServerStanding>,
     // It goes on after the numbers that servers keep for it.
     goes_on: bool,
     // The offer that was accepted last: its server and its ticket.
@@ -158,7 +158,7 @@ impl Party {
         &mut self,
         alloc: Global,
         server: u32,
-        arrival: Arrival,
+        arrival: ServerEvent,
     ) -> Result<Reaction, CallFault>
         ensures taken { IsTaken self.old server arrival result self.new }
         ensures client { OnErr result (self.new.client ≡ self.old.client) }
@@ -168,12 +168,12 @@ impl Party {
             × (self.new.accepted ≡ self.old.accepted) }
     {
         match arrival {
-            Arrival::Came(reply) => self.hear(alloc, server, reply),
-            Arrival::Greeted(last) => self.welcome(alloc, server, last),
-            Arrival::Refused(code, detail) => Err(CallFault::Refused(server, code, detail)),
-            Arrival::NotAServer => Err(CallFault::NotAServer(server)),
-            Arrival::NoConnection => Err(CallFault::NoConnection(server)),
-            Arrival::Memory => Err(CallFault::Memory),
+            ServerEvent::Came(reply) => self.hear(alloc, server, reply),
+            ServerEvent::Greeted(last) => self.welcome(alloc, server, last),
+            ServerEvent::Refused(code, detail) => Err(CallFault::Refused(server, code, detail)),
+            ServerEvent::NotAServer => Err(CallFault::NotAServer(server)),
+            ServerEvent::NoConnection => Err(CallFault::NoConnection(server)),
+            ServerEvent::Memory => Err(CallFault::Memory),
         }
     }
 

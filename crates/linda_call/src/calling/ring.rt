@@ -47,7 +47,7 @@ pub(super) struct Put {
 
 /// The puts under way, in the order of their lines, and the server of the next one.
 #[derive(Drop)]
-pub(super) struct Ring {
+pub(super) struct PutRing {
     puts: Vec<Put>,
     next: u32,
 }
@@ -102,15 +102,15 @@ impl Put {
     }
 }
 
-impl Ring {
+impl PutRing {
     /// Nothing is under way; the first put of this client goes to the server that its number leaves
     /// by the count of servers.
-    pub(super) fn new(alloc: Global, client: u32, servers: u32) -> Ring
+    pub(super) fn new(alloc: Global, client: u32, servers: u32) -> PutRing
         requires { 1 ≤ servers }
         ensures puts { result.puts.items ≡ [] }
         ensures next { result.next ≡ client % servers }
     {
-        Ring {
+        PutRing {
             puts: Vec::new(alloc),
             next: client % servers,
         }

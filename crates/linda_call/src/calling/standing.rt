@@ -33,7 +33,7 @@ pub(super) enum Meeting {
 
 /// How the client stands with one server.
 #[derive(Clone, Copy, Debug)]
-pub(super) struct Standing {
+pub(super) struct ServerStanding {
     /// It was welcomed.
     pub(super) is_met: bool,
     /// The last number that the server kept before the client began.
@@ -49,7 +49,7 @@ pub(super) struct Standing {
 }
 
 /// A server that was not met yet.
-const UNMET: Standing = Standing {
+const UNMET: ServerStanding = ServerStanding {
     is_met: false,
     base: 0,
     kept: 0,
@@ -63,14 +63,14 @@ const UNMET: Standing = Standing {
 /// # Errors
 ///
 /// `AllocError` if memory runs out.
-pub(super) fn unmet(alloc: Global, servers: usize) -> Result<Vec<Standing>, AllocError>
+pub(super) fn unmet(alloc: Global, servers: usize) -> Result<Vec<ServerStanding>, AllocError>
     ensures { IfOk result (λ all. all.items ≡ spec.all_unmet servers) }
 {
     vec![in alloc; UNMET; servers]
 }
 
 /// The number of the first that was not met.
-pub(super) fn first_unmet(standings: &[Standing]) -> Option<u32>
+pub(super) fn first_unmet(standings: &[ServerStanding]) -> Option<u32>
     ensures { result ≡ spec.first_unmet 0 standings.now }
 {
     let mut server: u32 = 0;
@@ -85,7 +85,7 @@ pub(super) fn first_unmet(standings: &[Standing]) -> Option<u32>
 
 /// How the client stands with the server of this number, and as with one that was not met if there
 /// is none.
-pub(super) fn standing_at(standings: &[Standing], server: u32) -> Standing
+pub(super) fn standing_at(standings: &[ServerStanding], server: u32) -> ServerStanding
     ensures { result ≡ spec.standing_at standings.now server }
 {
     let place = server as usize;
@@ -97,7 +97,7 @@ pub(super) fn standing_at(standings: &[Standing], server: u32) -> Standing
 }
 
 /// The server of this number stands so, if there is one.
-pub(super) fn put(standings: &mut Vec<Standing>, server: u32, standing: Standing)
+pub(super) fn put(standings: &mut Vec<ServerStanding>, server: u32, standing: ServerStanding)
     ensures { standings.new.items ≡ spec.with_standing standings.old.items server standing }
 {
     let place = server as usize;
@@ -107,7 +107,7 @@ pub(super) fn put(standings: &mut Vec<Standing>, server: u32, standing: Standing
 }
 
 /// What was pending has ended: nothing was asked for again since.
-pub(super) fn settle(standings: &mut Vec<Standing>)
+pub(super) fn settle(standings: &mut Vec<ServerStanding>)
     ensures { standings.new.items ≡ map spec.settled standings.old.items }
 {
     for standing in standings.iter_mut() {
@@ -115,7 +115,7 @@ pub(super) fn settle(standings: &mut Vec<Standing>)
     }
 }
 
-impl Standing {
+impl ServerStanding {
     /// The server welcomes the client with this number, for the first time or again. What that
     /// comes to.
     pub(super) fn welcomes(&mut self, last: u64, goes_on: bool) -> Meeting

@@ -4,7 +4,7 @@ use super::banks::Banks;
 use super::minutes::Counted;
 use super::stamp::stamp_now;
 use linda_disk::FileTrouble;
-use linda_net::{Gauge, Notice, Refused, Tally, Watcher, Why};
+use linda_net::{CounterValues, Gauge, Notice, RefusalReason, RefusalValues, Watcher};
 use linda_server::InUse;
 use linda_status::connected;
 use std::alloc::{AllocError, Global};
@@ -176,7 +176,7 @@ impl<'a, W: Write> Log<'a, W> {
         clock: &C,
         notice: Notice,
         gauge: &Gauge,
-        tally: &Tally,
+        tally: &CounterValues,
     ) -> Result<(), AllocError> {
         match notice {
             Notice::Minute => self.spell_minute(clock, gauge, tally),
@@ -204,7 +204,7 @@ impl<'a, W: Write> Log<'a, W> {
         &mut self,
         clock: &C,
         gauge: &Gauge,
-        tally: &Tally,
+        tally: &CounterValues,
     ) -> Result<(), AllocError> {
         let more = self.before.end_minute(gauge.deeds, tally);
         self.begin(clock, "minute")?;
@@ -219,7 +219,7 @@ impl<'a, W: Write> Log<'a, W> {
     }
 
     // How many clients were refused, by the reason.
-    fn turned(&mut self, more: &Refused) -> Result<(), AllocError> {
+    fn turned(&mut self, more: &RefusalValues) -> Result<(), AllocError> {
         self.number("busy", more.busy)?;
         self.number("toomany", more.clients)?;
         self.number("greetings", more.greetings)?;
@@ -229,8 +229,8 @@ impl<'a, W: Write> Log<'a, W> {
     fn spell_refused<C: Clock>(
         &mut self,
         clock: &C,
-        why: Why,
-        tally: &Tally,
+        why: RefusalReason,
+        tally: &CounterValues,
     ) -> Result<(), AllocError> {
         self.begin(clock, "refused")?;
         self.word("why", word_of_why(why))?;
@@ -254,7 +254,7 @@ impl<'a, W: Write> Log<'a, W> {
         &mut self,
         clock: &C,
         lacks: &str,
-        tally: &Tally,
+        tally: &CounterValues,
     ) -> Result<(), AllocError> {
         self.begin(clock, "limit")?;
         self.word("lacks", lacks)?;
@@ -308,7 +308,7 @@ impl<'a, W: Write> Log<'a, W> {
 }
 
 impl<W: Write> Watcher for Log<'_, W> {
-    fn tell<C: Clock>(&mut self, clock: &C, notice: Notice, gauge: &Gauge, tally: &Tally) {
+    fn tell<C: Clock>(&mut self, clock: &C, notice: Notice, gauge: &Gauge, tally: &CounterValues) {
         let told = self.spell(clock, notice, gauge, tally);
         self.send(told);
     }
@@ -326,12 +326,12 @@ impl<W: Write> Watcher for Log<'_, W> {
     }
 }
 
-fn word_of_why(why: Why) -> &'static str {
+fn word_of_why(why: RefusalReason) -> &'static str {
     match why {
-        Why::Busy => "busy",
-        Why::Clients => "toomany",
-        Why::Greeting => "greeting",
-        Why::Malformed => "malformed",
+        RefusalReason::Busy => "busy",
+        RefusalReason::Clients => "toomany",
+        RefusalReason::Greeting => "greeting",
+        RefusalReason::Malformed => "malformed",
     }
 }
 

@@ -3,7 +3,7 @@
 ghost use Rattle.std.specs.Prelude.{◌≡◌};
 ghost use Rattle.linda_serve.specs.Minutes.{counted, more_counted, none_counted};
 
-use linda_net::{Refused, Tally};
+use linda_net::{CounterValues, RefusalValues};
 
 /// Deeds, puts and takes that were refused since the bank is full, connections that were not
 /// served, clients that were refused, and connections of clients that were late.
@@ -12,7 +12,7 @@ pub(super) struct Counted {
     pub(super) deeds: u64,
     pub(super) refused: u64,
     pub(super) unserved: u64,
-    pub(super) turned: Refused,
+    pub(super) turned: RefusalValues,
     pub(super) late: u64,
 }
 
@@ -25,13 +25,13 @@ impl Counted {
             deeds: 0,
             refused: 0,
             unserved: 0,
-            turned: Refused::none(),
+            turned: RefusalValues::none(),
             late: 0,
         }
     }
 
     // All until now.
-    fn of(deeds: u64, tally: &Tally) -> Counted
+    fn of(deeds: u64, tally: &CounterValues) -> Counted
         ensures { result ≡ counted deeds tally.now }
     {
         Counted {
@@ -58,7 +58,7 @@ impl Counted {
 
     /// A minute ends, until whose end so many deeds were done. Returns what came in it; all until
     /// now is kept for the next one.
-    pub(super) fn end_minute(&mut self, deeds: u64, tally: &Tally) -> Counted
+    pub(super) fn end_minute(&mut self, deeds: u64, tally: &CounterValues) -> Counted
         ensures more { result ≡ more_counted (counted deeds tally.now) self.old }
         ensures kept { self.new ≡ counted deeds tally.now }
     {

@@ -18,7 +18,7 @@ const PRIVATE: u32 = 0o700;
 
 /// A unix socket: its path, and the mode of its file, which says who may connect.
 #[derive(Clone, Copy, Debug)]
-pub struct Place<'a> {
+pub struct SocketFile<'a> {
     /// Its path.
     pub path: &'a str,
     /// The mode of its file: nine bits, as those of `chmod`.
@@ -36,7 +36,7 @@ pub struct Place<'a> {
 pub(super) fn listen_at<R: Files + Net>(
     rt: &R,
     alloc: Global,
-    socket: Place<'_>,
+    socket: SocketFile<'_>,
 ) -> Result<UnixListener, ServingFault> {
     make_way(rt, socket.path)?;
     let folder = private_folder(rt, alloc, socket.path)?;
@@ -75,7 +75,7 @@ pub(super) fn remove<R: Files>(rt: &R, path: &str, own: Option<OwnFile>) {
 fn listen_in<R: Files + Net>(
     rt: &R,
     made: &str,
-    socket: Place<'_>,
+    socket: SocketFile<'_>,
 ) -> Result<UnixListener, ServingFault> {
     let Ok(listener) = UnixListener::bind(rt, made) else {
         return Err(ServingFault::Io);

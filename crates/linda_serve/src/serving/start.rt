@@ -7,6 +7,7 @@ ghost use Rattle.linda_serve.specs.declared.serving.start.TheConstants.{FEW_BYTE
 use super::fault::ServingFault;
 use super::store::{BankFiles, give_back, sync_folder};
 use linda_disk::{FileCall, FileDisk, FileTrouble};
+use linda_net_marks::millis_since;
 use linda_server::{Durable, ServeFault};
 use std::alloc::Global;
 use std::fs::{File, Files};
@@ -54,12 +55,12 @@ enum Hindrance {
 
 /// Opens the store in a folder to serve it.
 ///
-/// If a snapshot was cut off in it, its room is given back, and the next one is put off, for half as
-/// many bytes of records: so the server serves for a while even if it went down in that one, since
-/// the disk had no room for it, and the other half is left when the next one is tried. Else a
-/// snapshot is taken, if the records have at least as many bytes as the bank had when it was new, and
-/// 64 KiB; and the room of the bank before is given back. If it cannot be written, all that is no
-/// bank is given back, and it is tried once more; if that cannot be either, it is put off.
+/// If a snapshot was cut off in it, its room is given back, and the next one is put off, for half
+/// as many bytes of records: so the server serves for a while even if it went down in that one,
+/// since the disk had no room for it, and the other half is left when the next one is tried. Else a
+/// snapshot is taken, if the records have at least as many bytes as the bank had when it was new,
+/// and 64 KiB; and the room of the bank before is given back. If it cannot be written, all that is
+/// no bank is given back, and it is tried once more; if that cannot be either, it is put off.
 ///
 /// # Errors
 ///
@@ -240,15 +241,4 @@ fn of_call(is_right: bool, trouble: FileTrouble) -> Hindrance {
         return Hindrance::Room(BankTrouble { is_right, trouble });
     }
     Hindrance::Fault(ServingFault::Disk)
-}
-
-// How many milliseconds have gone by since then; 0 if the clock cannot be read.
-fn millis_since<C: Clock>(clock: &C, begin: Option<Instant>) -> u64 {
-    let Some(begin) = begin else {
-        return 0;
-    };
-    match begin.elapsed(clock) {
-        Ok(passed) => u64::try_from(passed.as_millis()).unwrap_or(u64::MAX),
-        Err(_) => 0,
-    }
 }

@@ -50,7 +50,7 @@ pub(super) struct BankFiles {
 
 /// What the files of a store say of its snapshots.
 #[derive(Clone, Copy)]
-pub(super) struct Found {
+pub(super) struct FoundBanks {
     /// How many bytes the bank in use took when it was new, if there was one.
     pub(super) base: Option<usize>,
     /// How many bytes there are of a snapshot that was cut off: the other file is no bank, and
@@ -88,7 +88,7 @@ impl BankFiles {
     pub(super) fn open_store(
         &self,
         alloc: Global,
-    ) -> Result<(Durable<FileDisk>, Found), ServingFault>
+    ) -> Result<(Durable<FileDisk>, FoundBanks), ServingFault>
         ensures up { IfOk result (λ o. o.0.down ≡ false) }
         ensures limit { IfOk result (λ o. o.0.limit ≡ 2 ^ 30) }
     {
@@ -96,7 +96,7 @@ impl BankFiles {
         let found = match side {
             Some(true) => found_in(&self.right, &self.left),
             Some(false) => found_in(&self.left, &self.right),
-            None => Found {
+            None => FoundBanks {
                 base: None,
                 torso: None,
             },
@@ -128,8 +128,8 @@ impl BankFiles {
 }
 
 // What a file with a bank in use, and the other one, say of snapshots.
-fn found_in(used: &File, other: &File) -> Found {
-    Found {
+fn found_in(used: &File, other: &File) -> FoundBanks {
+    FoundBanks {
         base: base_in(used),
         torso: torso_in(other),
     }

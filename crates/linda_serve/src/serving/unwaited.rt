@@ -27,7 +27,8 @@ struct Watch {
 }
 
 impl<'a, W: Write + AsRawFd> Unwaited<'a, W> {
-    /// Over this writer. One that the system does not look at, as a regular file, takes all at once.
+    /// Over this writer. One that the system does not look at, as a regular file, takes all at
+    /// once.
     pub fn new<R: Net>(rt: &R, alloc: Global, writer: &'a mut W) -> Unwaited<'a, W> {
         let watch = begin_watch(rt, alloc, writer.as_raw_fd()).ok();
         Unwaited { writer, watch }

@@ -6,7 +6,7 @@ ghost use Rattle.std.specs.Duration.{as_nanos};
 
 use super::log::Log;
 use super::start::{Begun, open_to_serve};
-use super::{Plan, ServingFault};
+use super::{ServePlan, ServingFault};
 use std::alloc::Global;
 use std::fs::{File, Files};
 use std::io::Write;
@@ -29,7 +29,7 @@ pub(super) fn open_when_free<F: Files<File = File>, S: Wait + Clock, E: Write>(
     rt: &S,
     alloc: Global,
     log: &mut Log<'_, E>,
-    plan: &Plan<'_>,
+    plan: &ServePlan<'_>,
 ) -> Result<Begun, ServingFault>
     ensures up { IfOk result (λ begun. begun.server.down ≡ false) }
 {

@@ -5,7 +5,7 @@ ghost use Rattle.linda_shared.specs.Greeting.{WasGreeted, IsSeatOf};
 ghost use Rattle.linda_shared.specs.Group.{told_in, AreTold, IsEffectOf};
 
 use super::Shared;
-use crate::group::Group;
+use crate::group::MessageGroup;
 use crate::served::ServedGroup;
 use linda_disk::Disk;
 use linda_shared_accounts::{Account, SharedFault};
@@ -15,7 +15,7 @@ use std::sync::Wait;
 use std::sync::ledger::Ledger;
 
 /// Who takes what is sent to clients.
-pub trait Post {
+pub trait ReplySink {
     /// The server is locked from now on.
     fn begin(&mut self) {}
 
@@ -53,10 +53,10 @@ impl<D: Disk, L: Ledger> Shared<D, L> {
     /// Serves the messages of a group, one after the other in one call of the server, and posts
     /// what is sent, once it is on the disks; it says before that the server is locked. Returns
     /// each message with its answer, and whether the server is up.
-    pub fn serve_group<A: Drop, R: Wait, P: Post>(
+    pub fn serve_group<A: Drop, R: Wait, P: ReplySink>(
         &self,
         rt: &R,
-        group: Group<A, L>,
+        group: MessageGroup<A, L>,
         posts: &mut P,
     ) -> (ServedGroup<A, L>, bool)
         // Each message that was asked has its answer, also if the server is down, in order, and
@@ -84,7 +84,12 @@ impl<D: Disk, L: Ledger> Shared<D, L> {
 
     /// The client leaves: what it asked is given up, and its account is parked for its next
     /// connection. What its leaving sends to others is posted. Says whether the server is up.
-    pub fn depart<R: Wait, P: Post>(&self, rt: &R, account: Account<L>, posts: &mut P) -> bool {
+    pub fn depart<R: Wait, P: ReplySink>(
+        &self,
+        rt: &R,
+        account: Account<L>,
+        posts: &mut P,
+    ) -> bool {
         let mut guard = self.locked.lock(rt);
         let locked = &mut *guard;
         let _ = locked.held.leave(self.alloc, account);

@@ -63,10 +63,17 @@ impl<D: Disk, L: Ledger> Shared<D, L> {
         let mut guard = self.locked.lock(rt);
         let told = park_all(&mut guard.held, seats);
         let report = guard.held.finish(Vec::new(self.alloc))?;
-        match told {
-            Some(told) if told <= report.deeds => Ok(report),
-            _ => Err(SharedFault::SeatMissing),
-        }
+        counting(report, told)
+    }
+}
+
+// The report, if it counts so many deeds.
+fn counting(report: Report, told: Option<u64>) -> Result<Report, SharedFault>
+    ensures { IfOk result (λ r. IfSome told (λ told. told ≤ r.deeds) × IsSome told) }
+{
+    match told {
+        Some(told) if told <= report.deeds => Ok(report),
+        _ => Err(SharedFault::SeatMissing),
     }
 }
 

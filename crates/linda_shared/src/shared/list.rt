@@ -48,7 +48,8 @@ impl<D: Disk, L: Ledger> Shared<D, L> {
     }
 
     /// How many clients are away and took a tuple by their last message, of those from this one on,
-    /// as they are at one moment, as `Held::count_taken` counts them; nothing if the server is down.
+    /// as they are at one moment, as `Held::count_taken` counts them; nothing if the server is
+    /// down.
     pub fn count_taken<R: Wait>(&self, rt: &R, from: u32) -> Option<TakenCount> {
         let guard = self.locked.lock(rt);
         if guard.held.is_down() {

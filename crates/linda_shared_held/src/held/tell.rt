@@ -6,16 +6,16 @@ ghost use Rattle.linda_shared_accounts.specs.Telling.{receipts_in};
 ghost use Rattle.linda_shared_accounts.specs.Accounts.{accounts_of};
 ghost use Rattle.linda_shared_accounts.specs.Effect.{weight, told_of};
 
-use linda_shared_accounts::{Accounts, Answered, Asked, Effect, SharedFault, SharedReceipt};
+use linda_shared_accounts::{Accounts, Ack, Effect, PendingAck, SharedFault, SharedReceipt};
 use std::sync::ledger::Ledger;
 
 // Tells one, and counts.
 fn tell<A: Drop, L: Ledger>(
     accounts: &mut Accounts<L>,
     count: &mut u64,
-    asked: Asked<A, L>,
+    asked: PendingAck<A, L>,
     receipt: Option<SharedReceipt>,
-) -> Answered<A, L>
+) -> Ack<A, L>
     requires { (count.old + weight (told_of receipt) < 2 ^ 64) × (accounts.old.total ≡ count.old) }
     ensures accounts { accounts.new ≡ accounts_of (accounts.old.total + weight (told_of receipt))
         accounts.old.places }
@@ -32,8 +32,8 @@ fn tell<A: Drop, L: Ledger>(
 pub(super) fn settle_all<A: Drop, L: Ledger>(
     accounts: &mut Accounts<L>,
     count: &mut u64,
-    asked: &mut Vec<Asked<A, L>>,
-    answered: &mut Vec<Answered<A, L>>,
+    asked: &mut Vec<PendingAck<A, L>>,
+    answered: &mut Vec<Ack<A, L>>,
     told: &mut Vec<Option<SharedReceipt>>,
 )
     requires room { vec_len answered.old + vec_len asked.old ≤ vec_capacity answered.old }
@@ -65,8 +65,8 @@ pub(super) fn settle_all<A: Drop, L: Ledger>(
 #[tactic(auto, using(crate::proofs::ToldLaws::map_back, crate::proofs::ToldLaws::behind))]
 pub(super) fn fail_all<A: Drop, L: Ledger>(
     accounts: &mut Accounts<L>,
-    asked: &mut Vec<Asked<A, L>>,
-    answered: &mut Vec<Answered<A, L>>,
+    asked: &mut Vec<PendingAck<A, L>>,
+    answered: &mut Vec<Ack<A, L>>,
     fault: SharedFault,
 )
     requires { vec_len answered.old + vec_len asked.old ≤ vec_capacity answered.old }

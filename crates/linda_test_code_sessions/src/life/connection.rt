@@ -5,8 +5,8 @@ use super::line::{Line, greeted, joined};
 use super::said::{Said, Told, message_of, told_of};
 use super::{MEMORY, Wrong};
 use linda_disk::Disk;
-use linda_net_session::{Room, Route, Session, Way};
-use linda_shared::{Group, MOST_ASKED, Shared};
+use linda_net_session::{OpenWays, Route, Session, Way};
+use linda_shared::{MOST_ASKED, MessageGroup, Shared};
 use linda_wire::{Message, ReplyFeed, encode_message};
 use std::alloc::{AllocError, Global};
 use std::sync::Wait;
@@ -66,8 +66,8 @@ pub(super) struct Connection<'s, D: Disk, L: Ledger, R: Wait> {
     wire: Vec<u8>,
     replies: ReplyFeed,
     line: Line<L>,
-    asks: Group<usize, L>,
-    deeds: Group<usize, L>,
+    asks: MessageGroup<usize, L>,
+    deeds: MessageGroup<usize, L>,
     // How many messages were taken from its session.
     taken: u64,
 }
@@ -89,8 +89,8 @@ impl<'s, D: Disk, L: Ledger, R: Wait> Connection<'s, D, L, R> {
         alloc: Global,
         shared: &'s Shared<D, L>,
     ) -> Result<Connection<'s, D, L, R>, AllocError> {
-        let asks = Group::new(alloc, ROOM)?;
-        let deeds = Group::new(alloc, ROOM)?;
+        let asks = MessageGroup::new(alloc, ROOM)?;
+        let deeds = MessageGroup::new(alloc, ROOM)?;
         Ok(Connection {
             rt,
             shared,
@@ -131,7 +131,7 @@ impl<'s, D: Disk, L: Ledger, R: Wait> Connection<'s, D, L, R> {
 
     fn take(&mut self) -> Result<(), Wrong> {
         for _ in 0..=MOST_ASKED {
-            let room = Room {
+            let room = OpenWays {
                 asks: self.asks.has_room(),
                 deeds: self.deeds.has_room(),
             };

@@ -4,7 +4,9 @@ use super::Wrong;
 use crate::groups::Posted;
 use linda_disk::Disk;
 use linda_net_session::{Phase, Session, Way};
-use linda_shared::{Account, Answered, Group, MOST_ASKED, Sent, ServedGroup, Shared, hear_answer};
+use linda_shared::{
+    Account, Ack, MOST_ASKED, MessageGroup, Sent, ServedGroup, Shared, hear_answer,
+};
 use linda_wire::Message;
 use std::alloc::Global;
 use std::sync::Wait;
@@ -59,10 +61,10 @@ impl<L: Ledger> Line<L> {
         &mut self,
         rt: &R,
         shared: &Shared<D, L>,
-        group: &mut Group<usize, L>,
+        group: &mut MessageGroup<usize, L>,
         way: Way,
     ) -> Result<(), Wrong> {
-        let asked = std::mem::replace(group, Group::without_room(self.alloc));
+        let asked = std::mem::replace(group, MessageGroup::without_room(self.alloc));
         let mut posted = Posted::new(self.alloc);
         let (served, is_up) = shared.serve_group(rt, asked, &mut posted);
         let client = client_of(&self.account);
@@ -74,7 +76,11 @@ impl<L: Ledger> Line<L> {
 
     // Hears the answers to messages that went this way. Returns the room of the group, and whether
     // all were of this connection.
-    fn hear_all(&mut self, served: ServedGroup<usize, L>, way: Way) -> (Group<usize, L>, bool) {
+    fn hear_all(
+        &mut self,
+        served: ServedGroup<usize, L>,
+        way: Way,
+    ) -> (MessageGroup<usize, L>, bool) {
         let mut served = served;
         let mut is_heard = true;
         for _ in 0..served.len() {
@@ -158,7 +164,7 @@ pub(super) fn greeted<L: Ledger>(
 
 /// The message of this account joins the group. Says whether it could.
 pub(super) fn joined<L: Ledger>(
-    group: &mut Group<usize, L>,
+    group: &mut MessageGroup<usize, L>,
     account: &mut Option<Account<L>>,
     key: usize,
     message: Message,
@@ -178,7 +184,7 @@ fn heard<L: Ledger>(
     key: usize,
     client: u32,
     message: &Message,
-    answered: Answered<usize, L>,
+    answered: Ack<usize, L>,
 ) -> bool {
     match account {
         Some(account)

@@ -13,11 +13,15 @@ returns-then-is_some-clause-found c = λ words free rows.
 
 pub returns-in-Some-clause-exact : goal.returns-in-Some-clause-exact
 returns-in-Some-clause-exact c = λ words task asks rows.
-    exactly_run c.args.matches.now (found_of c.in-Some.below.now) words task c.run_of.result asks rows (c.in-Some.ensures.found.0 refl) c.in-Some.ensures.rows c.run_of.ensures.bare
+    exactly_run c.args.matches.now (found_of c.in-Some.below.now) words task c.run_of.result asks (record { rows = rows; below = c.in-Some.ensures.rows })
+    (c.in-Some.ensures.found.0 refl)
+    c.run_of.ensures.bare
 
 pub returns-in-Some-clause-found : goal.returns-in-Some-clause-found
 returns-in-Some-clause-found c = λ words free rows.
-    run_asked c.args.matches.now (found_of c.in-Some.below.now) words c.run_of.result free rows (c.in-Some.ensures.found.0 refl) c.in-Some.ensures.rows c.run_of.ensures.bare c.run_of.ensures.traced c.run_of.ensures.explained
+    run_asked c.args.matches.now (found_of c.in-Some.below.now) words c.run_of.result free (record { rows = rows; below = c.in-Some.ensures.rows })
+    (c.in-Some.ensures.found.0 refl)
+    c.run_of.ensures.bare c.run_of.ensures.traced c.run_of.ensures.explained
 
 pub returns-in-None-clause-exact : goal.returns-in-None-clause-exact
 returns-in-None-clause-exact c = λ words task asks rows.

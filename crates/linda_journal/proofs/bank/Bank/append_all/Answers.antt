@@ -25,10 +25,10 @@ returns-in_err-bytes g c =
           let p = err_from_is_err_and c.from_residual.result c.from_residual.ensures.1 in
           let s = c.args.self.now in
           let ds = c.args.deeds.now in
-          let fits = c.if-not-deeds_fit.ensures.exact.0 (search rules) in
+          let fits = c.in-Some.ensures.suit in
           let room = c.if-not-has_room.ensures.yes (search rules) in (
             λ is. absurd (no_memory_fills_none c.from_residual.result (p.1 ∙ ap (λ y. Err y) p.2) is),
-            λ full. absurd (is_admitted (All (SuitsForm s.form) ds) s.limit s.end c.records_len-len.result (bytes_for (length ds) (length (payload s.form ds))) fits c.records_len-len.ensures.exact room full.1),
+            λ full. absurd (is_admitted (All (SuitsForm s.form) ds) s.limit s.end c.in-Some.len (bytes_for (length ds) (length (payload s.form ds))) fits c.in-Some.ensures.exact room full.1),
           );
       unfilled = search rules;
       spent = search rules;
@@ -66,10 +66,10 @@ returns-in_err-put g c =
       room = search rules;
       full =
           let ds = c.args.deeds.now in
-          let fits = c.if-not-deeds_fit.ensures.exact.0 (search rules) in
+          let fits = c.in-Some.ensures.suit in
           let room = c.if-not-has_room.ensures.yes (search rules) in (
             λ is. absurd (device_fills_none c.from_residual-in_err-put.result fault (p.1 ∙ ap (λ y. Err y) p.2) is),
-            λ full. absurd (is_admitted (All (SuitsForm bank.form) ds) bank.limit bank.end c.records_len-len.result (bytes_for (length ds) (length (payload bank.form ds))) fits c.records_len-len.ensures.exact room full.1),
+            λ full. absurd (is_admitted (All (SuitsForm bank.form) ds) bank.limit bank.end c.in-Some.len (bytes_for (length ds) (length (payload bank.form ds))) fits c.in-Some.ensures.exact room full.1),
           );
       unfilled = search rules;
       spent = search rules;
@@ -99,7 +99,7 @@ returns g c =
           (c.in_ok-put.ensures.runs.any_moment honest (whole bank.form bank.generation body records) spelled.behind parts (shut_of bank.form bank.generation body records bank.end old settled));
       done = λ body records honest settled.
           settled_with bank.form bank.generation body records c.args.deeds.now spelled.records spelled.are spelled.behind spelled.starts bank.end old settled spelled.good new _
-          (ap (λ n. bank.end + n) (c.records_len-len.ensures.exact ∙ sym (records_long bank.form c.args.deeds.now spelled.records spelled.are)))
+          (ap (λ n. bank.end + n) (c.in-Some.ensures.exact ∙ sym (records_long bank.form c.args.deeds.now spelled.records spelled.are)))
           (c.in_ok-put.ensures.done (whole bank.form bank.generation body records) spelled.behind parts honest (shut_of bank.form bank.generation body records bank.end old settled));
       place = search rules;
       count = search rules;
@@ -126,9 +126,9 @@ invariant_of-self-2-clause-inside g c ready honest =
     let bank = c.args.self.now in
     let was = c.in_ok-put.ensures.runs.honest.1 honest in
     let long = bytes_long bank.form c.args.deeds.now c.in_ok-bytes.bytes.items c.behind_gate.result.now c.in_ok-bytes.ensures (c.behind_gate.ensures ∙ ap (drop 1) c.deref.ensures.value) in
-    omega (arith, long, c.in_ok-put.ensures.long was, c.records_len-len.ensures.exact)
+    omega (arith, long, c.in_ok-put.ensures.long was, c.in-Some.ensures.exact)
 
 pub invariant_of-self-2-clause-counted : goal.invariant_of-self-2-clause-counted
 invariant_of-self-2-clause-counted g c =
     let counted = c.args.self.now.counted in
-    omega (arith, counted, c.records_len-len.ensures.exact, c.records_for.ensures.exact)
+    omega (arith, counted, c.in-Some.ensures.exact, c.records_for.ensures.exact)

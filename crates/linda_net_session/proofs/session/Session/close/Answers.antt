@@ -1,5 +1,5 @@
 use Rattle.std.proofs.Common.{◌≡◌, None, sym, ap, subst}
-use Rattle.linda_net_session.specs.declared.end.End.TheVariants as ends
+use Rattle.linda_net_session.specs.declared.end.SessionEnd.TheVariants as ends
 use Rattle.linda_net_session.specs.Session.{Session, is_closed}
 use Rattle.linda_net_session.proofs.SessionLaws.{told_lawful}
 use Rattle.linda_net_session.proofs.session.Session.close.Goals as goal

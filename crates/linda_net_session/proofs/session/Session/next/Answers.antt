@@ -2,7 +2,7 @@ use Rattle.std.proofs.Common.{◌≡◌, ◌≤◌, ◌∙◌, sym, ap, subst}
 use Rattle.linda_net_session.specs.declared.phase.TheConstants.{MOST_ASKED}
 use Rattle.linda_net_session.specs.declared.phase.Phase.{Phase}
 use Rattle.linda_wire.specs.Stream.{Whole, message_front}
-use Rattle.linda_net_session.specs.declared.route.Kind.{Kind}
+use Rattle.linda_net_session.specs.declared.route.MessageKind.{MessageKind}
 use Rattle.linda_net_session.specs.declared.route.Route.{Route}
 use Rattle.linda_net_session.specs.Place.{on_way, place}
 use Rattle.linda_net_session.specs.Session.{Session, took}
@@ -22,7 +22,7 @@ pub returns : goal.returns
 returns c =
     let i = c.self.inside in
     let front = rw c.in-Some.is at c.in-Ok.ensures.exact in
-    let goes = c.place-route.ensures ∙ ap (λ (kind : Kind). place i.phase kind c.args.room) c.kind_of.ensures in
+    let goes = c.place-route.ensures ∙ ap (λ (kind : MessageKind). place i.phase kind c.args.room) c.kind_of.ensures in
     let is = took_is i.reads.items i.held c.front_of.new.held i.feed c.front_of.new.feed i.takes.items c.and-self-inside.result.items i.tells.items
     i.writes.items i.out i.phase i.end i.may_have c.in-Some.message c.place-route.result _ c.in-Ok.ensures.empty c.and-self-inside.ensures goes in
     record {
