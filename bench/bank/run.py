@@ -27,7 +27,7 @@ MOST_BESIDE_ONE = 1.05
 FORMS = ["LND1", "LND2"]
 HERE = os.path.dirname(os.path.abspath(__file__))
 TOP = os.path.join(HERE, "..", "..")
-NEEDED = ["linda_maps", "linda_rising", "linda_moment", "linda_tuple", "linda_codec", "linda_wire", "linda_bag", "linda_book", "linda_store_state", "linda_disk", "linda_journal"]
+NEEDED = ["linda_map_laws", "linda_rising", "linda_ghost", "linda_tuple", "linda_codec", "linda_wire", "linda_bag", "linda_book", "linda_store_state", "linda_disk", "linda_journal"]
 
 
 def build(folder):

@@ -25,7 +25,7 @@ TUPLES = 1_000_000
 LEAST_RATIO = 0.8
 HERE = os.path.dirname(os.path.abspath(__file__))
 TOP = os.path.join(HERE, "..", "..")
-NEEDED = ["linda_maps", "linda_rising", "linda_moment", "linda_tuple", "linda_codec", "linda_disk", "linda_wire", "linda_bag", "linda_hold", "linda_book", "linda_store_state", "linda_journal",
+NEEDED = ["linda_map_laws", "linda_rising", "linda_ghost", "linda_tuple", "linda_codec", "linda_disk", "linda_wire", "linda_bag", "linda_hold", "linda_book", "linda_store_state", "linda_journal",
           "linda_snap", "linda_store_step", "linda_store", "linda_server"]
 
 

@@ -21,7 +21,7 @@ PLAIN_BYTES = 34
 PLAIN_ROUNDS = 1_000
 HERE = os.path.dirname(os.path.abspath(__file__))
 TOP = os.path.join(HERE, "..", "..")
-NEEDED = ["linda_maps", "linda_rising", "linda_moment", "linda_tuple", "linda_codec", "linda_disk", "linda_wire", "linda_bag", "linda_hold", "linda_book", "linda_store_state",
+NEEDED = ["linda_map_laws", "linda_rising", "linda_ghost", "linda_tuple", "linda_codec", "linda_disk", "linda_wire", "linda_bag", "linda_hold", "linda_book", "linda_store_state",
           "linda_journal", "linda_snap", "linda_store_step", "linda_store", "linda_server", "linda_shared_accounts", "linda_shared_outbox", "linda_shared_held",
           "linda_shared_queue", "linda_shared"]
 

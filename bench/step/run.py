@@ -40,7 +40,7 @@ MOST_BESIDE_HELD = 1.5
 MOST_AS_LEFT = 4.0
 HERE = os.path.dirname(os.path.abspath(__file__))
 TOP = os.path.join(HERE, "..", "..")
-NEEDED = ["linda_maps", "linda_rising", "linda_tuple", "linda_codec", "linda_wire", "linda_bag", "linda_hold", "linda_book", "linda_store_state", "linda_store_step"]
+NEEDED = ["linda_map_laws", "linda_rising", "linda_tuple", "linda_codec", "linda_wire", "linda_bag", "linda_hold", "linda_book", "linda_store_state", "linda_store_step"]
 
 
 def build(folder):

@@ -13,7 +13,8 @@ import assert from 'node:assert/strict';
 import { spawn, spawnSync } from 'node:child_process';
 import { createHash } from 'node:crypto';
 import { once } from 'node:events';
-import { cpSync, mkdirSync, mkdtempSync, readdirSync, readFileSync, rmSync, writeFileSync } from 'node:fs';
+import { cpSync, mkdirSync, mkdtempSync, readdirSync, readFileSync, readlinkSync, rmSync, writeFileSync } from 'node:fs';
+import { open } from 'node:fs/promises';
 import http from 'node:http';
 import net from 'node:net';
 import { tmpdir } from 'node:os';
@@ -287,6 +288,15 @@ const unlessLate = (work) => async (scene) => {
         }
     }
 };
+
+/** The warnings of the library that have this text, from now on. */
+function warnings(scene, text) {
+    const heard = [];
+    const hear = ({ name, message }) => { if (name === 'linda-space' && message.includes(text)) heard.push(message); };
+    process.on('warning', hear);
+    scene.closed.push(() => process.off('warning', hear));
+    return heard;
+}
 
 /** A test with a scene of its own. */
 const play = (name, work) => test(name, { timeout: LIMIT }, (context) => work(new Scene(context)));
@@ -2863,6 +2873,54 @@ describe('a pool', { concurrency: 4 }, () => {
         await fake.end();
     });
 
+    play('a pool that is closed warns of what it took', async (scene) => {
+        const abort = new AbortController();
+        let isAccepted = () => {};
+        const accepted = new Promise((resolve) => { isAccepted = resolve; });
+        const fake = await scene.fake(async (peer) => {
+            await peer.expect(hello(140));
+            peer.send(welcome(0));
+            await peer.expect(frames.ask(1, true, ['warned', INT]));
+            peer.send(offer(1, 3, ['warned', 8]));
+            await peer.expect(frames.accept(1, 1, 3));
+            abort.abort();
+            await sleep(30);
+            peer.send(taken(1, 3, ['warned', 8]));
+            await peer.expect(frames.out(2, ['b']));
+            peer.send(stored(2, 4));
+            await peer.expect(frames.ask(2, true, ['c']));
+            peer.send(offer(2, 5, ['c']));
+            await peer.expect(frames.accept(3, 2, 5));
+            isAccepted();
+            await peer.end();
+        });
+        const heard = [warnings(scene, 'warned'), warnings(scene, 'client 140')];
+        const pool = new Pool([fake.port], { client: range(140, 141), size: 1 });
+        await fails(pool.take(['warned', INT], { signal: abort.signal }), Aborted);
+        await pool.out(['b']);
+        const taking = fails(pool.take(['c']), Closed);
+        await accepted;
+        pool.close();
+        pool.close();
+        await taking;
+        await turn();
+        await turn();
+        assert.deepEqual(heard.map((messages) => messages.length), [1, 1], heard.join());
+        assert.match(heard[0][0], /^a pool is closed with a tuple that it took: /);
+        assert.match(heard[1][0], /^a pool closes client 140, which has sync pending: /);
+        await fake.end();
+        // Nothing is said of a call that waits.
+        const server = await scene.serve(), other = warnings(scene, 'client 141'), pools = new Pool([server.port], { client: range(141, 143), size: 2 });
+        await pools.out(['a']);
+        const waiting = fails(pools.take(['never']), Closed);
+        await sleep(50);
+        pools.close();
+        await waiting;
+        await turn();
+        await turn();
+        assert.deepEqual(other, []);
+    });
+
     play('kills under a pool', async (scene) => {
         let server = await scene.serve();
         const pool = new Pool([server.port], { client: range(100, 108), size: 8, patience: LONG });
@@ -2967,6 +3025,42 @@ describe('client numbers', { concurrency: 4 }, () => {
         }
         for (const wrong of ['', 5, null, 'a\0']) await fails(Space.connect([port], { numbers: wrong }), OutOfRange);
         await fails(Space.connect([port], { numbers: file, client: 7 }), OutOfRange);
+    });
+
+    play('a file of numbers that was cut', async (scene) => {
+        const server = await scene.serve(), { port } = server;
+        const file = path.join(scene.folder, 'numbers'), lines = () => readFileSync(file, 'utf8').split('\n');
+        const heard = warnings(scene, file);
+        const connect = async () => {
+            const one = await Space.connect([port], { numbers: file });
+            scene.spaces.push(one);
+            return one.client;
+        };
+        writeFileSync(file, '78\n4242');
+        assert.equal(await connect(), 78);
+        assert.deepEqual(lines(), ['78', '4242']);
+        const second = await connect();
+        assert.deepEqual(lines(), ['78', '4242x', `${second}`, '']);
+        writeFileSync(file, '4243');
+        const third = await connect();
+        assert.deepEqual(lines(), ['4243x', `${third}`, '']);
+        await turn();
+        assert.equal(heard.length, 3);
+        assert.ok(heard.every((message) => /: 424[23]$/.test(message)), heard.join());
+        writeFileSync(file, '42x\n90\nx\n91\n');                         // two programs have ended it at once
+        assert.equal(await connect(), 90);
+        // A write that is cut is an error, and what is left of it no number.
+        const { constructor: { prototype } } = await open(scene.folder).then(async (handle) => { await handle.close(); return handle; });
+        const { write } = prototype;
+        prototype.write = function some(data, ...more) {
+            return write.call(this, readlinkSync(`/proc/self/fd/${this.fd}`) === file ? data.subarray(0, 3) : data, ...more);
+        };
+        scene.closed.push(() => { prototype.write = write; });
+        rmSync(file);
+        await fails(connect(), NoNumber, { code: 'NoNumber' });
+        prototype.write = write;
+        const [part] = lines(), last = await connect();
+        assert.deepEqual([part.length, lines()], [3, [`${part}x`, `${last}`, '']]);
     });
 
     play('no number at all', async (scene) => {

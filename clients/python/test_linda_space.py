@@ -9,7 +9,9 @@ tools/client-sessions makes from the documents: there a test plays the servers o
 
 from __future__ import annotations
 
+import enum
 import json
+import logging
 import os
 import queue
 import random
@@ -128,6 +130,21 @@ class Peer:
         self.stream.close()
 
 
+@contextmanager
+def logged(about: str) -> Iterator[List[str]]:
+    """The warnings of the library that have this word."""
+    words: List[str] = []
+    handler, logger, before = logging.Handler(logging.WARNING), logging.getLogger("linda_space"), logging.root.manager.disable
+    handler.emit = lambda record: words.append(record.getMessage()) if about in record.getMessage() else None     # type: ignore[method-assign]
+    logger.addHandler(handler)
+    logging.disable(logging.NOTSET)
+    try:
+        yield words
+    finally:
+        logging.disable(before)
+        logger.removeHandler(handler)
+
+
 class Going:
     """A call in a thread of its own."""
 
@@ -242,6 +259,21 @@ class OverServers(WithServers):
         space.out("a", 1)
         self.assertIs(space.take("a", 1)[1] is True, False)
         self.assertIs(space.take("a", True)[1], True)
+
+    def test_members_of_an_enum(self) -> None:
+        """Their values are put and asked for, and not their names."""
+        class Color(str, enum.Enum):
+            RED = "red"
+
+        class Place(enum.IntEnum):
+            FIRST = 3
+
+        space = self.space(self.serve())
+        space.out(Color.RED, Color.RED, Place.FIRST)
+        found = space.look("red", TEXT, INT)
+        assert found is not None
+        self.assertEqual((found, [type(value) for value in found]), (("red", "red", 3), [str, str, int]))
+        self.assertEqual(space.take(Color.RED, Color.RED, Place.FIRST, timeout=0), ("red", "red", 3))
 
     def test_choose_over_two_servers(self) -> None:
         left, right = self.serve("left"), self.serve("right")
@@ -1382,6 +1414,70 @@ class Waits(WithServers):
         self.assertEqual((space.pending, space.last_reply(1)), (None, Kept(1, 1, "taken", 1, ("job", 1, "x"))))
         with space.hold("job", INT, ANY, timeout=0.05) as none, space.hold("job", INT, ANY, timeout=0) as no_other:
             self.assertEqual((none, no_other), (None, None))
+
+    def test_ctrl_c_where_a_hold_begins_or_ends(self) -> None:
+        """Nobody has the tuple in hand then, and so it is free again. Of what else was held Gone tells."""
+        server = self.serve()
+        space, other = self.space(server), self.space(server, client=8)
+
+        def hold(*words: Any) -> None:
+            begin(*words)
+            raise KeyboardInterrupt
+
+        for ends in (False, True):
+            for number in range(2):
+                other.out("job", number)
+            with self.assertRaises(Gone) as caught, space.hold("job", 0) as kept:
+                begin = space._hold
+                place = mock.patch.object(kept.__class__, "release", side_effect=KeyboardInterrupt) if ends else mock.patch.object(space, "_hold", hold)
+                with self.assertRaises(KeyboardInterrupt), place, space.hold("job", 1):
+                    pass
+                self.assertEqual(other.take("job", 1, timeout=PATIENCE), ("job", 1))
+                space.look("job", INT)
+            self.assertEqual((caught.exception.offers, space.look("none")), ((kept,), None))
+            self.assertEqual(other.take("job", 0, timeout=PATIENCE), ("job", 0))
+
+    def test_ctrl_c_while_the_gate_is_given_up(self) -> None:
+        """A call ends with the interrupt, and leaves the gate of the space as it was: other threads get in."""
+        class Gate:
+            """An interrupt comes just before the gate is had by a call of `acquire`, or just after."""
+            def __init__(self, is_after: bool) -> None:
+                self.lock, self.interrupts, self.is_after = threading.RLock(), 1, is_after
+                self.release, self._is_owned = self.lock.release, self.lock._is_owned      # type: ignore[attr-defined]
+
+            def acquire(self) -> bool:
+                if self.interrupts:
+                    self.interrupts = 0
+                    if self.is_after:
+                        self.lock.acquire()
+                    raise KeyboardInterrupt
+                return self.lock.acquire()
+
+            def __enter__(self) -> bool:
+                return self.lock.acquire()
+
+            def __exit__(self, *_: Any) -> None:
+                self.lock.release()
+
+        space = self.space(self.serve())
+        for number in range(2):
+            gate = Gate(number == 1)
+            with mock.patch.object(space, "_gate", gate):
+                with self.assertRaises(KeyboardInterrupt):
+                    space.take("never", timeout=0.1)
+                self.assertEqual((gate._is_owned(), space.out("a"), Going(lambda: space.take("a", timeout=0)).end()), (False, (0, 1 + number), ("a",)))
+
+    def test_ctrl_c_while_a_connection_is_closed(self) -> None:
+        space = self.space(self.serve())
+        for number in range(2):
+            stream = space._links[0].stream
+            assert stream is not None
+            if number == 0:
+                space._selector.unregister(stream)
+            stream.close()                                      # and the interrupt comes now
+            with self.assertRaises(KeyboardInterrupt), mock.patch.object(space, "_send", side_effect=KeyboardInterrupt):
+                space.look("a")
+            self.assertEqual(space.out("a"), (0, 1 + number))
 
     def test_what_is_not_accepted_is_free_again(self) -> None:
         server = self.serve()

@@ -11,20 +11,22 @@ from __future__ import annotations
 
 import asyncio
 import logging
+import random
 import socket
 import ssl
 import subprocess
 import threading
 import time
 import unittest
+from collections import deque
 from contextlib import ExitStack
 from typing import Any, Awaitable, Callable, List, Tuple
 from unittest import mock
 
-from test_linda_space import PATIENCE, Going, OverPairs, WithServers, frames, handed, refusal, stored, welcome
+from test_linda_space import PATIENCE, Going, OverPairs, WithServers, frames, handed, logged, refusal, stored, welcome
 import test_linda_space
 
-from linda_space import ANY, INT, TEXT, Busy, Closed, Gone, In, NoConnection, NoNumber, NumberInUse, OutOfRange, Pool, Rd, Refused, Space, TimedOut, aio
+from linda_space import ANY, INT, TEXT, Busy, Closed, Gone, In, NoConnection, NoNumber, NumberInUse, OutOfRange, Pool, Rd, Refused, Restored, Space, TimedOut, aio
 
 
 
@@ -320,6 +322,74 @@ class Cut(OverPairs):
             self.may_connect = True
             self.assertEqual((pool.out("b"), self.faults), ((0, 7), []))
 
+    def owing(self, second: Callable[[socket.socket], None]) -> Callable[[Any], socket.socket]:
+        """What connects to a server whose first connection ends when a tuple is just being taken."""
+        def first(ours: socket.socket) -> None:
+            self.expect(ours, frames.ask(1, True, "job", frames.INT))
+            ours.sendall(handed(OFFER, 1, 5, "job", 9))
+            self.expect(ours, frames.accept(1, 1, 5))
+
+        connect = self.connections((0, first), (1, second))
+        self.may_connect = False
+        return connect
+
+    def put_back(self, ours: socket.socket) -> None:
+        self.expect(ours, frames.accept(1, 1, 5))
+        ours.sendall(handed(TAKEN, 1, 5, "job", 9))
+        self.expect(ours, frames.out(2, "job", 9))
+        self.puts.append(9)
+        ours.sendall(stored(2, 6))
+        ours.recv(1)
+
+    def test_a_pool_that_is_closed_puts_back(self) -> None:
+        self.puts: List[int] = []
+        pool = Pool([1], [7], size=1, connect=self.owing(self.put_back), patience=0.3)
+        with self.assertRaises(NoConnection):
+            pool.take("job", INT)
+        self.may_connect = True
+        with logged("pool") as words:
+            pool.close()
+            pool.close()
+        self.assertEqual((self.puts, words, self.faults), ([9], [], []))
+
+        async def course() -> None:
+            async with aio.Pool([1], [7], size=1, connect=self.owing(self.put_back), patience=0.3) as pool:
+                with self.assertRaises(NoConnection):
+                    await pool.take("job", INT)
+                self.may_connect = True
+
+        with logged("pool") as words:
+            run(course)
+        self.assertEqual((self.puts, words, self.faults), ([9, 9], [], []))
+
+    def test_a_pool_that_is_closed_says_what_it_cannot_put_back(self) -> None:
+        """Its server is away; or it does not answer, which is waited for so long and no longer."""
+        says = ["a pool closes client 7, which has sync pending: its last reply says what became of it"]
+        waits = lambda ours: (self.expect(ours, frames.accept(1, 1, 5)), ours.recv(1)) and None     # noqa: E731
+        with mock.patch("linda_space.pool.FINISH", 0.6), mock.patch("linda_space.aio.FINISH", 0.6):
+            for is_there in (False, True):
+                pool = Pool([1], [7], size=1, connect=self.owing(waits), patience=0.3)
+                with self.assertRaises(NoConnection):
+                    pool.take("job", INT)
+                self.may_connect, pool._members[0]._patience = is_there, PATIENCE if is_there else 0.3
+                with logged("a pool closes") as words:
+                    began = time.monotonic()
+                    pool.close()
+                self.assertLess(time.monotonic() - began, PATIENCE / 2)
+                self.assertEqual((words, self.faults), (says, []))
+
+                async def course() -> None:
+                    async with aio.Pool([1], [7], size=1, connect=self.owing(waits), patience=0.3) as pool:
+                        with self.assertRaises(NoConnection):
+                            await pool.take("job", INT)
+                        self.may_connect, pool._members[0]._inner._patience = is_there, PATIENCE if is_there else 0.3
+
+                with logged("a pool closes") as words:
+                    began = time.monotonic()
+                    run(course)
+                self.assertLess(time.monotonic() - began, PATIENCE / 2)
+                self.assertEqual((words, self.faults), (says, []))
+
 
 class Pools(WithServers):
     def pool(self, server: Any, numbers: Any = range(100, 132), **how: Any) -> Pool:
@@ -419,6 +489,126 @@ class Pools(WithServers):
         with self.assertRaises(Closed):
             pool.out("a")
         pool.close()
+
+    def test_close_says_nothing_of_calls_that_wait(self) -> None:
+        server = self.serve()
+        pool = self.pool(server, size=3)
+        waiting = [Going(lambda: pool.take("never")) for _ in range(2)]
+        pool.out("a")
+        time.sleep(0.3)
+        with logged("pool") as words:
+            pool.close()
+            for call in waiting:
+                with self.assertRaises(Closed):
+                    call.end()
+        self.assertEqual(words, [])
+
+        async def course() -> None:
+            pool = aio.Pool([server.port], range(100, 110), size=2)
+            task = asyncio.create_task(pool.take("never"))
+            await asyncio.sleep(0.2)
+            await pool.aclose()
+            with self.assertRaises(Closed):
+                await task
+
+        with logged("pool") as words:
+            run(course)
+        self.assertEqual(words, [])
+
+    def test_what_a_member_owes_that_is_dropped_another_puts_back(self) -> None:
+        server = self.serve()
+        pool, other = self.pool(server, size=2), self.space(server)
+        member = pool._members[0]
+        pool._owed[member] = deque([("job", 1), ("job", 2)])
+        with mock.patch.object(member, "out", side_effect=Restored(0, 1, 2)), self.assertRaises(Restored):
+            pool.look("a")
+        self.assertIsNone(pool.look("a"))
+        self.assertEqual(other.take_many("job", INT, count=5), [("job", 1), ("job", 2)])
+
+        async def course() -> None:
+            async with aio.Pool([server.port], range(110, 120), size=2) as pool:
+                await pool.look("a")
+                member = pool._members[0]
+                pool._owed[member] = deque([("job", 1), ("job", 2)])
+                with mock.patch.object(member, "out", side_effect=Restored(0, 1, 2)), self.assertRaises(Restored):
+                    await pool.look("a")
+                self.assertIsNone(await pool.look("a"))
+        run(course)
+        self.assertEqual(other.take_many("job", INT, count=5), [("job", 1), ("job", 2)])
+
+    def test_close_while_another_thread_puts_back(self) -> None:
+        """What it had in hand is there, or is said in the log."""
+        server = self.serve()
+        pool, other = self.pool(server, size=1), self.space(server)
+        member = pool._members[0]
+        pool._owed[member] = deque([("job", 1), ("job", 2)])
+        put = member.out
+
+        def close(*values: Any, **how: Any) -> Any:
+            pool.close()
+            return put(*values, **how)
+
+        with logged("pool") as words, mock.patch.object(member, "out", close), self.assertRaises(Closed):
+            pool.look("a")
+        self.assertEqual((words, other.look("job", INT)), ([f"a pool was to put this back, which it took: ('job', {number})" for number in (1, 2)], None))
+
+    def test_what_an_interrupt_left_is_put_back_by_the_next_call(self) -> None:
+        """Of any member, though another one was used last."""
+        pool = self.pool(self.serve(), size=2)
+        with pool.hold("none", timeout=0):
+            pool.look("a")                                      # by a second member
+        members = [member for member, _ in pool._free]
+        for owing, other in (members, reversed(members)):
+            pool._free.clear()
+            pool._owed[owing] = deque([("job", 1)])
+            lent = [owing, other]
+            pool._users.update((member, lent) for member in lent)
+            pool._end_call(lent)
+            self.assertEqual((pool.take("job", INT, timeout=0), pool._cut), (("job", 1), set()))
+
+    def test_ctrl_c_where_a_member_is_lent(self) -> None:
+        """It is free again, once, wherever the call was interrupted that was about to have it or to make it."""
+        pool = self.pool(self.serve(), size=2)
+
+        def interrupt(name: str) -> None:
+            call = getattr(pool, name)
+
+            def then(*words: Any) -> Any:
+                call(*words)
+                raise KeyboardInterrupt
+
+            with mock.patch.object(pool, name, then), self.assertRaises(KeyboardInterrupt):
+                pool.look("a")
+
+        for name in ("_take", "_next_member", "_finish", "_lend"):
+            interrupt(name)
+            self.assertEqual((len(pool._free), len(pool._members), pool._users, pool._making), (1, 1, {}, {}), name)
+        with pool.hold("none", timeout=0):
+            interrupt("_next_member")
+            self.assertEqual((len(pool._members), pool._making), (1, {}))
+            interrupt("_new_member")
+        self.assertEqual((len(pool._free), len(pool._members), pool._users, pool._making), (2, 2, {}, {}))
+
+    def test_ctrl_c_while_a_tuple_is_put_back(self) -> None:
+        """It is put back once."""
+        server = self.serve()
+        pool, other = self.pool(server, size=1), self.space(server)
+        member = pool._members[0]
+        put = member.out
+
+        def before(*values: Any, **how: Any) -> Any:
+            raise KeyboardInterrupt
+
+        def after(*values: Any, **how: Any) -> Any:
+            put(*values, **how)
+            raise KeyboardInterrupt
+
+        for place in (before, after):
+            pool._owed[member] = deque([("job", 1)])
+            with mock.patch.object(member, "out", place), self.assertRaises(KeyboardInterrupt):
+                pool.look("a")
+            self.assertIsNone(pool.look("a"))
+            self.assertEqual((other.take_many("job", INT, count=5), pool._members), ([("job", 1)], [member]))
 
 
 class Encrypted(WithServers):
@@ -620,6 +810,152 @@ class Async(WithServers):
                 pool.close()
                 with self.assertRaises(Closed):
                     await waiting
+        run(course)
+
+    def test_wait_for_loses_nothing(self) -> None:
+        """Puts and takes with timeouts that are about as long as they last."""
+        port, count, dice = self.serve().port, 150, random.Random(5)
+
+        async def course() -> None:
+            got: List[int] = []
+            is_over = asyncio.Event()
+            async with aio.Pool([port], range(100, 140), size=8) as pool:
+                async def consume() -> None:
+                    while not is_over.is_set():
+                        try:
+                            got.append((await asyncio.wait_for(pool.take("job", INT), dice.uniform(0.001, 0.006)))[1])
+                        except asyncio.TimeoutError:
+                            pass
+
+                consumers = [asyncio.create_task(consume()) for _ in range(4)]
+                for number in range(count):
+                    await pool.out("job", number)
+                    await asyncio.sleep(dice.uniform(0, 0.003))
+                is_over.set()
+                await asyncio.gather(*consumers)
+                while len(got) < count:
+                    one = await pool.take("job", INT, timeout=20)
+                    assert one is not None, f"lost: {sorted(set(range(count)) - set(got))}"
+                    got.append(one[1])
+                self.assertEqual((sorted(got), await pool.take("job", INT, timeout=0)), (list(range(count)), None))
+        run(course)
+
+    def test_a_call_that_is_cancelled_just_as_it_returns(self) -> None:
+        """It returns what it took: nobody else would have it."""
+        port = self.serve().port
+        take = aio.Space.take
+
+        async def cancelled(space: aio.Space, *words: Any, **how: Any) -> Any:
+            found = await take(space, *words, **how)
+            task = asyncio.current_task()
+            assert task is not None
+            asyncio.get_running_loop().call_soon(task.cancel)
+            return found
+
+        async def course() -> None:
+            async with aio.Pool([port], range(100, 110), size=1) as pool:
+                await pool.out("job", 1)
+                with mock.patch.object(aio.Space, "take", cancelled):
+                    task = asyncio.create_task(pool.take("job", INT))
+                    others = [asyncio.create_task(pool.out("other", number)) for number in range(3)]
+                    self.assertEqual(await task, ("job", 1))
+                await asyncio.gather(*others)
+        run(course)
+
+    def test_what_a_cancelled_call_left_is_put_back_by_the_next_one(self) -> None:
+        """Of any member, though another one was used last."""
+        port = self.serve().port
+
+        async def course() -> None:
+            async with aio.Pool([port], range(100, 110), size=2) as pool:
+                async with pool.hold("none", timeout=0):
+                    await pool.look("a")                            # by a second member
+                members = list(pool._free)
+                for owing, other in (members, reversed(members)):
+                    pool._free.clear()
+                    pool._owed[owing] = deque([("job", 1)])
+                    pool._give_back(owing)
+                    pool._give_back(other)
+                    self.assertEqual(await pool.take("job", INT, timeout=0), ("job", 1))
+        run(course)
+
+    async def all_end(self, *tasks: "asyncio.Task[Any]") -> List[Any]:
+        """How they ended, none of which hangs."""
+        _, hanging = await asyncio.wait(tasks, timeout=PATIENCE / 3)
+        for task in hanging:
+            task.cancel()
+        self.assertEqual(len(hanging), 0)
+        return await asyncio.gather(*tasks, return_exceptions=True)
+
+    def test_no_call_of_a_pool_waits_for_a_member_that_is_not_made(self) -> None:
+        """There is no server, or its ports are none: each call raises that."""
+        async def course() -> None:
+            for ports, error in (([1], NoConnection), ("none", OutOfRange)):
+                pool = aio.Pool(ports, range(100, 200), size=2)
+                ended = await self.all_end(*(asyncio.create_task(pool.out("job", number)) for number in range(5)))
+                self.assertEqual({type(fault) for fault in ended}, {error})
+                await pool.aclose()
+        run(course)
+
+    def test_close_wakes_who_waits_for_a_member(self) -> None:
+        port = self.serve().port
+
+        async def course(is_async: bool) -> None:
+            pool = aio.Pool([port], range(100, 200), size=1)
+            await pool.out("a")
+            tasks = [asyncio.create_task(pool.take("never")) for _ in range(3)]
+            await asyncio.sleep(0.1)
+            if is_async:
+                await pool.aclose()
+            pool.close()
+            self.assertEqual({type(fault) for fault in await self.all_end(*tasks)}, {Closed})
+            await pool.aclose()
+        for is_async in (False, True):
+            run(lambda: course(is_async))
+
+    def test_who_is_cancelled_when_a_member_was_free_lets_the_next_one_have_it(self) -> None:
+        port = self.serve().port
+
+        async def course() -> None:
+            async with aio.Pool([port], range(100, 200), size=1) as pool:
+                for steps in range(8):
+                    free = asyncio.Event()
+
+                    async def hold() -> None:
+                        async with pool.hold("none", timeout=0):
+                            await free.wait()
+
+                    holder = asyncio.create_task(hold())
+                    while not pool._members or pool._free or pool._members[0].pending:
+                        await asyncio.sleep(0.001)
+                    first, second = (asyncio.create_task(pool.out("job", number)) for number in range(2))
+                    await asyncio.sleep(0.005)
+                    free.set()
+                    for _ in range(steps):
+                        await asyncio.sleep(0)
+                    first.cancel()
+                    ended = await self.all_end(holder, first, second)
+                    self.assertIsInstance(ended[2], tuple)
+        run(course)
+
+    def test_aclose_is_cancelled(self) -> None:
+        """The task that waits in it is cancelled then, and the pool is closed."""
+        port = self.serve().port
+
+        async def course() -> None:
+            pool = aio.Pool([port], range(100, 200), size=1)
+            await pool.out("a")
+            member = pool._members[0]
+            pool._owed[member] = deque([("job", 1)])
+            with mock.patch.object(pool, "_finish", lambda member: asyncio.sleep(PATIENCE)), mock.patch.object(aio, "FINISH", PATIENCE), logged("pool") as words:
+                closing = asyncio.create_task(pool.aclose())
+                await asyncio.sleep(0.05)
+                await pool.aclose()
+                self.assertFalse(closing.done())
+                closing.cancel()
+                with self.assertRaises(asyncio.CancelledError):
+                    await closing
+            self.assertEqual((words, member._inner._is_closed), (["a pool was to put this back, which it took: ('job', 1)"], True))
         run(course)
 
     def test_close_wakes_who_waits(self) -> None:

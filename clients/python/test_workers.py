@@ -20,15 +20,16 @@ import textwrap
 import threading
 import time
 import unittest
+from collections import deque
 from pathlib import Path
 from typing import Any, Callable, List
 from unittest import mock
 
 import test_linda_space
-from test_linda_space import PATIENCE, Going, Peer, WithServers, frames
+from test_linda_space import PATIENCE, Going, Peer, WithServers, frames, logged
 
 from linda_space import (
-    ANY, INT, TEXT, Busy, Choose, Closed, Forked, Gone, In, NoNumber, NumberInUse, Offer, OutOfRange, Rd, Refused, Restored, Space, SpaceError, TimedOut)
+    ANY, INT, TEXT, Busy, Choose, Closed, Forked, Gone, In, NoNumber, NumberInUse, Offer, OutOfRange, Pool, Rd, Refused, Restored, Space, SpaceError, TimedOut)
 
 HERE = Path(__file__).resolve().parent
 
@@ -258,6 +259,31 @@ class Forks(WithServers):
             self.assertEqual((space.out("parent", 2), offer.accept()), ((0, 3), ("job", 1)))
         self.assertEqual([space.look("parent", INT), space.look("a", INT), space.take("job", INT)], [("parent", 2), None, ("job", 2)])
 
+    def test_a_child_closes_a_pool(self) -> None:
+        """It logs nothing, and puts nothing back: its parent does. What the child makes is its own."""
+        server = self.serve()
+        pool, other = Pool([server.port], range(100, 110), size=2), self.space(server)
+        self.addCleanup(pool.close)
+        pool._owed[pool._members[0]] = deque([("job", 1)])
+        pool._left.append(("job", 2))
+
+        def close() -> Any:
+            with logged("pool") as words:
+                pool.close()
+            return words
+
+        def use() -> Any:
+            with self.assertRaises(Forked):
+                pool.look("job", INT)
+            return close()
+
+        with pool._gate:                                        # a thread had it when the process was forked
+            busy = Going(lambda: in_a_child(close)).end()
+        self.assertEqual((busy, in_a_child(close), in_a_child(use)), ("[]", "[]", "[]"))
+        with logged("pool") as words:
+            pool.close()
+        self.assertEqual((other.take_many("job", INT, count=9), words), ([("job", 1), ("job", 2)], []))
+
     def test_a_pool_of_processes_gets_the_error(self) -> None:
         space = self.space(self.serve())
         with multiprocessing.get_context("fork").Pool(2) as pool:
@@ -398,12 +424,43 @@ class Numbers(WithServers):
         own = folder / "numbers"
         own.write_text("77\n78\n")
         self.assertEqual(self.free(lambda: Space([server.port], own))[0], 77)
-        for text in ("77\nx\n", f"{1 << 32}\n", "-1\n"):
+        for text in ("77\ny\n", f"{1 << 32}\n", "-1\n"):
             own.write_text(text)
             with self.assertRaisesRegex(NoNumber, "numbers"):
                 Space([server.port], own)
         with self.assertRaisesRegex(NoNumber, "Not a directory|File exists"):
             Space([server.port], own / "in" / "a" / "file")
+
+    def test_a_file_that_was_cut(self) -> None:
+        """A last line without an end is no number, and is ended by who adds the next one; also if two do so at once."""
+        server = self.serve()
+        own = self.folder / "numbers"
+        with Space([server.port], own) as space:
+            first = space.client
+        cut = str(first)[:4]
+        for before in ("", "78\n"):
+            own.write_text(before + cut)
+            with logged("no end") as words, self.free_space(lambda: Space([server.port], own)) as space:
+                if before:
+                    self.assertEqual((space.client, own.read_text()), (78, before + cut))
+                    with Space([server.port], own) as other:
+                        self.assertEqual(own.read_text(), f"{before}{cut}x\n{other.client}\n")
+                else:
+                    self.assertEqual(own.read_text(), f"{cut}x\n{space.client}\n")
+            self.assertTrue(words and all(word.endswith(f" {cut}") and str(own) in word for word in words), words)
+        own.write_text(f"{cut}x\n90\nx\n91\n12 xx\n\0\0x\n")
+        with logged("no end") as words:
+            self.assertEqual((self.free(lambda: Space([server.port], own))[0], words), (90, []))
+
+    def test_a_file_without_room(self) -> None:
+        server = self.serve()
+        own = self.folder / "numbers"
+        write = os.write
+        with mock.patch.object(os, "write", lambda file, data: write(file, data[:3])), self.assertRaisesRegex(NoNumber, "No space"):
+            Space([server.port], own)
+        part = own.read_text()
+        with self.free_space(lambda: Space([server.port], own)) as space:
+            self.assertEqual((len(part), own.read_text()), (3, f"{part}x\n{space.client}\n"))
 
     def test_ports_by_name(self) -> None:
         server = self.serve()
@@ -487,6 +544,37 @@ class Work(WithServers):
         self.assertGreaterEqual(at[3, 1] - at[3, 0], 0.8)
         self.assertGreaterEqual(at[3, 2] - at[3, 1], 1.6)
         self.assertLess(at[1, 0], at[2, 1])
+
+    def test_results_that_are_not_within_their_limits(self) -> None:
+        """With tries that is a failure as any other, and none of the results is put; without, it ends the loop, and the job is free."""
+        server = self.serve()
+        space, other = self.space(server), self.space(server, client=8)
+        space.out("job", 1, 0)
+        for wrong in ("x" * 5_000, 1 << 63, None):
+            results = [("log", 1), ("done", wrong)]
+            with self.assertRaises(OutOfRange):
+                self.worked(space, lambda job: results, ("job", INT, INT))
+            self.assertEqual(other.take("job", 1, 0, timeout=PATIENCE), ("job", 1, 0))
+            other.out("job", 1, 0)
+            self.assertEqual(self.worked(space, lambda job: results, ("job", INT, INT), tries=2, delay=0.01), 0)
+            dead = other.take("dead", 1, 2, TEXT, timeout=0)
+            assert dead is not None
+            self.assertRegex(str(dead[3]), "^OutOfRange: ")
+            other.out("job", 1, 0)
+        self.assertIsNone(other.look("log", 1))
+
+    def test_an_error_without_a_text(self) -> None:
+        class Silent(Exception):
+            def __str__(self) -> str:
+                raise RuntimeError("no text")
+
+        def function(job: Any) -> Any:
+            raise Silent()
+
+        space = self.space(self.serve())
+        space.out("job", 1, 0)
+        self.assertEqual(self.worked(space, function, ("job", INT, INT), tries=1), 0)
+        self.assertEqual((space._machine.held, space.take("dead", 1, 1, TEXT, timeout=0)), ({}, ("dead", 1, 1, "Silent: an error without a text")))
 
     def test_a_job_that_waits_for_its_next_try_is_free_if_the_worker_is_killed(self) -> None:
         server = self.serve()
@@ -582,6 +670,31 @@ class Work(WithServers):
 
         self.assertEqual(self.worked(space, function), 1)
         self.assertEqual(self.tuples(other, "done", 1), [("done", 2)])
+
+    def test_a_server_that_is_away_while_a_result_is_under_way(self) -> None:
+        """The hold is lost, and the result is pending: that is finished first, and the loop goes on."""
+        servers = [self.serve()]
+        port = servers[0].port
+        space, other = self.space(servers[0], patience=0.4), self.space(servers[0], client=8)
+        other.out_many([("job", number) for number in range(3)])
+        put, pending = space.out, []
+
+        def out(*values: Any) -> Any:
+            if len(servers) == 1:
+                servers[0].stop()
+                threading.Timer(0.2, servers[0].kill).start()
+            return put(*values)
+
+        def pause(worker: Any) -> None:
+            """The server comes back once the worker has seen that it is away."""
+            pending.append(space.pending)
+            if len(servers) == 1:
+                servers.append(self.serve("one", port))
+            time.sleep(0.05)
+
+        with mock.patch.object(space, "out", out), mock.patch("linda_space.working.Worker.pause", pause):
+            self.assertEqual(self.worked(space, lambda job: ("done", job[1])), 3)
+        self.assertEqual((pending[0], {one[1] for one in self.tuples(other, "done", 1)}, other.look("job", INT)), ("out", {0, 1, 2}, None))
 
     def test_a_lease_is_kept_while_a_function_runs(self) -> None:
         server = self.serve("one", 0, "--lease", "2")

@@ -23,7 +23,8 @@ export function defaultFile() {
 }
 
 /**
- * The numbers of a file, in order; none if there is no file. A line that is no number is passed over.
+ * The numbers of a file, in order; none if there is no file. A line that is no number is passed over, and so is a last
+ * one without an end: it was cut off, and its program did not use that number.
  *
  * Throws NoNumber if the file cannot be read.
  * @param {string} file @returns {Promise<number[]>}
@@ -35,7 +36,8 @@ export async function numbersOf(file) {
     } catch (fault) {
         if (/** @type {NodeJS.ErrnoException} */ (fault).code !== 'ENOENT') throw unusable(file, fault);
     }
-    const lines = text.split('\n').map((line) => line.trim());
+    const lines = text.split('\n').map((line) => line.trim()), cut = lines.pop();
+    if (cut) process.emitWarning(`the last line of ${file} has no end, and is passed over: ${cut}`, 'linda-space');
     const numbers = lines.filter((line) => /^\d{1,10}$/.test(line)).map(Number);
     return [...new Set(numbers)].filter((number) => number <= MOST_CLIENT);
 }
@@ -49,9 +51,13 @@ export async function numbersOf(file) {
 export async function addNumber(file, number) {
     try {
         await makeFolder(path.dirname(path.resolve(file)));
-        const handle = await open(file, 'a', 0o600);
+        const handle = await open(file, 'a+', 0o600);
         try {
-            await handle.write(`${number}\n`);
+            const { size } = await handle.stat();
+            const last = size === 0 ? '\n' : (await handle.read(Buffer.alloc(1), 0, 1, size - 1)).buffer.toString();
+            const line = Buffer.from(last === '\n' ? `${number}\n` : `x\n${number}\n`);
+            const { bytesWritten } = await handle.write(line);
+            if (bytesWritten !== line.length) throw new Error('no space left on the device');
             await handle.sync();
         } finally {
             await handle.close();

@@ -207,10 +207,14 @@ export class Pool {
         return this.#use(options, [], (member) => member.holding(template, options, work));
     }
 
-    /** Closes all members. Calls that have not ended throw Closed. It may be called twice. */
+    /**
+     * Closes all members. Calls that have not ended throw Closed. What was taken for a call that an error ended, and no
+     * other call got, is said in a warning of the process. It may be called twice.
+     */
     close() {
         this.#isClosed = true;
         for (const waiting of this.#waiting.splice(0)) waiting.fail(new Closed('the pool was closed'));
+        for (const member of this.#idle) sayLeft(member);
         for (const member of this.#members) member.close();
         this.#idle = [];
     }
@@ -269,10 +273,13 @@ export class Pool {
 
     /** @param {Space} member */
     #giveBack(member) {
-        if (insideOf(member).isOver()) {
+        if (this.#isClosed) {
+            sayLeft(member);
+        } else if (insideOf(member).isOver()) {
+            sayLeft(member);
             member.close();
             this.#members.delete(member);
-        } else if (!this.#isClosed) {
+        } else {
             this.#idle.push(member);
         }
         this.#serve();
@@ -341,6 +348,18 @@ export class Pool {
         const isLent = this.#members.size > this.#idle.length + 1;
         if (fault !== null && !isLent && insideOf(member).machine().task !== null) this.#waiting.shift()?.fail(fault);
         this.#giveBack(member);
+    }
+}
+
+/**
+ * Warns of what a member that is closed has pending, or in hand, for calls that an error ended.
+ * @param {Space} member
+ */
+function sayLeft(member) {
+    const { task, inHand } = insideOf(member).machine();
+    for (const { tuple } of inHand) process.emitWarning(`a pool is closed with a tuple that it took: ${shown(tuple)}`, 'linda-space');
+    if (task !== null && (task.kind !== 'sync' || task.accepted !== null)) {
+        process.emitWarning(`a pool closes client ${member.client}, which has ${task.kind} pending: its last reply says what became of it`, 'linda-space');
     }
 }
 

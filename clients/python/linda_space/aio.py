@@ -17,6 +17,7 @@ from __future__ import annotations
 
 import asyncio
 import math
+import os
 import time
 from collections import deque
 from contextlib import asynccontextmanager
@@ -32,7 +33,7 @@ from .limits import NUMBER_LIMIT, RENEWAL, SHORTEST_PAUSE
 from .links import Port
 from .machine import Ended, Settled
 from .numbers import Client
-from .pool import FINISH, MOST_MEMBERS
+from .pool import FINISH, MOST_MEMBERS, has_left, log, say_left
 from .results import Kept, Outcome, Stored
 from .space import Course
 from .together import ManyStored, ManyTaken
@@ -400,60 +401,111 @@ class Pool:
         self._size = within("a size", size, 1, MOST_MEMBERS)
         self._members: List[Space] = []
         self._free: Deque[Space] = deque()
+        self._cut: Deque[Space] = deque()                          # those that are free, too, and are lent first: the last call was cancelled, and left something
         self._owed: Dict[Space, Deque[Values]] = {}
+        self._left: Deque[Values] = deque()                        # what members that were of no use any more had to put back
         self._making = 0
+        self._process = os.getpid()
         self._is_closed = False
-        self._changed: Optional[asyncio.Condition] = None
+        self._waiting: Deque[asyncio.Future[None]] = deque()       # those who wait for a member, or for room for one
 
     async def __aenter__(self) -> Pool:
         return self
 
     async def __aexit__(self, kind: Optional[Type[BaseException]], fault: Optional[BaseException], trace: Optional[TracebackType]) -> None:
-        self.close()
+        await self.aclose()
+
+    async def aclose(self) -> None:
+        """As `close`, but what an error or a cancelled task left pending at members that are not in use is finished first, and what was taken is put back, for two
+        seconds at most."""
+        if self._is_closed:
+            return
+        members, free = self._begin_close()
+        try:
+            tasks = [asyncio.ensure_future(self._finish_at_last(member)) for member in free if has_left(member, self._owed)]
+            if tasks:
+                try:
+                    await asyncio.wait(tasks, timeout=FINISH)
+                finally:
+                    for task in tasks:
+                        task.cancel()
+                    await asyncio.gather(*tasks, return_exceptions=True)
+        finally:
+            self._end_close(members, free)
 
     def close(self) -> None:
-        """Closes all members: calls that wait raise Closed."""
+        """Closes all members: calls that wait raise Closed. What an error or a cancelled task left pending, and what was to be put back, is said in the log."""
+        self._end_close(*self._begin_close())
+
+    def _begin_close(self) -> Tuple[List[Space], List[Space]]:
+        """From now on no call begins, and those that wait end. All members, and those that are not in use."""
+        self._inherit()
         self._is_closed = True
-        for member in self._members:
+        members, free = self._members, [member for member in (*self._cut, *self._free) if not member._inner._is_inherited]
+        if free:
+            self._owed.setdefault(free[0], deque()).extend(self._left)
+        else:
+            say_left(None, self._left)
+        self._members, self._free, self._cut = [], deque(), deque()
+        self._left.clear()
+        for member in members:
+            if member not in free:
+                member.close()                                      # its call gives it back, and says what it left
+        while self._notify():
+            pass
+        return members, free
+
+    def _end_close(self, members: List[Space], free: List[Space]) -> None:
+        for member in free:
+            say_left(member._inner, self._owed.pop(member, ()))
+        for member in members:
             member.close()
-        self._members.clear()
-        self._free.clear()
+
+    async def _finish_at_last(self, member: Space) -> None:
+        try:
+            await self._finish(member)
+        except SpaceError as fault:
+            log.warning("a pool is closed: %s", fault)
+
+    def _inherit(self) -> None:
+        """In a process that was forked: what the pool owes its parent puts back."""
+        if os.getpid() != self._process:
+            self._process = os.getpid()
+            self._owed.clear()
+            self._left.clear()
 
     # ---- members
 
     async def _lend(self) -> Space:
         """A member that is not in use, and has nothing pending."""
+        self._inherit()
         member = await self._next_member()
         try:
             await self._finish(member)
         except (NoConnection, TimedOut, Refused) as fault:
-            await self._give_back(member, is_last=True)
+            self._give_back(member, is_last=True)
             fault.pending = None                            # that is of an earlier call
             raise
-        except asyncio.CancelledError:
-            await self._give_back(member)
+        except SpaceError:
+            self._drop(member)
             raise
         except BaseException:
-            await self._drop(member)
+            self._give_back(member)
             raise
         return member
 
     async def _next_member(self) -> Space:
-        if self._changed is None:
-            self._changed = asyncio.Condition()
         while True:
-            async with self._changed:
-                while True:
-                    if self._is_closed:
-                        raise Closed("the pool was closed")
-                    if self._free:
-                        return self._free.popleft()
-                    if len(self._members) + self._making < self._size:
-                        self._making += 1
-                        break
-                    await self._changed.wait()
-            member = self._make()
+            if self._is_closed:
+                raise Closed("the pool was closed")
+            if self._cut or self._free:
+                return (self._cut or self._free).popleft()
+            if len(self._members) + self._making >= self._size:
+                await self._change()
+                continue
+            self._making += 1
             try:
+                member = self._make()
                 await member.open()
             except NoNumber:
                 if not self._members:
@@ -462,15 +514,40 @@ class Pool:
                 continue
             finally:
                 self._making -= 1
+                self._notify()
             if self._is_closed:
                 member.close()
                 raise Closed("the pool was closed")
             self._members.append(member)
             return member
 
+    async def _change(self) -> None:
+        """Waits until a member is free, or there is room for one. Who is cancelled when it was its turn lets the next one have it."""
+        waiter = asyncio.get_running_loop().create_future()
+        self._waiting.append(waiter)
+        try:
+            await waiter
+        except asyncio.CancelledError:
+            if waiter in self._waiting:
+                self._waiting.remove(waiter)
+            else:
+                self._notify()
+            raise
+
+    def _notify(self) -> bool:
+        """Wakes one who waits; whether there was one."""
+        while self._waiting:
+            waiter = self._waiting.popleft()
+            if not waiter.done():
+                waiter.set_result(None)
+                return True
+        return False
+
     async def _finish(self, member: Space) -> None:
         """Finishes what an error or a cancelled task left at a member. What was taken for a call that ended so is put back."""
         owed = self._owed.setdefault(member, deque())
+        owed.extend(self._left)
+        self._left.clear()
         while True:
             what = member.pending
             if what is not None:
@@ -480,37 +557,43 @@ class Pool:
                 elif what == "take_many" and isinstance(result, list):
                     owed.extend(values for values in result if values is not None)
             elif owed:
-                values = owed.popleft()
+                outs = member._inner._machine.outs
                 try:
-                    await member.out(*values, timeout=FINISH)
-                except SpaceError:
-                    if member.pending is None:
-                        owed.appendleft(values)
+                    await member.out(*owed[0], timeout=FINISH)
+                except BaseException as fault:
+                    if member.pending is not None or member._inner._machine.outs != outs and not isinstance(fault, SpaceError):
+                        owed.popleft()                      # it is there, or will be
                     raise
+                owed.popleft()
             else:
-                del self._owed[member]
+                self._owed.pop(member, None)
                 return
 
-    async def _give_back(self, member: Space, is_last: bool = False) -> None:
+    def _give_back(self, member: Space, is_last: bool = False) -> None:
+        """It waits for nothing: a task that were cancelled meanwhile would lose what its call returned."""
         if self._is_closed:
+            say_left(member._inner, self._owed.pop(member, ()))
+            member.close()
             return
         if is_last:
             self._free.append(member)
+        elif has_left(member, self._owed):
+            self._cut.append(member)
         else:
             self._free.appendleft(member)
-        await self._notify()
+        self._notify()
 
-    async def _drop(self, member: Space) -> None:
+    def _drop(self, member: Space) -> None:
         """A member that is of no use any more."""
         if member in self._members:
             self._members.remove(member)
+        owed = self._owed.pop(member, deque())
+        if not self._is_closed:
+            self._left.extend(owed)
+            owed.clear()
+        say_left(member._inner, owed)
         member.close()
-        await self._notify()
-
-    async def _notify(self) -> None:
-        assert self._changed is not None
-        async with self._changed:
-            self._changed.notify()
+        self._notify()
 
     @asynccontextmanager
     async def _lent(self) -> AsyncIterator[Space]:
@@ -522,7 +605,10 @@ class Pool:
             is_last, is_useless = isinstance(fault, (NoConnection, TimedOut)), member._inner._over is not None
             raise
         finally:
-            await asyncio.shield(self._drop(member) if is_useless else self._give_back(member, is_last))
+            if is_useless:
+                self._drop(member)
+            else:
+                self._give_back(member, is_last)
 
     async def _do(self, call: Callable[[Space], Awaitable[Got]]) -> Got:
         async with self._lent() as member:

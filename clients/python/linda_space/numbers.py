@@ -2,12 +2,14 @@
 
 The file of a program has a number a line. It is in the folder `$LINDA_STATE`, else `$XDG_STATE_HOME/linda`, else `~/.local/state/linda`, and its name is the
 program's, with the first 12 digits of the SHA-256 of the program's whole path: `square-1f0c9b3a7d52.numbers`. The server says which of them are in use, so
-several copies of a program may run at once.
+several copies of a program may run at once. A last line without an end was cut when it was added, and is passed over.
 """
 
 from __future__ import annotations
 
+import errno
 import hashlib
+import logging
 import os
 import random
 import sys
@@ -27,6 +29,8 @@ if TYPE_CHECKING:
 
 LEAST_DRAWN = 1 << 31                   # new numbers of files are from here on
 MOST_DRAWS = 64
+
+log = logging.getLogger("linda_space")
 
 Client = Union[int, Sequence[int], "os.PathLike[str]", str, None]
 Course = Generator[float, None, None]
@@ -60,8 +64,12 @@ class Numbers:
         """The numbers of the file, each once; none if it is not there yet. Raises NoNumber if it cannot be read, or has something else."""
         assert self.path is not None
         try:
-            lines = self.path.read_text(encoding="ascii").split()
-            return list(dict.fromkeys(within("a client", int(line), 0, MOST_CLIENT) for line in lines))
+            text = self.path.read_text(encoding="ascii")
+            whole, _, cut = text.rpartition("\n")
+            if cut:
+                log.warning("the last line of %s has no end, and is passed over: %s", self.path, cut)
+            lines = [line for line in whole.split("\n") if not line.endswith("x")]         # those were cut, and ended so by who added the next one
+            return list(dict.fromkeys(within("a client", int(word), 0, MOST_CLIENT) for line in lines for word in line.split()))
         except FileNotFoundError:
             return []
         except (OSError, ValueError) as fault:
@@ -72,9 +80,13 @@ class Numbers:
         assert self.path is not None
         try:
             self.path.parent.mkdir(parents=True, exist_ok=True)
-            file = os.open(self.path, os.O_WRONLY | os.O_APPEND | os.O_CREAT | os.O_CLOEXEC, 0o600)
+            file = os.open(self.path, os.O_RDWR | os.O_APPEND | os.O_CREAT | os.O_CLOEXEC, 0o600)
             try:
-                os.write(file, f"{number}\n".encode())
+                size = os.fstat(file).st_size
+                is_whole = size == 0 or os.pread(file, 1, size - 1) == b"\n"
+                line = f"{number}\n".encode() if is_whole else f"x\n{number}\n".encode()
+                if os.write(file, line) != len(line):
+                    raise OSError(errno.ENOSPC, os.strerror(errno.ENOSPC))
                 os.fsync(file)
             finally:
                 os.close(file)

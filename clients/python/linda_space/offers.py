@@ -77,13 +77,22 @@ class Hold(Generic[Held]):
         self._offer: Optional[Offer] = None
 
     def __enter__(self) -> Held:
-        self._offer = self._space._hold(self._event, self._timeout, self._keep)
-        return cast(Held, self._offer)
+        held = self._space._held_now()
+        try:
+            self._offer = self._space._hold(self._event, self._timeout, self._keep)
+            return cast(Held, self._offer)
+        except BaseException as fault:
+            self._space._end_holds(held, fault)
+            raise
 
     def __exit__(self, kind: Optional[Type[BaseException]], fault: Optional[BaseException], trace: Optional[TracebackType]) -> None:
         offer = self._offer
-        if offer is not None and not offer.is_taken:
-            is_lost = self._space._is_lost(offer)
-            offer.release()
-            if is_lost and kind is None:
-                raise Gone((offer,))
+        try:
+            if offer is not None and not offer.is_taken:
+                is_lost = self._space._is_lost(offer)
+                offer.release()
+                if is_lost and kind is None:
+                    raise Gone((offer,))
+        except BaseException as ended:
+            self._space._end_holds([other for other in self._space._held_now() if other is not offer], ended)
+            raise

@@ -68,7 +68,8 @@ class Space:
       undone. `again` sends them again, under their number, and returns how they ended. Nothing is done twice by that. After an error of this module all other
       calls raise Busy until then. After KeyboardInterrupt, or another exception that is not of this module, they do not: the next call finishes first what was
       interrupted, for which it waits `patience` seconds at most, and `settled` is its answer. So do not put a tuple again whose `out` was interrupted, if
-      `pending` is "out" or `settled` has it: it is there, or will be by the next call. If neither is so, nothing was sent for it.
+      `pending` is "out" or `settled` has it: it is there, or will be by the next call. If neither is so `last_reply` says what became of it: the
+      interrupt may have come when the call had just ended.
     - `take_many` and `purge` are pending if something was taken, or may have been: `again` returns what.
 
     After an exception that is not of this module the connections are made anew by the next call, so what was held is not held any more. After `leave` all but
@@ -513,6 +514,19 @@ class Space:
                 self._machine.release(offer)
                 self._send()
 
+    def _held_now(self) -> List[Offer]:
+        return list(self._machine.held.values())
+
+    def _end_holds(self, held: List[Offer], fault: BaseException) -> None:
+        """An interrupt came where a hold begins or ends, so that nobody may have it in hand: nothing is held any more then, as after one in a call. Of what was
+        held before Gone tells."""
+        if isinstance(fault, (SpaceError, TypeError, ValueError)) or self._is_inherited or os.getpid() != self._process:
+            return
+        with self._gate:
+            if not self._is_closed:
+                self._let_go_all()
+                self._machine.lost_offers = [offer for offer in self._machine.lost_offers if any(offer is it for it in held)]
+
     def _look(self) -> None:
         """Reads what came from the servers that hold something: a connection that ended is noticed so. If another thread is in a call, that reads all at once."""
         if self._thread not in (None, threading.get_ident(), TASK):
@@ -546,7 +560,7 @@ class Space:
     def _drive(self, course: Course[Got]) -> Got:
         """Runs a call, and waits where it waits."""
         me = threading.get_ident()
-        with self._gate:
+        with self._gate:                        # not by acquire(): an interrupt that comes right after that would leave the gate closed
             self._enter(me)
             try:
                 wake = next(course)
@@ -554,13 +568,21 @@ class Space:
                     try:
                         self._pause(wake)
                     except BaseException as fault:
+                        self._own_gate()
                         wake = course.throw(fault)
                     else:
                         wake = next(course)
             except StopIteration as ended:
                 return cast(Got, ended.value)
             finally:
+                self._own_gate()
+                course.close()              # an interrupt that came here, and not in the call, ends the call now and not with its traceback
                 self._leave_call()
+
+    def _own_gate(self) -> None:
+        """An interrupt may have come while the gate was given up."""
+        if not self._gate._is_owned():      # type: ignore[attr-defined]
+            self._gate.acquire()
 
     def _enter(self, me: int) -> None:
         """A call begins, in this thread."""
@@ -581,8 +603,7 @@ class Space:
             self._gate.release()
             ready = self._selector.select(_seconds_until(wake))
         finally:
-            if not self._gate._is_owned():      # type: ignore[attr-defined]
-                self._gate.acquire()
+            self._own_gate()
         self._serve(ready)
 
     def _course(self, begin: Callable[[], None], timeout: Optional[float], is_again: bool, offer: Optional[Offer],
@@ -897,8 +918,10 @@ class Space:
     def _let_go(self, link: Link) -> None:
         """There is no connection any more, and what was not sent on it is not sent."""
         if link.stream is not None:
-            if link.stream in self._selector.get_map():
+            try:
                 self._selector.unregister(link.stream)
+            except (KeyError, ValueError):          # it is not there; ValueError: an interrupt came when it had just been closed
+                pass
             link.stream.close()
         link.stream = None
         if link.is_up:

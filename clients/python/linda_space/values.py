@@ -38,7 +38,7 @@ def as_value(value: object) -> Value:
         return value
     if isinstance(value, int):
         within("an integer", value, LEAST_INTEGER, MOST_INTEGER)
-        return int(value)
+        return int.__int__(value)
     if isinstance(value, str):
         try:
             size = len(value.encode())
@@ -46,7 +46,7 @@ def as_value(value: object) -> Value:
             raise OutOfRange(f"a text is not of Unicode: {fault}") from None
         if size > MOST_TEXT:
             raise OutOfRange(f"a text has {size} bytes, and {MOST_TEXT} at most are allowed")
-        return str(value)
+        return str.__str__(value)           # not str(): that of an Enum of texts is its name
     raise OutOfRange(f"a value is an int, a str or a bool: {value!r}")
 
 

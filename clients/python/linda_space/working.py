@@ -42,7 +42,7 @@ from .events import Alarm, Choose, Event, In, Rd
 from .limits import MOST_FIELDS, MOST_INTEGER, NUMBER_LIMIT, SHORTEST_PAUSE
 from .offers import Offer
 from .results import Outcome
-from .values import INT, Value, Values, as_seconds, as_value, within
+from .values import INT, Value, Values, as_seconds, as_tuple, as_value, within
 
 if TYPE_CHECKING:
     from .space import Space
@@ -51,6 +51,7 @@ MOST_RETRIES = 32           # jobs that wait for their next try in one worker
 MOST_ERROR = 1_000          # bytes of an error's text in a dead letter
 PAUSE = 0.5                 # seconds until a server that is away, or has no room, is tried again
 PASSING = ("Full", "Down", "Busy", "TooManyAsks")       # what a server may refuse now and not later
+PENDING = ("out", "accept", "pass")                     # what is finished before anything else is done
 
 log = logging.getLogger("linda_space")
 
@@ -109,17 +110,21 @@ def jobs_of(template: Template) -> List[In]:
 
 def error_text(fault: Exception) -> str:
     """The error's kind and words, of a length that a text may have."""
-    return f"{type(fault).__name__}: {fault}".encode(errors="replace")[:MOST_ERROR].decode(errors="ignore")
+    try:
+        words = str(fault)
+    except Exception:
+        words = "an error without a text"
+    return f"{type(fault).__name__}: {words}".encode(errors="replace")[:MOST_ERROR].decode(errors="ignore")
 
 
 def results_of(value: Any) -> List[Values]:
-    """What a function returned, as the tuples that are put."""
+    """What a function returned, as the tuples that are put. Raises OutOfRange before any of them is put."""
     if value is None:
         return []
     if isinstance(value, tuple):
-        return [value]
+        return [as_tuple(value)]
     if isinstance(value, list) and all(isinstance(item, tuple) for item in value):
-        return value
+        return [as_tuple(item) for item in value]
     raise TypeError(f"the function of a worker returns None, a tuple, or a list of tuples: {value!r}")
 
 
@@ -215,7 +220,7 @@ class Worker:
             self.holds(offer)
             return
         except Exception as fault:
-            if self.plan.tries is None or isinstance(fault, SpaceError):
+            if self.plan.tries is None or isinstance(fault, SpaceError) and not isinstance(fault, OutOfRange):
                 offer.release()
                 raise
             again, seconds = self.plan.after_failure(offer.tuple, fault)
@@ -262,15 +267,17 @@ class Worker:
     def guarded(self, call: Callable[[], Any], offer: Optional[Offer] = None) -> Steps:
         """Makes a call, and goes on with it until it has ended: while a server is away, has no room, or holds of jobs that wait are lost. False if that of the
         job in hand, `offer`, is lost."""
-        is_pending = False
+        is_pending = is_lost = False
         while True:
             try:
                 result = yield self.calls.again if is_pending else call
-                return True if is_pending and isinstance(result, Outcome) else result
+                return not is_lost and (True if is_pending and isinstance(result, Outcome) else result)
             except Gone as fault:
                 self.retries = [retry for retry in self.retries if not any(retry[2] is lost for lost in fault.offers)]
                 heapq.heapify(self.retries)
-                if is_pending or any(lost is offer for lost in fault.offers):
+                is_lost = is_lost or any(lost is offer for lost in fault.offers)
+                is_pending = self.space.pending in PENDING
+                if is_lost and not is_pending:
                     return False
             except (NoConnection, TimedOut, Refused) as fault:
                 if isinstance(fault, Refused) and fault.name not in PASSING:
@@ -278,7 +285,7 @@ class Worker:
                 log.warning("a worker tries again: %s", fault)
                 if self.is_over():
                     raise Stopped() from fault
-                is_pending = self.space.pending in ("out", "accept", "pass")
+                is_pending = self.space.pending in PENDING
                 yield self.pause
 
     def pause(self) -> Any:

@@ -37,35 +37,28 @@
 //! line there for a fault of a line of the input.
 #![tactic(auto)]
 
-ghost use Rattle.std.specs.Prelude.{◌≡◌, ◌≢◌, ◌≤◌, ◌⊎◌};
-ghost use Rattle.linda_client.specs.declared.limits.TheConstants.{MAX_SERVERS};
+ghost use Rattle.std.specs.Prelude.{◌≡◌, ◌≢◌, ◌⊎◌};
 ghost use Rattle.std.specs.Process.{exit_status};
 ghost use Rattle.clap.specs.Words.{kind_of};
 ghost use Rattle.linda_args.specs.Commands.{HasServers};
-ghost use Rattle.linda.specs.Statuses.{status_after, status_after_call, status_after_script};
+ghost use Rattle.linda.specs.Statuses.{status_after};
 ghost use Rattle.clap.specs.declared.error.kind.ErrorKind.TheVariants as kinds;
 
+mod call;
 mod explaining;
+mod script;
 mod status;
+mod store;
 mod streams;
 
-use explaining::{is_wanted, tell_folder, tell_line, tell_listened, tell_port, tell_socket};
-use linda_args::{
-    Paths, Ports, Socket, StatusPlace, Task, VERSION_LINES, asks_for_version, read_task,
-};
-use linda_call::{CallFault, Manner, call_as, call_at_as};
-use linda_explain::{Keeper, LineSource};
-use linda_inspect::Lists;
+use call::{run_call, run_call_at};
+use linda_args::{Socket, StatusPlace, Task, VERSION_LINES, asks_for_version, read_task};
+use linda_call::Manner;
 use linda_pipe::{PipeFault, REFUSED, pipe};
-use linda_serve::{
-    ServePlan, ServingFault, SocketFile, StatusAt, Unwaited, inspect_folder,
-    inspect_folder_as_json, serve_folder,
-};
-use linda_shell::{LineFault, ScriptFault, run_script, trace_script};
-use status::status_of_script;
+use linda_serve::{ServePlan, SocketFile, StatusAt};
+use script::{run_servers, run_traced};
 use std::fmt::Display;
-use std::fs::File;
-use std::io::{ErrorKind, Read, Write};
+use std::io::{ErrorKind, Write};
 use std::net::{Net, TcpListener, TcpStream};
 use std::process::ExitCode;
 use std::random::RandomSource;
@@ -73,6 +66,7 @@ use std::sync::Wait;
 use std::thread::Threads;
 use std::time::Clock;
 use std::{env, io};
+use store::{run_inspect, run_serve};
 use streams::Streams;
 
 // The exit status for a fault of the command line.
@@ -262,226 +256,6 @@ fn end_of_pipe(rt: &HostRuntime, ended: Result<(), PipeFault>) -> ExitCode
     match ended {
         Ok(()) => ExitCode::SUCCESS,
         Err(fault) => end(rt, fault, fault.status()),
-    }
-}
-
-// Runs the script on standard input, over so many servers.
-fn run_servers(rt: &HostRuntime, servers: u32, explain: bool) -> ExitCode
-    requires some { 1 ≤ servers }
-    requires few { servers ≤ MAX_SERVERS }
-    ensures { (exit_status result ≡ 0) ⊎ ((exit_status result ≡ 3) ⊎ (exit_status result ≡ 4)) }
-{
-    let mut stdin = rt.stdin();
-    let mut lines = Keeper::new(rt.alloc(), &mut stdin);
-    let ended = run_script(rt.alloc(), &mut lines, &mut rt.stdout(), servers);
-    let code = end_of_script(rt, ended);
-    explain_script(rt, ended, &lines, explain);
-    code
-}
-
-// Runs the script as `run_servers` does, and writes the trace of the run to a file.
-fn run_traced(rt: &HostRuntime, servers: u32, file: &str, explain: bool) -> ExitCode
-    requires some { 1 ≤ servers }
-    requires few { servers ≤ MAX_SERVERS }
-    ensures { (exit_status result ≡ 0) ⊎ ((exit_status result ≡ 3) ⊎ (exit_status result ≡ 4)) }
-{
-    let Ok(mut file) = File::create(rt, file) else {
-        return end(rt, "io", REFUSED);
-    };
-    let mut stdin = rt.stdin();
-    let mut lines = Keeper::new(rt.alloc(), &mut stdin);
-    let ended = trace_script(rt.alloc(), &mut lines, &mut rt.stdout(), &mut file, servers);
-    let code = end_of_script(rt, ended);
-    explain_script(rt, ended, &lines, explain);
-    code
-}
-
-// Says where a line of a script is no command, if that ended it and a second line is wanted.
-fn explain_script<R: Read>(
-    rt: &HostRuntime,
-    ended: Result<(), ScriptFault>,
-    lines: &Keeper<'_, R>,
-    explain: bool,
-) {
-    if let Err(ScriptFault::Line(number, LineFault::NotACommand)) = ended {
-        if is_wanted(rt, explain) {
-            tell_line(rt, lines, number, LineSource::OfScript);
-        }
-    }
-}
-
-// Ends as the script ended: well, or with its fault's line on standard error.
-fn end_of_script(rt: &HostRuntime, ended: Result<(), ScriptFault>) -> ExitCode
-    ensures status { exit_status result ≡ status_after_script ended }
-    ensures range { (exit_status result ≡ 0)
-        ⊎ ((exit_status result ≡ 3) ⊎ (exit_status result ≡ 4)) }
-{
-    match ended {
-        Ok(()) => ExitCode::SUCCESS,
-        Err(fault) => end(rt, fault, status_of_script(fault)),
-    }
-}
-
-// Plays the lines on standard input as a client, over the servers that listen on these ports, in
-// this manner.
-fn run_call<S: Net<Listener = TcpListener, Stream = TcpStream> + Threads + Wait + Clock + Sync>(
-    rt: &HostRuntime,
-    threads: &S,
-    client: u32,
-    ports: &Ports,
-    manner: Manner,
-    explain: bool,
-) -> ExitCode
-    ensures { (exit_status result ≡ 0) ⊎ ((exit_status result ≡ 3) ⊎ (exit_status result ≡ 4)) }
-{
-    let mut stdin = rt.stdin();
-    let mut lines = Keeper::new(rt.alloc(), &mut stdin);
-    let ended = call_as(
-        threads,
-        rt.alloc(),
-        &mut lines,
-        &mut rt.stdout(),
-        client,
-        ports.as_slice(),
-        manner,
-    );
-    let code = end_of_call(rt, ended);
-    if is_wanted(rt, explain) {
-        explain_call(rt, ended, &lines);
-        if let Err(CallFault::NoConnection(server)) = ended {
-            if let Some(port) = ports.as_slice().get(server as usize) {
-                tell_port(rt, threads, *port);
-            }
-        }
-    }
-    code
-}
-
-// Says where a line of a client is no command, if that ended the call.
-fn explain_call<R: Read>(rt: &HostRuntime, ended: Result<(), CallFault>, lines: &Keeper<'_, R>) {
-    if let Err(CallFault::Line(number, LineFault::NotACommand)) = ended {
-        tell_line(rt, lines, number, LineSource::OfCall);
-    }
-}
-
-// Plays the lines on standard input as `run_call` does, over the servers at these unix sockets.
-fn run_call_at<S: Net<Listener = TcpListener, Stream = TcpStream> + Threads + Wait + Clock + Sync>(
-    rt: &HostRuntime,
-    threads: &S,
-    client: u32,
-    paths: &Paths,
-    manner: Manner,
-    explain: bool,
-) -> ExitCode
-    ensures { (exit_status result ≡ 0) ⊎ ((exit_status result ≡ 3) ⊎ (exit_status result ≡ 4)) }
-{
-    let mut stdin = rt.stdin();
-    let mut lines = Keeper::new(rt.alloc(), &mut stdin);
-    let ended = call_at_as(
-        threads,
-        rt.alloc(),
-        &mut lines,
-        &mut rt.stdout(),
-        client,
-        paths.as_slice(),
-        manner,
-    );
-    let code = end_of_call(rt, ended);
-    if is_wanted(rt, explain) {
-        explain_call(rt, ended, &lines);
-        if let Err(CallFault::NoConnection(server)) = ended {
-            if let Some(path) = paths.as_slice().get(server as usize) {
-                tell_socket(rt, threads, path.as_str());
-            }
-        }
-    }
-    code
-}
-
-// Ends as the call ended: well, or with its fault's line on standard error.
-fn end_of_call(rt: &HostRuntime, ended: Result<(), CallFault>) -> ExitCode
-    ensures status { exit_status result ≡ status_after_call ended }
-    ensures range { (exit_status result ≡ 0)
-        ⊎ ((exit_status result ≡ 3) ⊎ (exit_status result ≡ 4)) }
-{
-    match ended {
-        Ok(()) => ExitCode::SUCCESS,
-        Err(cause) => end(rt, cause, cause.status()),
-    }
-}
-
-// Serves the store in a folder on a port.
-fn run_serve<
-    S: Net<Listener = TcpListener, Stream = TcpStream>
-        + Threads
-        + Wait
-        + Clock
-        + RandomSource
-        + Sync,
->(rt: &HostRuntime, threads: &S, plan: &ServePlan<'_>, log: bool, explain: bool) -> ExitCode
-    ensures { (exit_status result ≡ 0) ⊎ (exit_status result ≡ 3) }
-{
-    let mut stderr = rt.stderr();
-    let mut unwaited = if log {
-        Some(Unwaited::new(threads, rt.alloc(), &mut stderr))
-    } else {
-        None
-    };
-    let sink = unwaited.as_mut();
-    match serve_folder(rt, threads, rt.alloc(), &mut rt.stdout(), sink, plan) {
-        Ok(()) => ExitCode::SUCCESS,
-        Err(cause) => {
-            let code = match &mut unwaited {
-                Some(log) => {
-                    log.tell_fault(rt.alloc(), cause);
-                    ExitCode::from(REFUSED)
-                }
-                None => end(rt, cause, REFUSED),
-            };
-            if is_wanted(rt, explain) {
-                explain_serve(rt, threads, plan, cause);
-            }
-            code
-        }
-    }
-}
-
-// Says what the system says of the folder, or of the port, for which nothing is served.
-fn explain_serve<S: Net<Listener = TcpListener, Stream = TcpStream>>(
-    rt: &HostRuntime,
-    net: &S,
-    plan: &ServePlan<'_>,
-    cause: ServingFault,
-) {
-    match cause {
-        ServingFault::Disk => tell_folder(rt, plan.folder),
-        ServingFault::Io => {
-            if let Some(port) = plan.port {
-                tell_listened(rt, net, port);
-            }
-        }
-        _ => {}
-    }
-}
-
-// Says what the store in a folder comes to.
-fn run_inspect(rt: &HostRuntime, dir: &str, lists: Lists, json: bool, explain: bool) -> ExitCode
-    ensures { (exit_status result ≡ 0) ⊎ (exit_status result ≡ 3) }
-{
-    let told = if json {
-        inspect_folder_as_json(rt, rt.alloc(), &mut rt.stdout(), dir, lists)
-    } else {
-        inspect_folder(rt, rt.alloc(), &mut rt.stdout(), dir, lists)
-    };
-    match told {
-        Ok(()) => ExitCode::SUCCESS,
-        Err(cause) => {
-            let code = end(rt, cause, REFUSED);
-            if cause == ServingFault::Disk && is_wanted(rt, explain) {
-                tell_folder(rt, dir);
-            }
-            code
-        }
     }
 }
 

@@ -42,7 +42,7 @@ use socket::{MODE, SOCKET, mode_found};
 pub use status::StatusPlace;
 use std::alloc::{AllocError, Global};
 pub use version::{VERSION_LINES, asks_for_version};
-use words::{has_option, has_path, words_after};
+use words::{has_option, has_status_path, words_after};
 
 /// What the command line asks for.
 #[derive(Debug, Drop)]
@@ -134,7 +134,7 @@ pub fn read_task(alloc: Global, words: &[String]) -> Result<Task, Error>
 {
     if let Some(later) = words_after(words, SERVE) {
         let at_socket = has_option(later, SOCKET) || has_option(later, MODE);
-        let at_path = has_path(later);
+        let at_path = has_status_path(later);
         if at_socket || at_path {
             return task_of_paths(alloc, words, at_socket, at_path);
         }

@@ -1,6 +1,7 @@
 -- A search through keys in their order, lowest first: what is known of those that are left, and what follows where one is
 -- found and where all are passed.
-use Rattle.std.proofs.Common.{◌≡◌, ℕ, ◌≤◌, ◌<◌, ◌⊎◌, inl, inr, arith, Bool, true, false, not, cond, ◌||◌, ◌&&◌, List, [], ◌∷◌, filter, refl, sym, ap, subst, ◌∙◌, nat_cmp, Less, true≢false}
+use Rattle.std.proofs.Common.{◌≡◌, ℕ, ◌≤◌, ◌<◌, ◌⊎◌, inl, inr, arith, Bool, true, false, not, cond, ◌||◌, ◌&&◌, List}
+use Rattle.std.proofs.Common.{[], ◌∷◌, filter, refl, sym, ap, subst, ◌∙◌, nat_cmp, Less, true≢false}
 use Rattle.std.specs.Ordering.{is_eq, is_le}
 use Rattle.std.proofs.lemmas.Bool.Decides.{nat_tests}
 use Rattle.std.specs.Cmp.{ranked}
@@ -73,7 +74,8 @@ kept_key p k (x ∷ xs) passes (inr later) =
     ]
 
 -- At the start of a walk through the keys of a set that pass a test, all of them are left.
-pub all_ahead : (Wanted : ℕ → Type 0) (p : ℕ → Bool) (xs left : List ℕ) → left ≡ filter p xs → IsStrictlySortedBy nat_cmp xs → ((k : ℕ) → Wanted k → p k ≡ true) → ((k : ℕ) → Wanted k → list_any (is_at (nat_cmp k)) xs ≡ true) → IsAhead Wanted left
+pub all_ahead : (Wanted : ℕ → Type 0) (p : ℕ → Bool) (xs left : List ℕ) → left ≡ filter p xs → IsStrictlySortedBy nat_cmp xs
+    → ((k : ℕ) → Wanted k → p k ≡ true) → ((k : ℕ) → Wanted k → list_any (is_at (nat_cmp k)) xs ≡ true) → IsAhead Wanted left
 all_ahead Wanted p xs left is sorted passes there = subst (IsAhead Wanted) (sym is) record {
   sorted = IsStrictlySortedBy-filter nat_cmp p xs sorted;
   each = λ k wanted. kept_key p k xs (passes k wanted) (found_key k xs (there k wanted));

@@ -6,8 +6,8 @@ use Rattle.std.specs.List.{sum_by}
 use Rattle.std.specs.FinMap.{FinMap, get, insert, remove, empty, entries, len-entries, len-empty}
 use Rattle.std.proofs.lemmas.List.{nil_from_length}
 use Rattle.linda_tuple.specs.Tuple.{Tuple}
-use Rattle.linda_maps.proofs.MapLaws.{same_map_by_key, get_same, get_other, get_removed_same, get_removed_other}
-use Rattle.linda_maps.proofs.SumLaws.{sum_inserted}
+use Rattle.linda_map_laws.proofs.MapLaws.{same_map_by_key, get_same, get_other, get_removed_same, get_removed_other}
+use Rattle.linda_map_laws.proofs.SumLaws.{sum_inserted}
 use Rattle.linda_bag.specs.Bytes.{tuple_bytes, bytes_of, bytes_at}
 
 -- the bytes of tuples with their ids
@@ -24,7 +24,8 @@ put_bytes m k v = ap (λ n. bytes_of (insert m k v) + n) (sym (read_at (get m k)
 
 -- A removed tuple, put again.
 again : (m : FinMap nat_cmp Tuple) (k : ℕ) (v : Tuple) → get m k ≡ Some v → insert (remove m k) k v ≡ m
-again m k v there = same_map_by_key _ _ k (get_same (remove m k) k v ∙ sym there) (λ q apart. get_other (remove m k) k v q apart ∙ get_removed_other m k q apart)
+again m k v there = same_map_by_key _ _ k (get_same (remove m k) k v ∙ sym there)
+    (λ q apart. get_other (remove m k) k v q apart ∙ get_removed_other m k q apart)
 
 -- With a removal the bytes of the tuple go.
 pub gone_bytes : (m : FinMap nat_cmp Tuple) (k : ℕ) (v : Tuple) → get m k ≡ Some v → bytes_of (remove m k) + tuple_bytes v ≡ bytes_of m
@@ -40,4 +41,5 @@ none_gone m k none = same_map_by_key _ _ k (get_removed_same m k ∙ sym none) (
 
 -- No tuples have no bytes.
 pub no_bytes : bytes_of empty ≡ 0
-no_bytes = ap (λ (es : List (ℕ × Tuple)). bytes_in es) (nil_from_length (entries (empty {X = Tuple} {R = nat_cmp})) (sym (len-entries empty) ∙ len-empty nat_cmp Tuple))
+no_bytes = ap (λ (es : List (ℕ × Tuple)). bytes_in es)
+    (nil_from_length (entries (empty {X = Tuple} {R = nat_cmp})) (sym (len-entries empty) ∙ len-empty nat_cmp Tuple))

@@ -1,4 +1,4 @@
--- What becomes of shelves under keys where one of them changes, or two.
+-- What becomes of indexes under keys where one of them changes, or two.
 use Rattle.std.proofs.Common.{◌≡◌, ℕ, true, false, cond, Option, Some, None, refl, sym, ap, subst, ◌∙◌, nat_cmp, true≢false}
 use Rattle.std.specs.declared.cmp.Ordering.{Ordering}
 use Rattle.std.specs.declared.cmp.Ordering.TheVariants.{Less, Equal, Greater}
@@ -7,7 +7,8 @@ use Rattle.std.specs.Cmp.{IsTotalOrder, nat_cmp_total, unsigned_tied, unsigned_D
 use Rattle.std.specs.Bool.{Decides}
 use Rattle.std.proofs.lemmas.Bool.Decides.{Decides-at}
 use Rattle.std.specs.BTreeMap.{BTreeMap, UpdatesBy, get, get_by}
-use Rattle.linda_bag.specs.Filing.{Rows, with_row, IsBare, Refiles, IsShelved, row_at, placed, rows_at, IsFound, IsFiled, RefilesFound, RefilesUnder, RefilesBy, RefilesAt}
+use Rattle.linda_bag.specs.Filing.{Rows, with_row, IsBare, Refiles, IsIndexed, row_at, placed, rows_at, IsFound}
+use Rattle.linda_bag.specs.Filing.{IsFiled, RefilesFound, RefilesUnder, RefilesBy, RefilesAt}
 
 -- An order that answers "equal", and one that does not.
 pub tied : (o : Ordering) → is_eq o ≡ true → o ≡ Equal
@@ -75,29 +76,38 @@ module _ {K : Type 0} {cmp : K → K → Ordering} (order : IsTotalOrder cmp) wh
       ] refl
 
 module _ {S T : Type 0} (Has : S → Rows T → Type 0) where
-  -- Where rows have this under the id already, a shelf has them with it written again.
-  again : (shelf : Option S) (rows : Rows T) (id : ℕ) (row : Option T) → rows id ≡ row → IsShelved Has shelf rows → IsShelved Has shelf (with_row rows id row)
-  again shelf rows id row there = subst (IsShelved Has shelf) (sym (same_rows rows id row there))
+  -- Where rows have this under the id already, an index has them with it written again.
+  again : (id_index : Option S) (rows : Rows T) (id : ℕ) (row : Option T) → rows id ≡ row
+      → IsIndexed Has id_index rows → IsIndexed Has id_index (with_row rows id row)
+  again id_index rows id row there = subst (IsIndexed Has id_index) (sym (same_rows rows id row there))
 
-  -- A shelf that has rows still is no empty one.
-  pub kept_shelf : (shelf new : S) (id : ℕ) (row : Option T) → Refiles (Has shelf) (Has new) id row row → Refiles (IsShelved Has (Some shelf)) (IsShelved Has (Some new)) id row row
-  kept_shelf shelf new id row kept rows there known = (kept rows there known.0, still_some rows id row there known.1)
+  -- An index that has rows still is no empty one.
+  pub kept_id_index : (id_index new : S) (id : ℕ) (row : Option T) → Refiles (Has id_index) (Has new) id row row
+      → Refiles (IsIndexed Has (Some id_index)) (IsIndexed Has (Some new)) id row row
+  kept_id_index id_index new id row kept rows there known = (kept rows there known.0, still_some rows id row there known.1)
 
-  -- A shelf that the id was filed on has rows.
-  pub set_shelf : (shelf new : S) (id : ℕ) (before : Option T) (row : T) → Refiles (Has shelf) (Has new) id before (Some row) → Refiles (IsShelved Has (Some shelf)) (IsShelved Has (Some new)) id before (Some row)
-  set_shelf shelf new id before row put rows there known = (put rows there known.0, λ bare. some_here (sym (ap (λ b. cond b (Some row) (rows id)) (itself (nat_cmp id id) (nat_cmp_total.antisymm id id))) ∙ bare id))
+  -- An index that the id was filed on has rows.
+  pub set_id_index : (id_index new : S) (id : ℕ) (before : Option T) (row : T) → Refiles (Has id_index) (Has new) id before (Some row)
+      → Refiles (IsIndexed Has (Some id_index)) (IsIndexed Has (Some new)) id before (Some row)
+  set_id_index id_index new id before row put rows there known = (
+    put rows there known.0,
+    λ bare. some_here (sym (ap (λ b. cond b (Some row) (rows id)) (itself (nat_cmp id id) (nat_cmp_total.antisymm id id))) ∙ bare id),
+  )
     where
       some_here : Some row ≡ None → ⊥
       some_here e = cc
 
-  -- A shelf was written through what a map lent of it.
-  pub written : {K : Type 0} (cmp : K → K → Ordering) (old new : BTreeMap K S) (k : K) (shelf shelf' : S) (id : ℕ) (b a : Option T) → Some shelf ≡ get cmp old k → UpdatesBy cmp (cmp k) old new (Some shelf') → Refiles (IsShelved Has (Some shelf)) (IsShelved Has (Some shelf')) id b a → RefilesAt cmp Has old new k id b a
-  written cmp old new k shelf shelf' id b a was updates refiles = record {
-    here = subst (λ s. Refiles (IsShelved Has s) (IsShelved Has (get cmp new k)) id b a) was (subst (λ s. Refiles (IsShelved Has (Some shelf)) (IsShelved Has s) id b a) (sym updates.1) refiles);
+  -- An index was written through what a map lent of it.
+  pub written : {K : Type 0} (cmp : K → K → Ordering) (old new : BTreeMap K S) (k : K) (id_index id_index' : S) (id : ℕ) (b a : Option T)
+      → Some id_index ≡ get cmp old k → UpdatesBy cmp (cmp k) old new (Some id_index')
+      → Refiles (IsIndexed Has (Some id_index)) (IsIndexed Has (Some id_index')) id b a → RefilesAt cmp Has old new k id b a
+  written cmp old new k id_index id_index' id b a was updates refiles = record {
+    here = subst (λ s. Refiles (IsIndexed Has s) (IsIndexed Has (get cmp new k)) id b a) was
+        (subst (λ s. Refiles (IsIndexed Has (Some id_index)) (IsIndexed Has s) id b a) (sym updates.1) refiles);
     apart = updates.2;
   }
 
-  -- No shelf changed.
+  -- No index changed.
   pub kept_at : {K : Type 0} (cmp : K → K → Ordering) (m : BTreeMap K S) (k : K) (id : ℕ) (b : Option T) → RefilesAt cmp Has m m k id b b
   kept_at cmp m k id b = record {
     here = λ rows there known. again (get cmp m k) rows id b there known;
@@ -105,46 +115,54 @@ module _ {S T : Type 0} (Has : S → Rows T → Type 0) where
   }
 
   -- Nothing that is found changed, and the id was filed here by nothing.
-  pub same_found : {K : Type 0} (cmp : K → K → Ordering) (shelf_at : K → Option S) (id : ℕ) → RefilesFound cmp Has shelf_at shelf_at id None None
-  same_found cmp shelf_at id parts there filed q = again (shelf_at q) (parts q) id None (there q) (filed q)
+  pub same_found : {K : Type 0} (cmp : K → K → Ordering) (id_index_at : K → Option S) (id : ℕ) → RefilesFound cmp Has id_index_at id_index_at id None None
+  same_found cmp id_index_at id parts there filed q = again (id_index_at q) (parts q) id None (there q) (filed q)
 
-  pub kept_under : {K : Type 0} (cmp : K → K → Ordering) (shelf_at : K → Option S) (k : K) (id : ℕ) (b : Option T) → RefilesUnder cmp Has shelf_at shelf_at k id b b
-  kept_under cmp shelf_at k id b = record {
-    here = λ q tie rows there known. again (shelf_at q) rows id b there known;
+  pub kept_under : {K : Type 0} (cmp : K → K → Ordering) (id_index_at : K → Option S) (k : K) (id : ℕ) (b : Option T)
+      → RefilesUnder cmp Has id_index_at id_index_at k id b b
+  kept_under cmp id_index_at k id b = record {
+    here = λ q tie rows there known. again (id_index_at q) rows id b there known;
     apart = λ q off. refl;
   }
 
-  pub no_shelf : {K : Type 0} (cmp : K → K → Ordering) (m : BTreeMap K S) (id : ℕ) → RefilesBy cmp Has m m id None None
-  no_shelf cmp m id = same_found cmp (get cmp m) id
+  pub no_id_index : {K : Type 0} (cmp : K → K → Ordering) (m : BTreeMap K S) (id : ℕ) → RefilesBy cmp Has m m id None None
+  no_id_index cmp m id = same_found cmp (get cmp m) id
 
 module _ {K S T : Type 0} {cmp : K → K → Ordering} (order : IsTotalOrder cmp) {Has : S → Rows T → Type 0} where
-  -- The shelf that changed stands under each key that the order ties to its own.
-  pub one_shelf : {old new : BTreeMap K S} {k : K} {id : ℕ} {b a : Option T} → RefilesAt cmp Has old new k id b a → RefilesUnder cmp Has (get cmp old) (get cmp new) k id b a
-  one_shelf {old} {new} {k} {id} {b} {a} change = record {
-    here = λ q tie. subst (λ (f : K → Ordering). Refiles (IsShelved Has (get_by f old)) (IsShelved Has (get_by f new)) id b a) (one_key order k q tie) change.here;
+  -- The index that changed stands under each key that the order ties to its own.
+  pub one_id_index : {old new : BTreeMap K S} {k : K} {id : ℕ} {b a : Option T} → RefilesAt cmp Has old new k id b a
+      → RefilesUnder cmp Has (get cmp old) (get cmp new) k id b a
+  one_id_index {old} {new} {k} {id} {b} {a} change = record {
+    here = λ q tie. subst (λ (f : K → Ordering). Refiles (IsIndexed Has (get_by f old)) (IsIndexed Has (get_by f new)) id b a)
+        (one_key order k q tie) change.here;
     apart = change.apart;
   }
 
-  past_key : {old new : K → Option S} {k : K} {id : ℕ} {b a : Option T} → RefilesUnder cmp Has old new k id b a → (q : K) → is_eq (cmp k q) ≡ false → (rows : Rows T) → IsShelved Has (old q) rows → IsShelved Has (new q) rows
-  past_key change q apart rows = subst (λ s. IsShelved Has s rows) (sym (change.apart q apart))
+  past_key : {old new : K → Option S} {k : K} {id : ℕ} {b a : Option T} → RefilesUnder cmp Has old new k id b a
+      → (q : K) → is_eq (cmp k q) ≡ false → (rows : Rows T) → IsIndexed Has (old q) rows → IsIndexed Has (new q) rows
+  past_key change q apart rows = subst (λ s. IsIndexed Has s rows) (sym (change.apart q apart))
 
-  -- One shelf changed: what it had under the id is `before`, what it has is `after`, and these say nothing of other keys.
-  found_one : {old new : K → Option S} {k : K} {id : ℕ} {b a : Option T} → RefilesUnder cmp Has old new k id b a → (before after : Option (K × T)) → ((q : K) → is_eq (cmp k q) ≡ true → (row_at cmp q before ≡ b) × (row_at cmp q after ≡ a)) → ((q : K) → is_eq (cmp k q) ≡ false → row_at cmp q after ≡ row_at cmp q before) → RefilesFound cmp Has old new id before after
+  -- One index changed: what it had under the id is `before`, what it has is `after`, and these say nothing of other keys.
+  found_one : {old new : K → Option S} {k : K} {id : ℕ} {b a : Option T} → RefilesUnder cmp Has old new k id b a → (before after : Option (K × T))
+      → ((q : K) → is_eq (cmp k q) ≡ true → (row_at cmp q before ≡ b) × (row_at cmp q after ≡ a))
+      → ((q : K) → is_eq (cmp k q) ≡ false → row_at cmp q after ≡ row_at cmp q before) → RefilesFound cmp Has old new id before after
   found_one {old} {new} {k} {id} {b} {a} change before after at apart parts there filed q =
-      elim (is_eq (cmp k q)) as (λ t. is_eq (cmp k q) ≡ t → IsShelved Has (new q) (with_row (parts q) id (row_at cmp q after))) [
+      elim (is_eq (cmp k q)) as (λ t. is_eq (cmp k q) ≡ t → IsIndexed Has (new q) (with_row (parts q) id (row_at cmp q after))) [
         | true ↦ λ tie.
             let known = at q tie in
-            subst (λ row. IsShelved Has (new q) (with_row (parts q) id row)) (sym known.1) (change.here q tie (parts q) (there q ∙ known.0) (filed q))
+            subst (λ row. IsIndexed Has (new q) (with_row (parts q) id row)) (sym known.1) (change.here q tie (parts q) (there q ∙ known.0) (filed q))
         | false ↦ λ off.
             again Has (new q) (parts q) id (row_at cmp q after) (there q ∙ sym (apart q off)) (past_key change q off (parts q) (filed q))
       ] refl
 
-  -- The id was taken from a shelf; it was put on one, or was not, and was nowhere before.
-  pub taken : {old new : K → Option S} {k : K} {id : ℕ} {row : T} → RefilesUnder cmp Has old new k id (Some row) None → RefilesFound cmp Has old new id (Some (k, row)) None
+  -- The id was taken from an index; it was put on one, or was not, and was nowhere before.
+  pub taken : {old new : K → Option S} {k : K} {id : ℕ} {row : T} → RefilesUnder cmp Has old new k id (Some row) None
+      → RefilesFound cmp Has old new id (Some (k, row)) None
   taken {k = k} {row = row} change =
       found_one change (Some (k, row)) None (λ q tie. (at_place cmp k row q tie, refl)) (λ q off. sym (past_place cmp k row q off))
 
-  pub put_first : {old new : K → Option S} {k : K} {id : ℕ} {row : T} → RefilesUnder cmp Has old new k id None (Some row) → RefilesFound cmp Has old new id None (Some (k, row))
+  pub put_first : {old new : K → Option S} {k : K} {id : ℕ} {row : T} → RefilesUnder cmp Has old new k id None (Some row)
+      → RefilesFound cmp Has old new id None (Some (k, row))
   put_first {k = k} {row = row} change =
       found_one change None (Some (k, row)) (λ q tie. (refl, at_place cmp k row q tie)) (λ q off. past_place cmp k row q off)
 
@@ -153,13 +171,15 @@ module _ {K S T : Type 0} {cmp : K → K → Ordering} (order : IsTotalOrder cmp
 
   module _ {old new : K → Option S} (i k : K) {id : ℕ} (was : T) where
     -- The id was under a tied key, and was filed anew there, or was not.
-    pub put_again : (row : T) → is_eq (cmp i k) ≡ true → RefilesUnder cmp Has old new k id (Some was) (Some row) → RefilesFound cmp Has old new id (Some (i, was)) (Some (k, row))
+    pub put_again : (row : T) → is_eq (cmp i k) ≡ true → RefilesUnder cmp Has old new k id (Some was) (Some row)
+        → RefilesFound cmp Has old new id (Some (i, was)) (Some (k, row))
     put_again row same change =
         found_one change (Some (i, was)) (Some (k, row))
         (λ q tie. (tied_place order i k was q same ∙ at_place cmp k was q tie, at_place cmp k row q tie))
         (λ q off. past_place cmp k row q off ∙ sym (tied_place order i k was q same ∙ past_place cmp k was q off))
 
-    pub kept_again : is_eq (cmp i k) ≡ true → RefilesUnder cmp Has old new k id (Some was) (Some was) → RefilesFound cmp Has old new id (Some (i, was)) (Some (i, was))
+    pub kept_again : is_eq (cmp i k) ≡ true → RefilesUnder cmp Has old new k id (Some was) (Some was)
+        → RefilesFound cmp Has old new id (Some (i, was)) (Some (i, was))
     kept_again same change =
         found_one change (Some (i, was)) (Some (i, was))
         (λ q tie. let there = tied_place order i k was q same ∙ at_place cmp k was q tie in (there, there))
@@ -172,29 +192,32 @@ module _ {K S T : Type 0} {cmp : K → K → Ordering} (order : IsTotalOrder cmp
         (λ q tie. let none = past_place cmp i was q (one_of_two order i k q differ tie) in (none, none))
         (λ q off. refl)
 
-  -- Two shelves changed, under keys that differ: the id was put on one, and taken from the other.
-  pub moved : {old mid new : K → Option S} (i k : K) {id : ℕ} (was row : T) → is_eq (cmp i k) ≡ false → RefilesUnder cmp Has old mid k id None (Some row) → RefilesUnder cmp Has mid new i id (Some was) None → RefilesFound cmp Has old new id (Some (i, was)) (Some (k, row))
+  -- Two indexes changed, under keys that differ: the id was put on one, and taken from the other.
+  pub moved : {old mid new : K → Option S} (i k : K) {id : ℕ} (was row : T) → is_eq (cmp i k) ≡ false → RefilesUnder cmp Has old mid k id None (Some row)
+      → RefilesUnder cmp Has mid new i id (Some was) None → RefilesFound cmp Has old new id (Some (i, was)) (Some (k, row))
   moved {old} {mid} {new} i k {id} was row differ put gone parts there filed q =
-      elim (is_eq (cmp k q)) as (λ t. is_eq (cmp k q) ≡ t → IsShelved Has (new q) (with_row (parts q) id (cond t (Some row) None))) [
+      elim (is_eq (cmp k q)) as (λ t. is_eq (cmp k q) ≡ t → IsIndexed Has (new q) (with_row (parts q) id (cond t (Some row) None))) [
         | true ↦ λ tie.
             let off = one_of_two order i k q differ tie in
             past_key gone q off _ (put.here q tie (parts q) (there q ∙ past_place cmp i was q off) (filed q))
         | false ↦ λ off.
             let same = past_key put q off (parts q) (filed q) in
-            elim (is_eq (cmp i q)) as (λ t. is_eq (cmp i q) ≡ t → IsShelved Has (new q) (with_row (parts q) id None)) [
+            elim (is_eq (cmp i q)) as (λ t. is_eq (cmp i q) ≡ t → IsIndexed Has (new q) (with_row (parts q) id None)) [
               | true ↦ λ tie. gone.here q tie (parts q) (there q ∙ at_place cmp i was q tie) same
               | false ↦ λ past. again Has (new q) (parts q) id None (there q ∙ past_place cmp i was q past) (past_key gone q past (parts q) same)
             ] refl
       ] refl
 
 -- Where each row has the key that `key_of` gives it, the rows change as their places do.
-module _ {K S T : Type 0} (cmp : K → K → Ordering) (Has : S → Rows T → Type 0) (key_of : T → Option K) (old new : K → Option S) (id : ℕ) (before after : Option T) where
+module _ {K S T : Type 0} (cmp : K → K → Ordering) (Has : S → Rows T → Type 0) (key_of : T
+    → Option K) (old new : K → Option S) (id : ℕ) (before after : Option T) where
   abbrev at : K → Option T → Option T
   at k row = row_at cmp k (placed key_of row)
 
-  refiled : RefilesFound cmp Has old new id (placed key_of before) (placed key_of after) → Refiles (IsFound cmp Has key_of old) (IsFound cmp Has key_of new) id before after
+  refiled : RefilesFound cmp Has old new id (placed key_of before) (placed key_of after)
+      → Refiles (IsFound cmp Has key_of old) (IsFound cmp Has key_of new) id before after
   refiled change rows there filed q =
-      subst (IsShelved Has (new q)) (λ j. λ x. same x j)
+      subst (IsIndexed Has (new q)) (λ j. λ x. same x j)
       (change (λ k. rows_at cmp key_of k rows) (λ k. ap (at k) there) filed q)
     where
       same : (x : ℕ) → cond (is_eq (nat_cmp id x)) (at q after) (at q (rows x)) ≡ at q (cond (is_eq (nat_cmp id x)) after (rows x))
@@ -205,9 +228,12 @@ module _ {K S T : Type 0} (cmp : K → K → Ordering) (Has : S → Rows T → T
           ]
 
   -- So they do where another name of their places is given.
-  pub refound_as : (b a : Option (K × T)) → b ≡ placed key_of before → a ≡ placed key_of after → RefilesFound cmp Has old new id b a → Refiles (IsFound cmp Has key_of old) (IsFound cmp Has key_of new) id before after
+  pub refound_as : (b a : Option (K × T)) → b ≡ placed key_of before → a ≡ placed key_of after
+      → RefilesFound cmp Has old new id b a → Refiles (IsFound cmp Has key_of old) (IsFound cmp Has key_of new) id before after
   refound_as b a was is change =
       refiled (subst (λ x. RefilesFound cmp Has old new id (placed key_of before) x) is (subst (λ x. RefilesFound cmp Has old new id x a) was change))
 
-pub refiled_as : {K S T : Type 0} (cmp : K → K → Ordering) (Has : S → Rows T → Type 0) (key_of : T → Option K) (old new : BTreeMap K S) (id : ℕ) (before after : Option T) (b a : Option (K × T)) → b ≡ placed key_of before → a ≡ placed key_of after → RefilesBy cmp Has old new id b a → Refiles (IsFiled cmp Has key_of old) (IsFiled cmp Has key_of new) id before after
+pub refiled_as : {K S T : Type 0} (cmp : K → K → Ordering) (Has : S → Rows T → Type 0) (key_of : T → Option K) (old new : BTreeMap K S) (id : ℕ)
+    (before after : Option T) (b a : Option (K × T)) → b ≡ placed key_of before → a ≡ placed key_of after
+    → RefilesBy cmp Has old new id b a → Refiles (IsFiled cmp Has key_of old) (IsFiled cmp Has key_of new) id before after
 refiled_as cmp Has key_of old new = refound_as cmp Has key_of (get cmp old) (get cmp new)

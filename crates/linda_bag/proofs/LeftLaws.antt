@@ -1,6 +1,7 @@
 -- A search through the entries of a map, lowest key first: what is known of the entries that are left, and what follows
 -- where one is found and where all are passed.
-use Rattle.std.proofs.Common.{◌≡◌, ℕ, suc, ◌<◌, ◌↔◌, inl, inr, arith, ◌==◌, Bool, true, false, cond, List, [], ◌∷◌, All, Option, Some, IsSome, IsTrue, refl, sym, ap, subst, ◌∙◌, nat_cmp, BTreeMap, true≢false}
+use Rattle.std.proofs.Common.{◌≡◌, ℕ, suc, ◌<◌, ◌↔◌, inl, inr, arith, ◌==◌, Bool, true, false, cond, List, [], ◌∷◌, All}
+use Rattle.std.proofs.Common.{Option, Some, IsSome, IsTrue, refl, sym, ap, subst, ◌∙◌, nat_cmp, BTreeMap, true≢false}
 use Rattle.std.specs.Ordering.{eq_by_cmp}
 use Rattle.std.specs.Cmp.{unsigned_ties, unsigned_Decides}
 use Rattle.std.specs.Map.{keys_of, lookup}
@@ -10,7 +11,7 @@ use Rattle.linda_tuple.specs.Tuple.{Tuple}
 use Rattle.linda_tuple.specs.Template.{Template}
 use Rattle.linda_tuple.specs.Matching.{Matches}
 use Rattle.linda_bag.specs.FreeMatch.{IsFreeMatch}
-use Rattle.linda_maps.proofs.MapLaws.{get_is_lookup}
+use Rattle.linda_map_laws.proofs.MapLaws.{get_is_lookup}
 use Rattle.linda_bag.proofs.AheadLaws.{IsAhead, IsKey, fewer_ahead, none_before, none_ahead}
 use Rattle.linda_bag.proofs.FreeMatchLaws.{free_there}
 
@@ -32,8 +33,10 @@ entry_key k (e ∷ es) found =
     ] refl
 
 -- At the start all entries of a tree are left.
-pub all_left : {X : Type 0} (t : BTreeMap ℕ X) (Wanted : ℕ → Type 0) (left : List (ℕ × X)) → left ≡ t.entries → tree.IsOrdered nat_cmp t → All (λ e. tree.get nat_cmp t e.0 ≡ Some e.1) t.entries → ((k : ℕ) → Wanted k → IsSome (get (from_entries {R = nat_cmp} t.entries) k)) → IsLeft (from_entries t.entries) Wanted left
-all_left {X} t Wanted left start ordered found there = subst (IsLeft (from_entries t.entries) Wanted) (sym start) record {
+pub all_left : {X : Type 0} (t : BTreeMap ℕ X) (Wanted : ℕ → Type 0) (left : List (ℕ × X)) → left ≡ t.entries → tree.IsOrdered nat_cmp t
+    → All (λ e. tree.get nat_cmp t e.0 ≡ Some e.1) t.entries → ((k : ℕ) → Wanted k → IsSome (get (from_entries {R = nat_cmp} t.entries) k))
+    → IsLeft (from_entries t.entries) Wanted left
+all_left {X} t Wanted left hint ordered found there = subst (IsLeft (from_entries t.entries) Wanted) (sym hint) record {
   ahead = record {
     sorted = ordered;
     each = λ k wanted. entry_key k t.entries (subst (λ (o : Option X). IsSome o) (get_is_lookup t k) (there k wanted));
@@ -66,6 +69,7 @@ module _ {X : Type 0} (m : FinMap nat_cmp X) (Wanted : ℕ → Type 0) (left : L
   none_wanted is_left ended = none_ahead Wanted (keys_of left) is_left.ahead (ap keys_of ended)
 
 -- An entry that fails the test is no free match.
-pub not_free : (m : FinMap nat_cmp Tuple) (shape : Template) (passed : ℕ → Bool) (e : ℕ × Tuple) (test : Bool) → get m e.0 ≡ Some e.1 → (IsTrue test ↔ (Matches shape e.1 × (passed e.0 ≡ false))) → test ≡ false → IsFreeMatch m shape passed e.0 → ⊥
+pub not_free : (m : FinMap nat_cmp Tuple) (shape : Template) (passed : ℕ → Bool) (e : ℕ × Tuple) (test : Bool) → get m e.0 ≡ Some e.1
+    → (IsTrue test ↔ (Matches shape e.1 × (passed e.0 ≡ false))) → test ≡ false → IsFreeMatch m shape passed e.0 → ⊥
 not_free m shape passed e test stored decides fails match =
     true≢false (sym ((free_there m shape passed e.0 e.1 test stored decides).1 match) ∙ fails)

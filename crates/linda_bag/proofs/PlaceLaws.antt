@@ -4,15 +4,15 @@ use Rattle.linda_tuple.specs.declared.atom.Atom.{Atom}
 use Rattle.linda_tuple.specs.contracts.atom.AtomOrd.TheImpl as atom_ord
 use Rattle.linda_tuple.specs.Tuple.{Tuple}
 use Rattle.linda_bag.specs.Filing.{Rows, IsBare, row_at, placed}
-use Rattle.linda_bag.specs.declared.heads.Heads.{Heads}
+use Rattle.linda_bag.specs.declared.tag_index.TagIndex.{TagIndex}
 use Rattle.linda_bag.specs.declared.index.Group.{Group}
-use Rattle.linda_bag.specs.contracts.index.GroupShelfTuple.TheImpl as group
-use Rattle.linda_bag.specs.Heads.{HasHeads}
+use Rattle.linda_bag.specs.contracts.index.GroupIdIndexTuple.TheImpl as group
+use Rattle.linda_bag.specs.TagIndex.{HasTags}
 use Rattle.linda_bag.specs.Candidates.{tag_of, count_of, first_of, with_first}
 
 -- The index has the tuples under these ids.
-abbrev pub HasIndex : Heads Group → Rows Tuple → Type 0
-HasIndex index rows = HasHeads tag_of count_of group.ghosts.has index rows
+abbrev pub HasIndex : TagIndex Group → Rows Tuple → Type 0
+HasIndex index rows = HasTags tag_of count_of group.ghosts.has index rows
 
 -- A row stands under the key that was read from it.
 pub key_placed : {K T : Type 0} (key_of : T → K) (row : T) (key : K) → key ≡ key_of row → Some (key, row) ≡ placed (λ r. Some (key_of r)) (Some row)

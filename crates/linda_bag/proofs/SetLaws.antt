@@ -1,5 +1,6 @@
 -- Sets of ids that are maps from them to nothing: what is in one after a change, and how many ids there are.
-use Rattle.std.proofs.Common.{◌≡◌, ℕ, Bool, true, false, cond, ◌||◌, ◌&&◌, ◌==◌, T, List, [], ◌∷◌, Option, Some, None, is_some, is_lt, ◌↔◌, refl, sym, ap, ◌∙◌, nat_cmp, true≢false}
+use Rattle.std.proofs.Common.{◌≡◌, ℕ, Bool, true, false, cond, ◌||◌, ◌&&◌, ◌==◌, T, List, [], ◌∷◌, Option, Some, None}
+use Rattle.std.proofs.Common.{is_some, is_lt, ◌↔◌, refl, sym, ap, ◌∙◌, nat_cmp, true≢false}
 use Rattle.std.specs.declared.cmp.Ordering.{Ordering}
 use Rattle.std.specs.declared.cmp.Ordering.TheVariants as order
 use Rattle.std.specs.Ordering.{is_eq}
@@ -7,10 +8,11 @@ use Rattle.std.specs.Cmp.{unsigned_ties}
 use Rattle.std.specs.Map.{keys_of}
 use Rattle.std.specs.List.{AllByRecursion}
 use Rattle.std.specs.List.Sorted.{IsStrictlySortedBy}
-use Rattle.std.specs.FinMap.{empty, get, insert, remove, len, entries, contains_key, contains_key-keys, is_sorted, entries_sorted, len-entries, len-empty, empty_of_len}
+use Rattle.std.specs.FinMap.{empty, get, insert, remove, len, entries, contains_key, contains_key-keys, is_sorted}
+use Rattle.std.specs.FinMap.{entries_sorted, len-entries, len-empty, empty_of_len}
 use Rattle.std.specs.FinMap.Entries.{below_all}
 use Rattle.std.proofs.lemmas.Map.Entries.{length-keys_of}
-use Rattle.linda_maps.proofs.MapLaws.{same_map, get_inserted, get_removed, get_empty}
+use Rattle.linda_map_laws.proofs.MapLaws.{same_map, get_inserted, get_removed, get_empty}
 use Rattle.linda_bag.specs.Filing.{Rows, IsBare}
 use Rattle.linda_bag.specs.Ids.{Many, SetsId, HasPair, IsCount}
 use Rattle.linda_bag.proofs.TuplesLaws.{told}
@@ -41,7 +43,8 @@ set_taken ids new id is q =
 pub pair_has : (one other : ℕ) → HasPair one other (insert (insert empty one tt) other tt)
 pair_has one other id =
     ap is_some (get_inserted (insert (empty {X = Unit {0}} {R = nat_cmp}) one tt) other tt id)
-    ∙ ap (λ o. is_some (cond (id == other) (Some tt) o)) (get_inserted (empty {X = Unit {0}} {R = nat_cmp}) one tt id ∙ ap (cond (id == one) (Some tt)) (get_empty id))
+    ∙ ap (λ o. is_some (cond (id == other) (Some tt) o)) (get_inserted (empty {X = Unit {0}} {R = nat_cmp}) one tt id
+    ∙ ap (cond (id == one) (Some tt)) (get_empty id))
     ∙ by (id == one) (id == other)
     ∙ ap (λ b. b || (id == other)) (unsigned_ties id one)
     ∙ ap (λ b. is_eq (nat_cmp id one) || b) (unsigned_ties id other)

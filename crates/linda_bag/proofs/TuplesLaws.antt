@@ -1,14 +1,17 @@
 -- A look-up among tuples that stand behind boxes gives what stands behind the box.
-use Rattle.std.proofs.Common.{◌≡◌, ℕ, suc, ◌==◌, ◌&&◌, Bool, true, false, cond, T, List, [], ◌∷◌, Option, Some, None, IsSome, is_some, Box, length, refl, sym, ap, subst, ◌∙◌, nat_cmp, is_lt}
+use Rattle.std.proofs.Common.{◌≡◌, ℕ, suc, ◌==◌, ◌&&◌, Bool, true, false, cond, T, List, [], ◌∷◌, Option, Some, None}
+use Rattle.std.proofs.Common.{IsSome, is_some, Box, length, refl, sym, ap, subst, ◌∙◌, nat_cmp, is_lt}
 use Rattle.std.specs.declared.alloc.Global.{Global}
 use Rattle.std.specs.Ordering.{eq_by_cmp, is_eq}
 use Rattle.std.specs.Option.{option_map}
 use Rattle.std.specs.Cmp.{nat_cmp_total, eq_by_cmp_equiv, unsigned_ties}
-use Rattle.std.specs.FinMap.{FinMap, empty, get, insert, remove, len, entries, find, from_entries, from_sorted, is_sorted, get-from_entries, get-entries, get-from_sorted, entries_sorted, entries-from_sorted, len-entries}
+use Rattle.std.specs.FinMap.{FinMap, empty, get, insert, remove, len, entries, find, from_entries, from_sorted}
+use Rattle.std.specs.FinMap.{is_sorted, get-from_entries, get-entries, get-from_sorted, entries_sorted}
+use Rattle.std.specs.FinMap.{entries-from_sorted, len-entries}
 use Rattle.std.specs.FinMap.Entries.{below_all}
 use Rattle.linda_tuple.specs.Tuple.{Tuple}
-use Rattle.linda_bag.specs.Tuples.{unboxed}
-use Rattle.linda_maps.proofs.MapLaws.{same_map, get_inserted, get_removed, get_empty}
+use Rattle.linda_bag.specs.TuplesById.{unboxed}
+use Rattle.linda_map_laws.proofs.MapLaws.{same_map, get_inserted, get_removed, get_empty}
 
 -- what stands behind the box
 abbrev pub behind : Option (Box Tuple Global) → Option Tuple
@@ -34,7 +37,8 @@ get_behind m k = get-from_entries nat_cmp_total (unboxed (entries m)) k ∙ foun
 pub told : (k q : ℕ) → is_eq (nat_cmp k q) ≡ (q == k)
 told k q = (eq_by_cmp_equiv nat_cmp_total).symm k q ∙ sym (unsigned_ties q k)
 
-updated : (old new : FinMap nat_cmp (Box Tuple Global)) (k q : ℕ) (w : Option (Box Tuple Global)) → get new q ≡ cond (q == k) w (get old q) → get (all_behind new) q ≡ cond (q == k) (behind w) (get (all_behind old) q)
+updated : (old new : FinMap nat_cmp (Box Tuple Global)) (k q : ℕ) (w : Option (Box Tuple Global))
+    → get new q ≡ cond (q == k) w (get old q) → get (all_behind new) q ≡ cond (q == k) (behind w) (get (all_behind old) q)
 updated old new k q w is =
     get_behind new q
     ∙ ap behind is

@@ -7,7 +7,7 @@ use Rattle.linda_tuple.specs.contracts.atom.AtomOrd.TheImpl as atom_ord
 use Rattle.linda_tuple.specs.Tuple.{Tuple}
 use Rattle.linda_tuple.specs.Template.{Template}
 use Rattle.linda_bag.specs.Filing.{Rows, rows_at}
-use Rattle.linda_bag.specs.Heads.{with_head}
+use Rattle.linda_bag.specs.TagIndex.{with_head}
 
 -- what a tuple is filed under: its tag, then the number of its fields, then its first field, if it
 -- has one

@@ -35,19 +35,19 @@ module _ {T : Type 0} where
   Refiles Old New id before after =
       (rows : Rows T) → rows id ≡ before → Old rows → New (with_row rows id after)
 
-  -- The shelf has the rows, of which there is one at least; where there is no shelf, there is no
+  -- The index has the rows, of which there is one at least; where there is no index, there is no
   -- row.
-  abbrev pub IsShelved : {S : Type 0} → (S → Rows T → Type 0) → Option S → Rows T → Type 0
-  IsShelved Has None rows = IsBare rows
-  IsShelved Has (Some shelf) rows = Has shelf rows × (IsBare rows → ⊥)
+  abbrev pub IsIndexed : {S : Type 0} → (S → Rows T → Type 0) → Option S → Rows T → Type 0
+  IsIndexed Has None rows = IsBare rows
+  IsIndexed Has (Some id_index) rows = Has id_index rows × (IsBare rows → ⊥)
 
-  -- What was found is the shelf with a part of the rows that the index has; nothing, where that
+  -- What was found is the index with a part of the rows that the index has; nothing, where that
   -- part has none.
-  abbrev pub FindsShelf : {S : Type 0} → (Rows T → Type 0) → (S → Rows T → Type 0)
+  abbrev pub FindsIndex : {S : Type 0} → (Rows T → Type 0) → (S → Rows T → Type 0)
       → (Rows T → Rows T) → Option S
       → Type 0
-  FindsShelf Has HasFound part found =
-      (rows : Rows T) → Has rows → IsShelved HasFound found (part rows)
+  FindsIndex Has HasFound part found =
+      (rows : Rows T) → Has rows → IsIndexed HasFound found (part rows)
 
 module _ {K T : Type 0} where
   -- the row with its key, if it has one
@@ -75,15 +75,15 @@ module _ {K T : Type 0} (cmp : K → K → Ordering) where
   rows_at key_of q rows id = row_at q (placed key_of (rows id))
 
   module _ {S : Type 0} (Has : S → Rows T → Type 0) where
-    -- Under each key is found a shelf with the rows of that key, if there are any. What is found
-    -- under a key is said by a look-up, as shelves may be in a map of any kind.
+    -- Under each key is found an index with the rows of that key, if there are any. What is found
+    -- under a key is said by a look-up, as indexes may be in a map of any kind.
     abbrev pub IsFoundBy : (K → Option S) → (K → Rows T) → Type 0
-    IsFoundBy shelf_at parts = (q : K) → IsShelved Has (shelf_at q) (parts q)
+    IsFoundBy id_index_at parts = (q : K) → IsIndexed Has (id_index_at q) (parts q)
 
-    -- Under each key is found a shelf with the rows to which `key_of` gives that key, if there are
+    -- Under each key is found an index with the rows to which `key_of` gives that key, if there are
     -- any.
     abbrev pub IsFound : (T → Option K) → (K → Option S) → Rows T → Type 0
-    IsFound key_of shelf_at rows = IsFoundBy shelf_at (λ q. rows_at key_of q rows)
+    IsFound key_of id_index_at rows = IsFoundBy id_index_at (λ q. rows_at key_of q rows)
 
     -- The parts were found, and are found still, but for the id: it was filed by `before` and is
     -- now by `after`.
@@ -100,28 +100,28 @@ module _ {K T : Type 0} (cmp : K → K → Ordering) where
     pub record RefilesUnder (old new : K → Option S) (key : K) (id : ℕ) (before after : Option T)
         : Type 0 where
       pub here : (q : K) → is_eq (cmp key q) ≡ true
-          → Refiles (IsShelved Has (old q)) (IsShelved Has (new q)) id before after
+          → Refiles (IsIndexed Has (old q)) (IsIndexed Has (new q)) id before after
       pub apart : (q : K) → is_eq (cmp key q) ≡ false → new q ≡ old q
 
-    -- Under each key stands a shelf with the rows of that key, where there are any.
+    -- Under each key stands an index with the rows of that key, where there are any.
     abbrev pub IsFiledBy : BTreeMap K S → (K → Rows T) → Type 0
-    IsFiledBy shelves parts = IsFoundBy (get cmp shelves) parts
+    IsFiledBy id_indexes parts = IsFoundBy (get cmp id_indexes) parts
 
-    -- Under each key stands a shelf with the rows to which `key_of` gives that key, where there are
-    -- any.
+    -- Under each key stands an index with the rows to which `key_of` gives that key, where there
+    -- are any.
     abbrev pub IsFiled : (T → Option K) → BTreeMap K S → Rows T → Type 0
-    IsFiled key_of shelves rows = IsFound key_of (get cmp shelves) rows
+    IsFiled key_of id_indexes rows = IsFound key_of (get cmp id_indexes) rows
 
-    -- The shelves had the parts, and have them still, but for the id: it was filed by `before` and
+    -- The indexes had the parts, and have them still, but for the id: it was filed by `before` and
     -- is now by `after`.
     abbrev pub RefilesBy : BTreeMap K S → BTreeMap K S → ℕ → Option (K × T) → Option (K × T)
         → Type 0
     RefilesBy old new id before after = RefilesFound (get cmp old) (get cmp new) id before after
 
-    -- One shelf changed: where it stands the id was filed by `before`, and is now by `after`; the
+    -- One index changed: where it stands the id was filed by `before`, and is now by `after`; the
     -- others are as they were.
     pub record RefilesAt (old new : BTreeMap K S) (key : K) (id : ℕ) (before after : Option T)
         : Type 0 where
-      pub here : Refiles (IsShelved Has (get cmp old key)) (IsShelved Has (get cmp new key))
+      pub here : Refiles (IsIndexed Has (get cmp old key)) (IsIndexed Has (get cmp new key))
           id before after
       pub apart : (q : K) → is_eq (cmp key q) ≡ false → get cmp new q ≡ get cmp old q

@@ -1,11 +1,11 @@
 pub mod Bytes
 pub mod FreeMatch
 pub mod Filing
-pub mod Heads
+pub mod TagIndex
 pub mod Ids
 pub mod Ints
-pub mod Tuples
+pub mod TuplesById
 pub mod Candidates
-pub mod Firsts
+pub mod FirstFieldIndex
 pub mod Columns
-pub mod Starts
+pub mod SearchHints

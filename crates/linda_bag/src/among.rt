@@ -12,7 +12,7 @@ use crate::bag::{Bag, Found};
 use crate::free_match::is_free_match;
 use crate::id_set::IdSet;
 use crate::ids::Ids;
-use crate::tuples::Tuples;
+use crate::tuples_by_id::TuplesById;
 use linda_rising::RisingMap;
 use linda_tuple::{Template, Tuple};
 
@@ -26,7 +26,7 @@ pub(crate) trait Stored {
         ensures { option_copied result ≡ map.get (rows self.now) id };
 }
 
-impl Stored for Tuples {
+impl Stored for TuplesById {
     ghost rows = { λ t. t };
 
     fn tuple_at(&self, id: u64) -> Option<&Tuple> {

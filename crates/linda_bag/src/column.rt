@@ -14,9 +14,9 @@ ghost use Rattle.linda_bag.specs.Columns.{AsksNoValue, IsColumn, StaysColumn};
 
 use crate::among::{InBag, least_among};
 use crate::bag::{Bag, Found};
+use crate::id_index::{refile, unfile};
 use crate::id_set::IdSet;
 use crate::ids::Ids;
-use crate::shelf::{refile, unfile};
 use linda_tuple::{Atom, Pattern, Template};
 use std::alloc::{AllocError, Global};
 use std::collections::{BTreeMap, BTreeSet};

@@ -5,7 +5,7 @@
 //! which tuples a search may leave out, and nothing else: they may go at any time.
 
 ghost use Rattle.std.specs.Prelude.{◌≡◌, ◌≤◌, ◌<◌, ℕ, Some, IfSome, IfNone, slice_get, get_or};
-ghost use Rattle.std.specs.Prelude.{OnOk, length};
+ghost use Rattle.std.specs.Prelude.{length};
 ghost use Rattle.linda_tuple.specs.declared.pattern.Pattern.TheVariants as patterns;
 ghost use Rattle.linda_bag.specs.FreeMatch.{Bagged, IsFreeMatch};
 ghost use Rattle.linda_bag.specs.Columns.{AreColumns};

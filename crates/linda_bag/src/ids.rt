@@ -6,7 +6,7 @@ ghost use Rattle.linda_bag.specs.Filing.{Rows};
 ghost use Rattle.std.specs.Ordering.{is_eq, nat_cmp};
 ghost use Rattle.linda_bag.specs.Ids.{IsOf, IsCount, HasPair, SetsId, has_id};
 
-use crate::shelf::Shelf;
+use crate::id_index::IdIndex;
 use linda_rising::RisingMap;
 use std::alloc::{AllocError, Global};
 
@@ -43,7 +43,7 @@ impl Ids {
     }
 }
 
-impl<T> Shelf<T> for Ids {
+impl<T> IdIndex<T> for Ids {
     ghost use Rattle.linda_bag.specs.Ids.{IsOf};
 
     ghost has = { IsOf };

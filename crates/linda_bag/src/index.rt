@@ -4,33 +4,33 @@
 ghost use Rattle.std.specs.Prelude.{◌≡◌, Some};
 ghost use Rattle.std.specs.Option.{option_copied};
 ghost use Rattle.linda_tuple.specs.Tuple.{Tuple};
-ghost use Rattle.linda_bag.specs.Filing.{Rows, FindsShelf, IsShelved};
+ghost use Rattle.linda_bag.specs.Filing.{Rows, FindsIndex, IsIndexed};
 ghost use Rattle.linda_bag.specs.Ids.{IsOf, IsCount};
 ghost use Rattle.linda_bag.specs.Candidates.{first_of, first_value, with_first, candidates};
-ghost use Rattle.linda_bag.specs.Firsts.{HasFirsts};
+ghost use Rattle.linda_bag.specs.FirstFieldIndex.{HasFirstFields};
 
-use crate::firsts::Firsts;
-use crate::heads::{Heads, alike};
+use crate::first_field_index::FirstFieldIndex;
+use crate::id_index::IdIndex;
 use crate::ids::Ids;
-use crate::shelf::Shelf;
+use crate::tag_index::{TagIndex, alike};
 use linda_tuple::{Atom, Pattern, Template, Tuple};
 use std::alloc::{AllocError, Global};
 
 /// The ids of the tuples of a bag, by head.
-pub(crate) type Index = Heads<Group>;
+pub(crate) type Index = TagIndex<Group>;
 
 /// The ids of tuples of one tag and one number of fields: all of them, and those of each first
 /// field.
 #[derive(Drop)]
 pub(crate) struct Group {
     ids: Ids,
-    firsts: Firsts,
+    first_fields: FirstFieldIndex,
 }
 
 /// The ids of the tuples that have the template's tag, as many fields as it has patterns and, where
 /// its first pattern is a value, that value first; nothing where there are none.
 pub(crate) fn candidates<'a>(index: &'a Index, template: &Template) -> Option<&'a Ids>
-    ensures { FindsShelf (⟦<Index as Shelf<Tuple>>⟧.has index.now) IsOf (candidates template.now)
+    ensures { FindsIndex (⟦<Index as IdIndex<Tuple>>⟧.has index.now) IsOf (candidates template.now)
         (option_copied result) }
 {
     let patterns = template.fields();
@@ -41,11 +41,11 @@ pub(crate) fn candidates<'a>(index: &'a Index, template: &Template) -> Option<&'
 impl Group {
     /// Those of the ids whose tuples have the value first, where there is one; else all.
     fn candidates(&self, first: Option<&Atom>) -> Option<&Ids>
-        ensures { FindsShelf (IsShelved (⟦<Group as Shelf<Tuple>>⟧.has) (Some self.now)) IsOf
+        ensures { FindsIndex (IsIndexed (⟦<Group as IdIndex<Tuple>>⟧.has) (Some self.now)) IsOf
             (with_first (option_copied first.entry)) (option_copied result) }
     {
         match first {
-            Some(first) => self.firsts.get::<Tuple>(first),
+            Some(first) => self.first_fields.get::<Tuple>(first),
             None => Some(&self.ids),
         }
     }
@@ -54,20 +54,20 @@ impl Group {
 impl Group {
     /// How many ids there are.
     pub(crate) fn len(&self) -> usize
-        ensures { (rows : Rows Tuple) → ⟦<Group as Shelf<Tuple>>⟧.has self.now rows
+        ensures { (rows : Rows Tuple) → ⟦<Group as IdIndex<Tuple>>⟧.has self.now rows
             → IsCount rows result }
     {
         self.ids.len::<Tuple>()
     }
 }
 
-impl Shelf<Tuple> for Group {
-    ghost has = { λ g rows. IsOf g.ids rows × HasFirsts first_of g.firsts rows };
+impl IdIndex<Tuple> for Group {
+    ghost has = { λ g rows. IsOf g.ids rows × HasFirstFields first_of g.first_fields rows };
 
     fn empty(alloc: Global) -> Group {
         Group {
-            ids: Shelf::<Tuple>::empty(alloc),
-            firsts: Firsts::empty::<Tuple>(alloc),
+            ids: IdIndex::<Tuple>::empty(alloc),
+            first_fields: FirstFieldIndex::empty::<Tuple>(alloc),
         }
     }
 
@@ -79,7 +79,7 @@ impl Shelf<Tuple> for Group {
         new: &'a Tuple,
     ) -> Result<(), AllocError> {
         self.ids.put(alloc, id, old, new)?;
-        match self.firsts.put(alloc, id, old, new) {
+        match self.first_fields.put(alloc, id, old, new) {
             Ok(()) => Ok(()),
             Err(error) => {
                 if old.is_none() {
@@ -92,11 +92,11 @@ impl Shelf<Tuple> for Group {
 
     fn remove(&mut self, id: u64, tuple: &Tuple) {
         self.ids.remove(id, tuple);
-        self.firsts.remove(id, Some(tuple));
+        self.first_fields.remove(id, Some(tuple));
     }
 
     fn is_empty(&self) -> bool {
-        Shelf::<Tuple>::is_empty(&self.ids)
+        IdIndex::<Tuple>::is_empty(&self.ids)
     }
 }
 

@@ -6,10 +6,10 @@ ghost use Rattle.std.specs.FinMap as map;
 
 use crate::among::least_among;
 use crate::bag::{Bag, Found};
+use crate::id_index::IdIndex;
 use crate::id_set::IdSet;
 use crate::index::{Index, candidates};
-use crate::shelf::Shelf;
-use crate::tuples::Tuples;
+use crate::tuples_by_id::TuplesById;
 use linda_codec::tuple_len;
 use linda_tuple::{Form, Template, Tuple};
 use std::alloc::{AllocError, Global};
@@ -24,7 +24,7 @@ pub use kind::Kind;
 /// number of fields and first field.
 pub struct IndexBag {
     alloc: Global,
-    tuples: Tuples,
+    tuples: TuplesById,
     // How many bytes they spell.
     bytes: usize,
     index: Index,
@@ -56,7 +56,7 @@ impl Model for IndexBag {
 
     ghost view = { λ b. b.tuples };
 
-    ghost invariant = { λ b. ⟦<Index as Shelf<Tuple>>⟧.has b.index (map.get b.tuples)
+    ghost invariant = { λ b. ⟦<Index as IdIndex<Tuple>>⟧.has b.index (map.get b.tuples)
         × (b.bytes ≡ bytes_of b.tuples) };
 }
 
@@ -67,9 +67,9 @@ impl IndexBag {
     {
         IndexBag {
             alloc,
-            tuples: Tuples::new(alloc),
+            tuples: TuplesById::new(alloc),
             bytes: 0,
-            index: Shelf::<Tuple>::empty(alloc),
+            index: IdIndex::<Tuple>::empty(alloc),
         }
     }
 }

@@ -1,7 +1,7 @@
 //! Sets of ids under integers, in blocks by the order of the integers. Most rows begin with
 //! integers that rise: so a new one goes to the end, without a search.
 
-ghost use Rattle.std.specs.Prelude.{◌≡◌, ℤ, pos, ◌+ℤ◌, ◌^◌, ◌↔◌, None, Some, OnOk, OnErr};
+ghost use Rattle.std.specs.Prelude.{◌≡◌, ℤ, pos, ◌↔◌, None, Some, OnOk, OnErr};
 ghost use Rattle.std.specs.Prelude.{IsSome, IsTrue};
 ghost use Rattle.std.specs.Option.{option_copied};
 ghost use Rattle.std.specs.Ordering.{nat_cmp, int_cmp};
@@ -10,8 +10,8 @@ ghost use Rattle.linda_bag.specs.Filing.{place, RefilesFound, RefilesUnder};
 ghost use Rattle.linda_bag.specs.Ids.{IsOf};
 ghost use Rattle.linda_bag.specs.Ints.{counted, ids_at};
 
+use crate::id_index::IdIndex;
 use crate::ids::Ids;
-use crate::shelf::Shelf;
 use linda_rising::RisingMap;
 use std::alloc::{AllocError, Global};
 use std::cmp::Ordering;
@@ -141,7 +141,7 @@ fn take_at<T>(sets: &mut RisingMap<Ids>, id: u64, code: u64, row: &T)
 {
     let mut ids = sets.replace(code, Ids::Nothing);
     ids.remove(id, row);
-    if Shelf::<T>::is_empty(&ids) {
+    if IdIndex::<T>::is_empty(&ids) {
         sets.remove(code);
     } else {
         sets.replace(code, ids);

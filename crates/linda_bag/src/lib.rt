@@ -7,8 +7,8 @@
 //!
 //! `specs/FreeMatch` says which tuples a template may be answered with; the answer is always the
 //! least id among them. `specs/Filing` and `specs/Candidates` say what an index has and what is
-//! found in it. `heads`, `firsts` and `ids` are written for rows of any type, so that `linda_hold`
-//! files its requests by them. What follows of finite maps is in `linda_maps`.
+//! found in it. `tag_index`, `first_fields` and `ids` are written for rows of any type, so that
+//! `linda_hold` files its requests by them. What follows of finite maps is in `linda_map_laws`.
 //!
 //! A call that may take memory has a fault for that; no other call takes any.
 #![tactic(auto)]
@@ -17,26 +17,26 @@ mod among;
 mod bag;
 mod column;
 mod columns;
-mod firsts;
+mod first_field_index;
 mod free_match;
-mod heads;
+mod id_index;
 mod id_set;
 mod ids;
 mod index;
 mod index_bag;
 mod ints;
 mod list_bag;
-mod shelf;
-mod starts;
-mod tag_starts;
-mod tuples;
+mod search_hints;
+mod tag_hints;
+mod tag_index;
+mod tuples_by_id;
 
 pub use bag::{Bag, Found};
-pub use firsts::Firsts;
-pub use heads::{Headed, Heads, alike};
+pub use first_field_index::FirstFieldIndex;
+pub use id_index::{IdIndex, Key, refile, unfile};
 pub use id_set::IdSet;
 pub use ids::{Ids, put_id, take_id};
 pub use index_bag::{IndexBag, Kind};
 pub use list_bag::ListBag;
-pub use shelf::{Key, Shelf, refile, unfile};
-pub use starts::Starts;
+pub use search_hints::SearchHints;
+pub use tag_index::{TagIndex, Tagged, alike};

@@ -27,7 +27,8 @@ reply_bodies form = (
   ),
 )
 
-reply_again : (form : Form) (r : KeptReply) (rest : List ℕ) → format.FitsReply form r → (format.reply form).read (format.spell_reply form r ++ rest) ≡ Ok (r, rest)
+reply_again : (form : Form) (r : KeptReply) (rest : List ℕ) → format.FitsReply form r
+    → (format.reply form).read (format.spell_reply form r ++ rest) ≡ Ok (r, rest)
 reply_again form (Stored id) rest fits = made_again number_is (λ id. Stored id) id rest fits
 reply_again form (Taken id tuple) rest fits = made_again (placed_is form) (λ p. Taken p.0 p.1) (id, tuple) rest fits
 reply_again form Gone rest fits = refl
@@ -35,4 +36,5 @@ reply_again One Left rest fits = absurd fits
 reply_again Two Left rest fits = refl
 
 pub reply_is : (form : Form) → IsFormat (format.reply form)
-reply_is form = choice_is (format.spell_reply form) (format.FitsReply form) (format.reply_kinds form) no_kind (reply_bodies form) (no_kind_is (format.spell_reply form) (format.FitsReply form)) (reply_again form)
+reply_is form = choice_is (format.spell_reply form) (format.FitsReply form) (format.reply_kinds form) no_kind
+    (reply_bodies form) (no_kind_is (format.spell_reply form) (format.FitsReply form)) (reply_again form)

@@ -88,13 +88,13 @@ fits wants.Left (reply.Left n) = true
 fits wants.Left r = false
 
 -- whether this number is that of a message that is unanswered
-abbrev pub is_open : ServerStanding → Option ℕ → Bool
-is_open s None = false
-is_open s (Some n) = nat_lt s.kept n && nat_le n s.sent
+abbrev pub is_unanswered : ServerStanding → Option ℕ → Bool
+is_unanswered s None = false
+is_unanswered s (Some n) = nat_lt s.kept n && nat_le n s.sent
 
 -- whether a reply answers the number of an unanswered message, and cannot answer the message
 abbrev pub is_foreign : ServerStanding → Reply → Bool
-is_foreign s r = is_open s (answered_in r) && not (fits s.wants r)
+is_foreign s r = is_unanswered s (answered_in r) && not (fits s.wants r)
 
 -- it welcomes the client with this number
 abbrev pub welcomed : Bool → ℕ → ServerStanding → ServerStanding

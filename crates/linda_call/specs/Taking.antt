@@ -2,8 +2,10 @@
 use Rattle.std.specs.Prelude.{◌≡◌, ℕ, true, false, List, Result, Ok, Err, IfOk, IfErr}
 use Rattle.std.specs.List.{list_any}
 use Rattle.linda_net_proxy.specs.declared.server_events.ServerEvent.{ServerEvent}
-use Rattle.linda_net_proxy.specs.declared.server_events.ServerEvent.TheVariants.{Greeted, Came, Refused}
-use Rattle.linda_net_proxy.specs.declared.server_events.ServerEvent.TheVariants.{NotAServer, NoConnection}
+use Rattle.linda_net_proxy.specs.declared.server_events.ServerEvent.TheVariants.{Greeted, Came}
+use Rattle.linda_net_proxy.specs.declared.server_events.ServerEvent.TheVariants.{Refused}
+use Rattle.linda_net_proxy.specs.declared.server_events.ServerEvent.TheVariants.{NotAServer}
+use Rattle.linda_net_proxy.specs.declared.server_events.ServerEvent.TheVariants.{NoConnection}
 use Rattle.linda_net_proxy.specs.declared.server_events.ServerEvent.TheVariants.{Memory}
 use Rattle.linda_client.specs.React as calls
 use Rattle.linda_client.specs.React.{react}

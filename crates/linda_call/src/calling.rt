@@ -75,7 +75,7 @@ pub fn call<
         goes_on,
         together: false,
     };
-    call_as(rt, alloc, reader, writer, client, ports, manner)
+    call_in_manner(rt, alloc, reader, writer, client, ports, manner)
 }
 
 /// Plays lines as `call` does, in this manner. If tuples are put together, lines `out TUPLE` that
@@ -89,7 +89,7 @@ pub fn call<
 /// # Errors
 ///
 /// As those of `call`. If a server refuses a tuple, the outcomes of the lines before are written.
-pub fn call_as<
+pub fn call_in_manner<
     S: Net<Listener = TcpListener, Stream = TcpStream> + Threads + Wait + Clock + Sync,
     R: Read,
     W: Write,
@@ -135,16 +135,16 @@ pub fn call_at<
         goes_on,
         together: false,
     };
-    call_at_as(rt, alloc, reader, writer, client, paths, manner)
+    call_at_in_manner(rt, alloc, reader, writer, client, paths, manner)
 }
 
-/// Plays lines as `call_as` does, over the servers that listen on the unix sockets at these paths,
-/// which are numbered from 0.
+/// Plays lines as `call_in_manner` does, over the servers that listen on the unix sockets at these
+/// paths, which are numbered from 0.
 ///
 /// # Errors
 ///
 /// As those of `call_at`.
-pub fn call_at_as<
+pub fn call_at_in_manner<
     S: Net<Listener = TcpListener, Stream = TcpStream> + Threads + Wait + Clock + Sync,
     R: Read,
     W: Write,

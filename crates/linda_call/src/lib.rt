@@ -9,4 +9,4 @@
 
 mod calling;
 
-pub use calling::{CallFault, Manner, call, call_as, call_at, call_at_as};
+pub use calling::{CallFault, Manner, call, call_at, call_at_in_manner, call_in_manner};

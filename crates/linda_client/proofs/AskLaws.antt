@@ -39,13 +39,19 @@ passes_limit a n limit h = grind (arith, nat_tests)
 pub limits_kept : (event : Tree) → is_too_deep event ≡ false → has_too_many event ≡ false → IsWithinLimits event
 limits_kept event depth few =
     let parts = neither (nat_lt MAX_BASES (length (bases_of event))) (nat_lt MAX_ASKS (count_by is_ask (bases_of event))) few in
-    record { depth = depth; bases = ltb-false MAX_BASES (length (bases_of event)) parts.0; asks = ltb-false MAX_ASKS (count_by is_ask (bases_of event)) parts.1 }
+    record {
+      depth = depth;
+      bases = ltb-false MAX_BASES (length (bases_of event)) parts.0;
+      asks =
+          ltb-false MAX_ASKS (count_by is_ask (bases_of event)) parts.1;
+    }
 
 -- An open ticket is in its range.
 pub open_range : (pending : Pending) (k : ℕ) (ask : Ask) → ask_at pending k ≡ Some ask → (pending.first ≤ k) × (k < pending.first + ticket_count pending)
 open_range pending k ask e = by (nat_lt k pending.first) refl e
   where
-    by : (b : Bool) → nat_lt k pending.first ≡ b → cond b None (slice_get (asks pending.event) (k - pending.first)) ≡ Some ask → (pending.first ≤ k) × (k < pending.first + ticket_count pending)
+    by : (b : Bool) → nat_lt k pending.first ≡ b → cond b None (slice_get (asks pending.event) (k - pending.first)) ≡ Some ask
+        → (pending.first ≤ k) × (k < pending.first + ticket_count pending)
     by true low f = absurd (none-some ask f)
     by false high f =
         let from : pending.first ≤ k = ltb-false k pending.first high in
@@ -55,7 +61,8 @@ open_range pending k ask e = by (nat_lt k pending.first) refl e
 -- Tickets ask the same where the event and the first ticket are the same.
 pub same_asks : (later pending : Pending) → later.event ≡ pending.event → later.first ≡ pending.first → (k : ℕ) → ask_at later k ≡ ask_at pending k
 same_asks later pending event first k =
-    ap (λ n. cond (nat_lt k n) None (slice_get (asks later.event) (k - n))) first ∙ ap (λ t. cond (nat_lt k pending.first) None (slice_get (asks t) (k - pending.first))) event
+    ap (λ n. cond (nat_lt k n) None (slice_get (asks later.event) (k - n))) first
+    ∙ ap (λ t. cond (nat_lt k pending.first) None (slice_get (asks t) (k - pending.first))) event
 
 -- a base that is ready comes first, if its test says so
 ready_next : (clock n : ℕ) (k : Kind) (rest : List (ℕ × Got)) (later : Bool) → later ≡ is_some (slice_get rest 0)
@@ -70,9 +77,11 @@ ready_next clock n (alarm time) rest later e = by (nat_le time clock)
 ready_next clock n (always v) rest later e = refl
 ready_next clock n never rest later e = e
 
-any_ready_from : (clock n : ℕ) (kinds : List Kind) → list_any (is_ready clock) kinds ≡ is_some (slice_get (filter_map (ready_at clock) (enumerate_from n kinds)) 0)
+any_ready_from : (clock n : ℕ) (kinds : List Kind)
+    → list_any (is_ready clock) kinds ≡ is_some (slice_get (filter_map (ready_at clock) (enumerate_from n kinds)) 0)
 any_ready_from clock n [] = refl
-any_ready_from clock n (k ∷ ks) = ready_next clock n k (filter_map (ready_at clock) (enumerate_from (n + 1) ks)) (list_any (is_ready clock) ks) (any_ready_from clock (n + 1) ks)
+any_ready_from clock n (k ∷ ks) = ready_next clock n k (filter_map (ready_at clock) (enumerate_from (n + 1) ks))
+    (list_any (is_ready clock) ks) (any_ready_from clock (n + 1) ks)
 
 -- Some base is ready exactly where there is a first one.
 pub any_ready_is : (clock : ℕ) (event : Tree) → list_any (is_ready clock) (bases_of event) ≡ is_some (first_ready clock event)

@@ -38,41 +38,53 @@ made_by h n k kinds zero x (Some y) rest later e f =
     record { place = 0; kind = k; there = refl; made = ap (λ j. h (j, k)) same ∙ e ∙ f }
 made_by h n k kinds (suc i) x (Some y) rest later e f = made_later h n k kinds x (later i f)
 
-made_of : {X : Type 0} (h : ℕ × Kind → Option X) (n : ℕ) (kinds : List Kind) (i : ℕ) (x : X) → slice_get (filter_map h (enumerate_from n kinds)) i ≡ Some x → Made h n kinds x
+made_of : {X : Type 0} (h : ℕ × Kind → Option X) (n : ℕ) (kinds : List Kind) (i : ℕ) (x : X)
+    → slice_get (filter_map h (enumerate_from n kinds)) i ≡ Some x → Made h n kinds x
 made_of h n [] i x e = absurd (none-some x e)
 made_of h n (k ∷ kinds) i x e =
     made_by h n k kinds i x (h (n, k)) (filter_map h (enumerate_from (n + 1) kinds)) (λ j f. made_of h (n + 1) kinds j x f) refl e
 
-gets_there : (clock : ℕ) (event : Tree) (base place : ℕ) (kind : Kind) (got : Got) → base ≡ place → slice_get (bases_of event) place ≡ Some kind → CanGet clock kind got → BaseGets clock event base got
+gets_there : (clock : ℕ) (event : Tree) (base place : ℕ) (kind : Kind) (got : Got) → base ≡ place
+    → slice_get (bases_of event) place ≡ Some kind → CanGet clock kind got → BaseGets clock event base got
 gets_there clock event base place kind got at there gets =
     subst (λ o. IsSomeAnd o (λ k. CanGet clock k got)) (sym (ap (slice_get (bases_of event)) at ∙ there)) gets
 
-asked_input : (clock base : ℕ) (kind : Kind) (ask : Ask) (server id : ℕ) (row : Tuple) → ask_of base kind ≡ Some ask → ask.remove ≡ true → Matches ask.template row
+asked_input : (clock base : ℕ) (kind : Kind) (ask : Ask) (server id : ℕ) (row : Tuple)
+    → ask_of base kind ≡ Some ask → ask.remove ≡ true → Matches ask.template row
     → (ask.base ≡ base) × CanGet clock kind (gots.Took server id row (bindings_of ask.template row))
 asked_input clock base (input template) ask server id row e r fits =
-    let same = same_Some _ ask e in (sym (ap (λ a. a.base) same), (subst (λ t. Matches t row) (sym (ap (λ a. a.template) same)) fits, ap (λ t. bindings_of t row) (sym (ap (λ a. a.template) same))))
+    let same = same_Some _ ask e in (
+      sym (ap (λ a. a.base) same),
+      (subst (λ t. Matches t row) (sym (ap (λ a. a.template) same)) fits, ap (λ t. bindings_of t row) (sym (ap (λ a. a.template) same))),
+    )
 asked_input clock base (read template) ask server id row e r fits = let same = same_Some _ ask e in absurd (false≢true (ap (λ a. a.remove) same ∙ r))
 asked_input clock base (alarm time) ask server id row e r fits = absurd (none-some ask e)
 asked_input clock base (always value) ask server id row e r fits = absurd (none-some ask e)
 asked_input clock base never ask server id row e r fits = absurd (none-some ask e)
 
-asked_read : (clock base : ℕ) (kind : Kind) (ask : Ask) (server id : ℕ) (row : Tuple) → ask_of base kind ≡ Some ask → ask.remove ≡ false → Matches ask.template row
+asked_read : (clock base : ℕ) (kind : Kind) (ask : Ask) (server id : ℕ) (row : Tuple)
+    → ask_of base kind ≡ Some ask → ask.remove ≡ false → Matches ask.template row
     → (ask.base ≡ base) × CanGet clock kind (gots.Copied server id row (bindings_of ask.template row))
 asked_read clock base (input template) ask server id row e r fits = let same = same_Some _ ask e in absurd (false≢true (sym r ∙ sym (ap (λ a. a.remove) same)))
 asked_read clock base (read template) ask server id row e r fits =
-    let same = same_Some _ ask e in (sym (ap (λ a. a.base) same), (subst (λ t. Matches t row) (sym (ap (λ a. a.template) same)) fits, ap (λ t. bindings_of t row) (sym (ap (λ a. a.template) same))))
+    let same = same_Some _ ask e in (
+      sym (ap (λ a. a.base) same),
+      (subst (λ t. Matches t row) (sym (ap (λ a. a.template) same)) fits, ap (λ t. bindings_of t row) (sym (ap (λ a. a.template) same))),
+    )
 asked_read clock base (alarm time) ask server id row e r fits = absurd (none-some ask e)
 asked_read clock base (always value) ask server id row e r fits = absurd (none-some ask e)
 asked_read clock base never ask server id row e r fits = absurd (none-some ask e)
 
 open_ask : (pending : Pending) (ticket : ℕ) (ask : Ask) → ask_at pending ticket ≡ Some ask → Made (λ b. ask_of b.0 b.1) 0 (bases_of pending.event) ask
 open_ask pending ticket ask e = open_by (nat_lt ticket pending.first) e where
-  open_by : (b : Bool) → cond b None (slice_get (asks pending.event) (ticket - pending.first)) ≡ Some ask → Made (λ b. ask_of b.0 b.1) 0 (bases_of pending.event) ask
+  open_by : (b : Bool) → cond b None (slice_get (asks pending.event) (ticket - pending.first)) ≡ Some ask
+      → Made (λ b. ask_of b.0 b.1) 0 (bases_of pending.event) ask
   open_by true f = absurd (none-some ask f)
   open_by false f = made_of (λ b. ask_of b.0 b.1) 0 (bases_of pending.event) (ticket - pending.first) ask f
 
 -- What an open ticket of an input gets is what its base can get.
-pub input_gets : (clock : ℕ) (pending : Pending) (ticket : ℕ) (ask : Ask) (server id : ℕ) (row : Tuple) → ask_at pending ticket ≡ Some ask → ask.remove ≡ true → Matches ask.template row
+pub input_gets : (clock : ℕ) (pending : Pending) (ticket : ℕ) (ask : Ask) (server id : ℕ) (row : Tuple)
+    → ask_at pending ticket ≡ Some ask → ask.remove ≡ true → Matches ask.template row
     → BaseGets clock pending.event ask.base (gots.Took server id row (bindings_of ask.template row))
 input_gets clock pending ticket ask server id row e r fits =
     let m = open_ask pending ticket ask e in
@@ -81,7 +93,8 @@ input_gets clock pending ticket ask server id row e r fits =
     gets_there clock pending.event ask.base m.place m.kind (gots.Took server id row (bindings_of ask.template row)) at m.there g.1
 
 -- What an open ticket of a read gets is what its base can get.
-pub read_gets : (clock : ℕ) (pending : Pending) (ticket : ℕ) (ask : Ask) (server id : ℕ) (row : Tuple) → ask_at pending ticket ≡ Some ask → ask.remove ≡ false → Matches ask.template row
+pub read_gets : (clock : ℕ) (pending : Pending) (ticket : ℕ) (ask : Ask) (server id : ℕ) (row : Tuple)
+    → ask_at pending ticket ≡ Some ask → ask.remove ≡ false → Matches ask.template row
     → BaseGets clock pending.event ask.base (gots.Copied server id row (bindings_of ask.template row))
 read_gets clock pending ticket ask server id row e r fits =
     let m = open_ask pending ticket ask e in
@@ -107,8 +120,10 @@ is_alarm clock base never a e low = absurd (none-some a e)
 -- An alarm that is ready rings at its base.
 pub alarm_gets : (clock : ℕ) (event : Tree) (a : Alarm) → first_alarm clock event ≡ Some a → BaseGets clock event a.base gots.Alarm
 alarm_gets clock event a e =
-    let low : a.time ≤ clock = let passes : nat_le a.time clock ≡ true = found_passes (λ x. nat_le x.time clock) (alarms event) a e in grind (arith, nat_tests) in
-    let m = made_of (λ b. alarm_of b.0 b.1) 0 (bases_of event) (position_or_len (λ x. nat_le x.time clock) (alarms event)) a (sym (find_at (λ x. nat_le x.time clock) (alarms event)) ∙ e) in
+    let low : a.time ≤ clock = let passes : nat_le a.time clock ≡ true =
+    found_passes (λ x. nat_le x.time clock) (alarms event) a e in grind (arith, nat_tests) in
+    let m = made_of (λ b. alarm_of b.0 b.1) 0 (bases_of event) (position_or_len (λ x. nat_le x.time clock) (alarms event)) a
+    (sym (find_at (λ x. nat_le x.time clock) (alarms event)) ∙ e) in
     let g = is_alarm clock (0 + m.place) m.kind a m.made low in
     let at : a.base ≡ m.place = let h = g.0 in omega arith in
     gets_there clock event a.base m.place m.kind gots.Alarm at m.there g.1
@@ -130,7 +145,8 @@ given_alone clock (alarm time) got e = by_time (nat_le time clock) refl e where
 given_alone clock (always value) got e = subst (λ g. CanGet clock (always value) g × IsAlone g) (same_Some (gots.Always value) got e) (refl, tt)
 given_alone clock never got e = absurd (none-some got e)
 
-ready_alone : (clock base : ℕ) (kind : Kind) (o : Option Got) (ready : ℕ × Got) → given_by clock kind ≡ o → option_map (λ got. (base, got)) o ≡ Some ready → (ready.0 ≡ base) × (CanGet clock kind ready.1 × IsAlone ready.1)
+ready_alone : (clock base : ℕ) (kind : Kind) (o : Option Got) (ready : ℕ × Got) → given_by clock kind ≡ o
+    → option_map (λ got. (base, got)) o ≡ Some ready → (ready.0 ≡ base) × (CanGet clock kind ready.1 × IsAlone ready.1)
 ready_alone clock base kind None ready e f = absurd (none-some ready f)
 ready_alone clock base kind (Some got) ready e f =
     let same = same_Some (base, got) ready f in

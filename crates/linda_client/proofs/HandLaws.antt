@@ -1,5 +1,6 @@
 -- What becomes of an offer that a client has in hand.
-use Rattle.std.proofs.Common.{◌≡◌, ℕ, ◌<◌, ◌==◌, ◌&&◌, Bool, true, false, cond, List, [], ◌∷◌, ◌++◌, Contains, ◌⊎◌, inl, inr, refl, sym, ap, ◌∙◌, subst, eq-eqb, eqb-true}
+use Rattle.std.proofs.Common.{◌≡◌, ℕ, ◌<◌, ◌==◌, ◌&&◌, Bool, true, false, cond, List, [], ◌∷◌, ◌++◌, Contains, ◌⊎◌, inl}
+use Rattle.std.proofs.Common.{inr, refl, sym, ap, ◌∙◌, subst, eq-eqb, eqb-true}
 use Rattle.std.specs.Prelude.{Option, Some, None, Ok}
 use Rattle.std.specs.List.{list_any}
 use Rattle.std.proofs.lemmas.Bool.{false≢true}
@@ -8,8 +9,8 @@ use Rattle.std.proofs.lemmas.List.Elements.{Contains-append_left}
 use Rattle.linda_tuple.specs.Tuple.{Tuple}
 use Rattle.linda_wire.specs.declared.message.Message.TheVariants as messages
 use Rattle.linda_wire.specs.declared.reply.Reply.TheVariants as replies
-use Rattle.linda_client.specs.declared.arrival.Accepted.{Accepted}
-use Rattle.linda_client.specs.declared.arrival.Arrival.{Arrival}
+use Rattle.linda_client.specs.declared.arrived_tuple.Accepted.{Accepted}
+use Rattle.linda_client.specs.declared.arrived_tuple.ArrivedTuple.{ArrivedTuple}
 use Rattle.linda_client.specs.declared.ask.Ask.{Ask}
 use Rattle.linda_client.specs.declared.outcome.Got.{Got}
 use Rattle.linda_client.specs.declared.outcome.Got.TheVariants.{Took, Copied, Alarm, Always}
@@ -23,11 +24,14 @@ use Rattle.linda_client.specs.Ending.{GotBy, spared_for}
 use Rattle.linda_client.specs.Offers.{AcceptIsAnswered, Becomes, InHand, IsAccepted, IsSaved}
 use Rattle.linda_client.proofs.AskLaws.{open_range}
 use Rattle.linda_client.proofs.CancelLaws.{cancels_exactly}
-use Rattle.linda_client.proofs.Course.{Course, Turn, abandons, accepts, arrives, begins, commits, commits_at_once, course, departs, gives_up, hands_on, leaves_on, oldest, pending_task, puts, rejects, repeats, rests, saves, stores, waits}
+use Rattle.linda_client.proofs.Course.{Course, Turn, abandons, accepts, arrives, begins, commits, commits_at_once}
+use Rattle.linda_client.proofs.Course.{course, departs, gives_up, hands_on, leaves_on, oldest, pending_task, puts}
+use Rattle.linda_client.proofs.Course.{rejects, repeats, rests, saves, stores, waits}
 use Rattle.linda_client.proofs.TestLaws.{both}
 use Rattle.linda_client.proofs.ListLaws.{in_front, none_any, nowhere}
 
-module _ (P : Accepted → Type 0) (call : Call) (c : Client) (pending : Pending) (there : pending_in c.task ≡ Some pending) (server ticket id : ℕ) (within : server < servers c) (ask : Ask) (asked : ask_at pending ticket ≡ Some ask) where
+module _ (P : Accepted → Type 0) (call : Call) (c : Client) (pending : Pending) (there : pending_in c.task ≡ Some pending)
+    (server ticket id : ℕ) (within : server < servers c) (ask : Ask) (asked : ask_at pending ticket ≡ Some ask) where
   task_is : c.task ≡ Syncing pending
   task_is = pending_task c.task pending there
 
@@ -54,16 +58,19 @@ module _ (P : Accepted → Type 0) (call : Call) (c : Client) (pending : Pending
   leaving_not all leaving = absurd (none-some pending (sym (ap pending_in leaving) ∙ there))
 
   -- The Accept that is answered is that of the offer.
-  gone_answers : (own : Accepted) → pending.accepted ≡ Some own → call ≡ Receive own.server (replies.Gone own.n) → (a : IsAccepted pending server ticket id) → P a.own → AcceptIsAnswered P call pending server ticket id
+  gone_answers : (own : Accepted) → pending.accepted ≡ Some own → call ≡ Receive own.server (replies.Gone own.n)
+      → (a : IsAccepted pending server ticket id) → P a.own → AcceptIsAnswered P call pending server ticket id
   gone_answers own was called a holds =
       let same = same_Some own a.own (sym was ∙ a.there) in
       record {
         accepted = a;
         holds = holds;
-        answer = inl (called ∙ ap (λ s. Receive s (replies.Gone own.n)) (ap (λ (x : Accepted). x.server) same ∙ a.server_is) ∙ ap (λ m. Receive server (replies.Gone m)) (ap (λ (x : Accepted). x.n) same));
+        answer = inl (called ∙ ap (λ s. Receive s (replies.Gone own.n)) (ap (λ (x : Accepted). x.server) same ∙ a.server_is)
+            ∙ ap (λ m. Receive server (replies.Gone m)) (ap (λ (x : Accepted). x.n) same));
       }
 
-  taken_answers : (own : Accepted) (row : Tuple) → pending.accepted ≡ Some own → call ≡ Receive own.server (replies.Taken own.n own.id row) → (a : IsAccepted pending server ticket id) → P a.own → AcceptIsAnswered P call pending server ticket id
+  taken_answers : (own : Accepted) (row : Tuple) → pending.accepted ≡ Some own → call ≡ Receive own.server (replies.Taken own.n own.id row)
+      → (a : IsAccepted pending server ticket id) → P a.own → AcceptIsAnswered P call pending server ticket id
   taken_answers own row was called a holds =
       let same = same_Some own a.own (sym was ∙ a.there) in
       record {
@@ -77,47 +84,88 @@ module _ (P : Accepted → Type 0) (call : Call) (c : Client) (pending : Pending
         );
       }
 
-  saves_on : (a : Arrival) → InHand P pending server ticket id → InHand (λ x. P x ⊎ (x.n ≡ next_at c server)) (record pending { saved = pending.saved ++ a ∷ [] }) server ticket id
-  saves_on a (inl saved) = inl (record { arrival = saved.arrival; there = Contains-append_left pending.saved (a ∷ []) saved.arrival saved.there; server_is = saved.server_is; ticket_is = saved.ticket_is; id_is = saved.id_is })
-  saves_on a (inr own) = inr (record { own = own.0.own; there = own.0.there; server_is = own.0.server_is; ticket_is = own.0.ticket_is; id_is = own.0.id_is }, inl own.1)
+  saves_on : (a : ArrivedTuple) → InHand P pending server ticket id
+      → InHand (λ x. P x ⊎ (x.n ≡ next_at c server)) (record pending { saved = pending.saved ++ a ∷ [] }) server ticket id
+  saves_on a (inl saved) =
+      inl (record {
+        arrival = saved.arrival;
+        there = Contains-append_left pending.saved (a ∷ []) saved.arrival saved.there;
+        server_is = saved.server_is;
+        ticket_is = saved.ticket_is;
+        id_is = saved.id_is;
+      })
+  saves_on a (inr own) = inr
+      (record { own = own.0.own; there = own.0.there; server_is = own.0.server_is; ticket_is = own.0.ticket_is; id_is = own.0.id_is }, inl own.1)
 
   -- an offer is accepted, and others stay saved
-  module _ (rest : List Arrival) (a : Arrival) where
+  module _ (rest : List ArrivedTuple) (a : ArrivedTuple) where
     abbrev later : Pending
     later = record { event = pending.event; first = pending.first; accepted = Some (next_accept c a.server a.ticket a.id); saved = rest }
 
-    rest_saved : (arrival : Arrival) → Contains rest arrival → arrival.server ≡ server → arrival.ticket ≡ ticket → arrival.id ≡ id → InHand (λ x. P x ⊎ (x.n ≡ next_at c server)) later server ticket id
+    rest_saved : (arrival : ArrivedTuple) → Contains rest arrival → arrival.server ≡ server → arrival.ticket ≡ ticket
+        → arrival.id ≡ id → InHand (λ x. P x ⊎ (x.n ≡ next_at c server)) later server ticket id
     rest_saved arrival here s k i = inl (record { arrival = arrival; there = here; server_is = s; ticket_is = k; id_is = i })
 
     now_accepted : a.server ≡ server → a.ticket ≡ ticket → a.id ≡ id → InHand (λ x. P x ⊎ (x.n ≡ next_at c server)) later server ticket id
-    now_accepted s k i = inr (record { own = next_accept c a.server a.ticket a.id; there = refl; server_is = s; ticket_is = k; id_is = i }, inr (ap (next_at c) s))
+    now_accepted s k i = inr (
+      record { own = next_accept c a.server a.ticket a.id; there = refl; server_is = s; ticket_is = k; id_is = i },
+      inr (ap (next_at c) s),
+    )
 
-    accepts_on : (r : Reaction) → pending_in r.client.task ≡ Some later → Turn call pending rest a → InHand P pending server ticket id → Becomes P call c pending server ticket id r
+    accepts_on : (r : Reaction) → pending_in r.client.task ≡ Some later → Turn call pending rest a
+        → InHand P pending server ticket id → Becomes P call c pending server ticket id r
     accepts_on r after (arrives none same called) (inl saved) =
-        inr (inl (record { later = later; after = after; event = refl; first = refl; hand = rest_saved saved.arrival (subst (λ l. Contains l saved.arrival) (sym same) saved.there) saved.server_is saved.ticket_is saved.id_is }))
+        inr (inl (record {
+          later = later;
+          after = after;
+          event = refl;
+          first = refl;
+          hand =
+              rest_saved saved.arrival (subst (λ l. Contains l saved.arrival) (sym same) saved.there) saved.server_is saved.ticket_is saved.id_is;
+        }))
     accepts_on r after (arrives none same called) (inr own) = absurd (none-some own.0.own (sym none ∙ own.0.there))
     accepts_on r after (oldest own was same called) (inl saved) = by (in_front a saved.arrival rest (subst (λ l. Contains l saved.arrival) same saved.there))
       where
         by : (a ≡ saved.arrival) ⊎ Contains rest saved.arrival → Becomes P call c pending server ticket id r
-        by (inl it) = inr (inl (record { later = later; after = after; event = refl; first = refl; hand = now_accepted (ap (λ (x : Arrival). x.server) it ∙ saved.server_is) (ap (λ (x : Arrival). x.ticket) it ∙ saved.ticket_is) (ap (λ (x : Arrival). x.id) it ∙ saved.id_is) }))
-        by (inr here) = inr (inl (record { later = later; after = after; event = refl; first = refl; hand = rest_saved saved.arrival here saved.server_is saved.ticket_is saved.id_is }))
+        by (inl it) = inr (inl (record {
+          later = later;
+          after = after;
+          event = refl;
+          first = refl;
+          hand =
+              now_accepted (ap (λ (x : ArrivedTuple). x.server) it ∙ saved.server_is)
+              (ap (λ (x : ArrivedTuple). x.ticket) it ∙ saved.ticket_is) (ap (λ (x : ArrivedTuple). x.id) it ∙ saved.id_is);
+        }))
+        by (inr here) = inr (inl
+            (record {
+              later = later;
+              after = after;
+              event = refl;
+              first = refl;
+              hand =
+                  rest_saved saved.arrival here saved.server_is saved.ticket_is saved.id_is;
+            }))
     accepts_on r after (oldest own was same called) (inr hand) = inr (inr (gone_answers own was called hand.0 hand.1))
 
   -- what is spared is not saved
   spares_none : (own : Accepted) → IsSaved pending server ticket id → pending.accepted ≡ Some own → is_spared (spared pending) (server, ticket) ≡ true → ⊥
-  spares_none own saved was spares = by (list_any (is_of (own.server, own.ticket)) pending.saved) refl (ap (λ o. is_spared (spared_by o pending.saved) (server, ticket)) (sym was) ∙ spares)
+  spares_none own saved was spares = by (list_any (is_of (own.server, own.ticket)) pending.saved) refl
+      (ap (λ o. is_spared (spared_by o pending.saved) (server, ticket)) (sym was) ∙ spares)
     where
-      by : (b : Bool) → list_any (is_of (own.server, own.ticket)) pending.saved ≡ b → is_spared (cond b None (Some (own.server, own.ticket))) (server, ticket) ≡ true → ⊥
+      by : (b : Bool) → list_any (is_of (own.server, own.ticket)) pending.saved ≡ b
+          → is_spared (cond b None (Some (own.server, own.ticket))) (server, ticket) ≡ true → ⊥
       by true any e = false≢true e
       by false none e =
           let pair = both (own.server == server) (own.ticket == ticket) e in
           let of_it : is_of (own.server, own.ticket) saved.arrival ≡ true =
-          ap (λ b. b && (saved.arrival.ticket == own.ticket)) (eq-eqb saved.arrival.server own.server (saved.server_is ∙ sym (eqb-true own.server server pair.0)))
+          ap (λ b. b && (saved.arrival.ticket == own.ticket))
+          (eq-eqb saved.arrival.server own.server (saved.server_is ∙ sym (eqb-true own.server server pair.0)))
           ∙ eq-eqb saved.arrival.ticket own.ticket (saved.ticket_is ∙ sym (eqb-true own.ticket ticket pair.1)) in
           false≢true (sym (none_any (is_of (own.server, own.ticket)) pending.saved saved.arrival saved.there none) ∙ of_it)
 
   -- a commitment: its ticket is cancelled, or it is what was taken
-  ends_on : (base : ℕ) (got : Got) (r : Reaction) → r.packets ≡ cancels_but (servers c) (spared_for pending got) pending → GotBy c call base got → InHand P pending server ticket id → Becomes P call c pending server ticket id r
+  ends_on : (base : ℕ) (got : Got) (r : Reaction) → r.packets ≡ cancels_but (servers c) (spared_for pending got) pending
+      → GotBy c call base got → InHand P pending server ticket id → Becomes P call c pending server ticket id r
   ends_on base (Took from i row bindings) r sent by hand = by_spared (is_spared (spared pending) (server, ticket)) refl hand
     where
       same : by.pending ≡ pending
@@ -153,7 +201,8 @@ module _ (P : Accepted → Type 0) (call : Call) (c : Client) (pending : Pending
       }))
   becomes_on r (accepts own rest a task turn low input more) hand =
       let same = same_pending own task in
-      accepts_on rest a r (ap (λ (x : Pending). Some (record { event = x.event; first = x.first; accepted = Some (next_accept c a.server a.ticket a.id); saved = rest })) same)
+      accepts_on rest a r (ap (λ (x : Pending). Some
+      (record { event = x.event; first = x.first; accepted = Some (next_accept c a.server a.ticket a.id); saved = rest })) same)
       (subst (λ x. Turn call x rest a) same turn) hand
   becomes_on r (waits own lost task was called none) hand = by hand
     where
@@ -174,6 +223,9 @@ module _ (P : Accepted → Type 0) (call : Call) (c : Client) (pending : Pending
   becomes_on r (departs all from n task called none) hand = leaving_not all task
 
 -- What becomes of an offer that is in hand, whatever is called.
-pub becomes : (c : Client) (call : Call) (r : Reaction) → IsClient c → react c call ≡ Ok r → (pending : Pending) → pending_in c.task ≡ Some pending → (last server ticket id : ℕ) → server < servers c
-    → (ask : Ask) → ask_at pending ticket ≡ Some ask → InHand (λ a. last < a.n) pending server ticket id → Becomes (λ a. last < a.n) call c pending server ticket id r
-becomes c call r is e pending there last server ticket id within ask asked hand = becomes_on (λ a. last < a.n) call c pending there server ticket id within ask asked r (course c is call r e) hand
+pub becomes : (c : Client) (call : Call) (r : Reaction) → IsClient c → react c call ≡ Ok r
+    → (pending : Pending) → pending_in c.task ≡ Some pending → (last server ticket id : ℕ) → server < servers c
+    → (ask : Ask) → ask_at pending ticket ≡ Some ask → InHand (λ a. last < a.n) pending server ticket id
+    → Becomes (λ a. last < a.n) call c pending server ticket id r
+becomes c call r is e pending there last server ticket id within ask asked hand =
+    becomes_on (λ a. last < a.n) call c pending there server ticket id within ask asked r (course c is call r e) hand

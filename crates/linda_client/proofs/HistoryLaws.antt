@@ -8,7 +8,7 @@ use Rattle.linda_tuple.specs.Template.{Template}
 use Rattle.linda_wire.specs.declared.message.Message.{Message}
 use Rattle.linda_wire.specs.declared.message.Message.TheVariants as messages
 use Rattle.linda_client.specs.declared.limits.TheConstants.{MAX_SERVERS}
-use Rattle.linda_client.specs.declared.arrival.Accepted.{Accepted}
+use Rattle.linda_client.specs.declared.arrived_tuple.Accepted.{Accepted}
 use Rattle.linda_client.specs.declared.ask.Ask.{Ask}
 use Rattle.linda_client.specs.declared.outcome.Outcome.{Outcome}
 use Rattle.linda_client.specs.declared.outcome.Outcome.TheVariants as outcomes
@@ -52,10 +52,12 @@ used c is s n m there number = All-contains (Used c) (unanswered c.task) (s, m) 
       where
         own : (o : Option Accepted) → IfSome o (λ a. IsUsed c a.server a.n) → All (Used c) (option_to_list (accept_packet o))
         own None g = All-nil (Used c)
-        own (Some a) g = All-cons (Used c) (a.server, messages.Accept a.n a.ticket a.id) [] (one a.server a.n (messages.Accept a.n a.ticket a.id) refl g.1.1) (All-nil (Used c))
+        own (Some a) g = All-cons (Used c) (a.server, messages.Accept a.n a.ticket a.id) []
+            (one a.server a.n (messages.Accept a.n a.ticket a.id) refl g.1.1) (All-nil (Used c))
     by (Leaving all) h =
         All-map (Used c) (λ p. (p.0, messages.Leave p.1)) all
-        (All-weaker (λ (p : ℕ × ℕ). IsUsed c p.0 p.1 × (p.1 + 1 ≡ next_at c p.0)) (λ (p : ℕ × ℕ). Used c (p.0, messages.Leave p.1)) (λ p own. one p.0 p.1 (messages.Leave p.1) refl own.0.1.1) all h.last)
+        (All-weaker (λ (p : ℕ × ℕ). IsUsed c p.0 p.1 × (p.1 + 1 ≡ next_at c p.0))
+        (λ (p : ℕ × ℕ). Used c (p.0, messages.Leave p.1)) (λ p own. one p.0 p.1 (messages.Leave p.1) refl own.0.1.1) all h.last)
     by Left h = All-nil (Used c)
 
 -- A server has one message unanswered at most.
@@ -67,12 +69,14 @@ one_unanswered c is s a b x y = by c.task is.task x y
 
     by : (t : Task) → IsTaskOf c t → Contains (unanswered t) (s, a) → Contains (unanswered t) (s, b) → a ≡ b
     by Idle h f g = nowhere (s, a) f
-    by (Putting server k row) h f g = second (server, messages.Out k row) (only_one (server, messages.Out k row) (s, a) f) (only_one (server, messages.Out k row) (s, b) g)
+    by (Putting server k row) h f g =
+        second (server, messages.Out k row) (only_one (server, messages.Out k row) (s, a) f) (only_one (server, messages.Out k row) (s, b) g)
     by (Syncing pending) h f g = own pending.accepted f g
       where
         own : (o : Option Accepted) → Contains (option_to_list (accept_packet o)) (s, a) → Contains (option_to_list (accept_packet o)) (s, b) → a ≡ b
         own None f g = nowhere (s, a) f
-        own (Some o) f g = second (o.server, messages.Accept o.n o.ticket o.id) (only_one (o.server, messages.Accept o.n o.ticket o.id) (s, a) f) (only_one (o.server, messages.Accept o.n o.ticket o.id) (s, b) g)
+        own (Some o) f g = second (o.server, messages.Accept o.n o.ticket o.id)
+            (only_one (o.server, messages.Accept o.n o.ticket o.id) (s, a) f) (only_one (o.server, messages.Accept o.n o.ticket o.id) (s, b) g)
     by (Leaving all) h f g = last a f ∙ sym (last b g)
       where
         leave_is : (p : ℕ × ℕ) → IsUsed c p.0 p.1 × (p.1 + 1 ≡ next_at c p.0) → messages.Leave p.1 ≡ messages.Leave (next_at c p.0 - 1)
@@ -82,7 +86,8 @@ one_unanswered c is s a b x y = by c.task is.task x y
         last m here =
             All-contains (λ (p : Packet). p.1 ≡ messages.Leave (next_at c p.0 - 1)) (leave_packets all) (s, m)
             (All-map (λ (p : Packet). p.1 ≡ messages.Leave (next_at c p.0 - 1)) (λ p. (p.0, messages.Leave p.1)) all
-            (All-weaker (λ (p : ℕ × ℕ). IsUsed c p.0 p.1 × (p.1 + 1 ≡ next_at c p.0)) (λ (p : ℕ × ℕ). messages.Leave p.1 ≡ messages.Leave (next_at c p.0 - 1)) leave_is all h.last)) here
+            (All-weaker (λ (p : ℕ × ℕ). IsUsed c p.0 p.1 × (p.1 + 1 ≡ next_at c p.0))
+            (λ (p : ℕ × ℕ). messages.Leave p.1 ≡ messages.Leave (next_at c p.0 - 1)) leave_is all h.last)) here
     by Left h f g = nowhere (s, a) f
 
 has_number : (m : Message) (n : ℕ) → number_of m ≡ Some n → IsSome (number_of m)
@@ -97,7 +102,8 @@ next_is : (c : Client) (s n : ℕ) (m k : Message) → m ≡ k → number_of k �
 next_is c s n m k same own number = same_Some (next_at c s) n (sym own ∙ ap number_of (sym same) ∙ number)
 
 -- A numbered message that is sent at a call is unanswered, or has the next number.
-sent_now : (c : Client) (call : Call) (r : Reaction) → NumbersGoOn c call r → (s n : ℕ) (m : Message) → Contains r.packets (s, m) → number_of m ≡ Some n → OwnOrNew c s n m
+sent_now : (c : Client) (call : Call) (r : Reaction) → NumbersGoOn c call r → (s n : ℕ) (m : Message)
+    → Contains r.packets (s, m) → number_of m ≡ Some n → OwnOrNew c s n m
 sent_now c call r go s n m there number = by (go s)
   where
     by : UsesNoNumber c call r s ⊎ ((k : Message) × UsesNumber c call r s k) → OwnOrNew c s n m
@@ -105,7 +111,8 @@ sent_now c call r go s n m there number = by (go s)
     by (inr (k, new)) = let at = next_is c s n m k (new.own m there) new.number number in inr (omega arith)
 
 -- What is unanswered after a call was so before, or has the number that was next.
-unanswered_now : (c : Client) (call : Call) (r : Reaction) → NumbersGoOn c call r → (s n : ℕ) (m : Message) → IsUnanswered r.client s m → number_of m ≡ Some n → OwnOrNew c s n m
+unanswered_now : (c : Client) (call : Call) (r : Reaction) → NumbersGoOn c call r → (s n : ℕ) (m : Message)
+    → IsUnanswered r.client s m → number_of m ≡ Some n → OwnOrNew c s n m
 unanswered_now c call r go s n m here number = by (go s)
   where
     by : UsesNoNumber c call r s ⊎ ((k : Message) × UsesNumber c call r s k) → OwnOrNew c s n m
@@ -131,7 +138,8 @@ sent_later (call ∷ calls) c is s n m there number = by (react c call) refl the
         split (inr then) = after (later r.client (kept c call r is e) then)
 
 -- Two numbered messages that are sent to a server at one call are the same.
-both_now : (c : Client) (call : Call) (r : Reaction) → IsClient c → NumbersGoOn c call r → (s n : ℕ) (a b : Message) → Contains r.packets (s, a) → Contains r.packets (s, b) → number_of a ≡ Some n → number_of b ≡ Some n → a ≡ b
+both_now : (c : Client) (call : Call) (r : Reaction) → IsClient c → NumbersGoOn c call r → (s n : ℕ) (a b : Message)
+    → Contains r.packets (s, a) → Contains r.packets (s, b) → number_of a ≡ Some n → number_of b ≡ Some n → a ≡ b
 both_now c call r is go s n a b p q f g = by (go s)
   where
     by : UsesNoNumber c call r s ⊎ ((k : Message) × UsesNumber c call r s k) → a ≡ b
@@ -139,7 +147,8 @@ both_now c call r is go s n a b p q f g = by (go s)
     by (inr (k, new)) = new.own a p ∙ sym (new.own b q)
 
 -- A numbered message that is sent at a call is the same as one that is sent later.
-now_and_later : (c : Client) (call : Call) (r : Reaction) → IsClient c → NumbersGoOn c call r → (s n : ℕ) (a b : Message) → Contains r.packets (s, a) → number_of a ≡ Some n
+now_and_later : (c : Client) (call : Call) (r : Reaction) → IsClient c → NumbersGoOn c call r
+    → (s n : ℕ) (a b : Message) → Contains r.packets (s, a) → number_of a ≡ Some n
     → OwnOrNew r.client s n b → a ≡ b
 now_and_later c call r is go s n a b p f own_or_new = by (go s) own_or_new
   where
@@ -159,10 +168,12 @@ numbers_from : (calls : List Call) (c : Client) → IsClient c → NumbersAreOnc
 numbers_from [] c is s n a b p q f g = nowhere (s, a) p
 numbers_from (call ∷ calls) c is s n a b p q f g = by (react c call) refl p q (λ d is_d x y. numbers_from calls d is_d s n a b x y f g)
   where
-    by : (answer : Answer) → react c call ≡ answer → Contains (all_sent (act_then c call answer (λ d. history d calls))) (s, a) → Contains (all_sent (act_then c call answer (λ d. history d calls))) (s, b)
+    by : (answer : Answer) → react c call ≡ answer → Contains (all_sent (act_then c call answer (λ d. history d calls))) (s, a)
+        → Contains (all_sent (act_then c call answer (λ d. history d calls))) (s, b)
         → ((d : Client) → IsClient d → Contains (sent d calls) (s, a) → Contains (sent d calls) (s, b) → a ≡ b) → a ≡ b
     by (Err fault) e x y later = later c is x y
-    by (Ok r) e x y later = split (Contains-append_cases r.packets (sent r.client calls) (s, a) x) (Contains-append_cases r.packets (sent r.client calls) (s, b) y)
+    by (Ok r) e x y later = split (Contains-append_cases r.packets (sent r.client calls) (s, a) x)
+        (Contains-append_cases r.packets (sent r.client calls) (s, b) y)
       where
         go : NumbersGoOn c call r
         go = numbers_go c call r is e
@@ -176,7 +187,8 @@ numbers_from (call ∷ calls) c is s n a b p q f g = by (react c call) refl p q 
         split (inr x) (inl y) = sym (now_and_later c call r is go s n b a y g (sent_later calls r.client after s n a x f))
         split (inr x) (inr y) = later r.client after x y
 
-pub numbers_once : (number count : ℕ) (calls : List Call) → 1 ≤ count → count ≤ MAX_SERVERS → NumbersAreOnce (all_sent (history (new_client number count) calls))
+pub numbers_once : (number count : ℕ) (calls : List Call) → 1 ≤ count → count ≤ MAX_SERVERS
+    → NumbersAreOnce (all_sent (history (new_client number count) calls))
 numbers_once number count calls low high = numbers_from calls (new_client number count) (new_is number count low high)
 
 -- What a ticket asks, which is open.
@@ -187,11 +199,13 @@ Asks c k p x = IsSomeAnd (asked_in (pending_in c.task) k) (λ ask. (ask.remove �
 abbrev AsksOrNew : Client → ℕ → Bool → Template → Type 0
 AsksOrNew c k p x = Asks c k p x ⊎ (c.ticket ≤ k)
 
-one_ask : (o : Option Ask) (p q : Bool) (x y : Template) → IsSomeAnd o (λ ask. (ask.remove ≡ p) × (ask.template ≡ x)) → IsSomeAnd o (λ ask. (ask.remove ≡ q) × (ask.template ≡ y)) → (p ≡ q) × (x ≡ y)
+one_ask : (o : Option Ask) (p q : Bool) (x y : Template) → IsSomeAnd o (λ ask. (ask.remove ≡ p) × (ask.template ≡ x))
+    → IsSomeAnd o (λ ask. (ask.remove ≡ q) × (ask.template ≡ y)) → (p ≡ q) × (x ≡ y)
 one_ask None p q x y f g = absurd f
 one_ask (Some ask) p q x y f g = (sym f.0 ∙ g.0, sym f.1 ∙ g.1)
 
-asks_now : (r : Reaction) → All (IsSoundPacket r.client) r.packets → (s k : ℕ) (p : Bool) (x : Template) → Contains r.packets (s, messages.Ask k p x) → Asks r.client k p x
+asks_now : (r : Reaction) → All (IsSoundPacket r.client) r.packets → (s k : ℕ) (p : Bool) (x : Template)
+    → Contains r.packets (s, messages.Ask k p x) → Asks r.client k p x
 asks_now r all s k p x there = (All-contains (IsSoundPacket r.client) r.packets (s, messages.Ask k p x) all there).1
 
 -- An open ticket was used.
@@ -210,23 +224,27 @@ ticket_used c is k p x asks = by c.task is.task asks
         at (Some ask) e g = let range = open_range pending k ask e in let high = h.tickets in let below = range.1 in omega arith
 
 -- What a ticket asks after a call it asked before, or it is new.
-asked_before : (c : Client) (call : Call) (r : Reaction) → (o : Option Pending) → pending_in c.task ≡ o → GoesOn c call o r → (k : ℕ) (p : Bool) (x : Template) → Asks r.client k p x → AsksOrNew c k p x
+asked_before : (c : Client) (call : Call) (r : Reaction) → (o : Option Pending) → pending_in c.task ≡ o
+    → GoesOn c call o r → (k : ℕ) (p : Bool) (x : Template) → Asks r.client k p x → AsksOrNew c k p x
 asked_before c call r (Some pending) there (ticket, inl end) k p x asks =
     absurd (subst (λ t. IsSomeAnd (asked_in (pending_in t) k) (λ ask. (ask.remove ≡ p) × (ask.template ≡ x))) end.idle asks)
 asked_before c call r (Some pending) there (ticket, inr more) k p x asks =
     inl (subst (λ o. IsSomeAnd (asked_in o k) (λ ask. (ask.remove ≡ p) × (ask.template ≡ x))) (sym there)
     (subst (λ o. IsSomeAnd o (λ ask. (ask.remove ≡ p) × (ask.template ≡ x))) (same_asks more.later pending more.event more.first k)
     (subst (λ o. IsSomeAnd (asked_in o k) (λ ask. (ask.remove ≡ p) × (ask.template ≡ x))) more.after asks)))
-asked_before c call r None there (inl (ticket, inl apart)) k p x asks = absurd (subst (λ o. IsSomeAnd (asked_in o k) (λ ask. (ask.remove ≡ p) × (ask.template ≡ x))) apart.after asks)
+asked_before c call r None there (inl (ticket, inl apart)) k p x asks =
+    absurd (subst (λ o. IsSomeAnd (asked_in o k) (λ ask. (ask.remove ≡ p) × (ask.template ≡ x))) apart.after asks)
 asked_before c call r None there (inl (ticket, inr ends)) k p x asks =
     absurd (subst (λ t. IsSomeAnd (asked_in (pending_in t) k) (λ ask. (ask.remove ≡ p) × (ask.template ≡ x))) ends.idle asks)
-asked_before c call r None there (inr begins) k p x asks = at (ask_at (new_pending c begins.event) k) refl (subst (λ o. IsSomeAnd (asked_in o k) (λ ask. (ask.remove ≡ p) × (ask.template ≡ x))) begins.after asks)
+asked_before c call r None there (inr begins) k p x asks =
+    at (ask_at (new_pending c begins.event) k) refl (subst (λ o. IsSomeAnd (asked_in o k) (λ ask. (ask.remove ≡ p) × (ask.template ≡ x))) begins.after asks)
   where
     at : (o : Option Ask) → ask_at (new_pending c begins.event) k ≡ o → IsSomeAnd o (λ ask. (ask.remove ≡ p) × (ask.template ≡ x)) → AsksOrNew c k p x
     at None e g = absurd g
     at (Some ask) e g = inr (open_range (new_pending c begins.event) k ask e).0
 
-asks_later : (calls : List Call) (c : Client) → IsClient c → (s k : ℕ) (p : Bool) (x : Template) → Contains (sent c calls) (s, messages.Ask k p x) → AsksOrNew c k p x
+asks_later : (calls : List Call) (c : Client) → IsClient c → (s k : ℕ) (p : Bool) (x : Template)
+    → Contains (sent c calls) (s, messages.Ask k p x) → AsksOrNew c k p x
 asks_later [] c is s k p x there = nowhere (s, messages.Ask k p x) there
 asks_later (call ∷ calls) c is s k p x there = by (react c call) refl there (λ d is_d here. asks_later calls d is_d s k p x here)
   where
@@ -254,9 +272,11 @@ tickets_from (call ∷ calls) c is s t k p q x y f g = by (react c call) refl f 
   where
     by : (answer : Answer) → react c call ≡ answer → Contains (all_sent (act_then c call answer (λ d. history d calls))) (s, messages.Ask k p x)
         → Contains (all_sent (act_then c call answer (λ d. history d calls))) (t, messages.Ask k q y)
-        → ((d : Client) → IsClient d → Contains (sent d calls) (s, messages.Ask k p x) → Contains (sent d calls) (t, messages.Ask k q y) → (p ≡ q) × (x ≡ y)) → (p ≡ q) × (x ≡ y)
+        → ((d : Client) → IsClient d → Contains (sent d calls) (s, messages.Ask k p x)
+        → Contains (sent d calls) (t, messages.Ask k q y) → (p ≡ q) × (x ≡ y)) → (p ≡ q) × (x ≡ y)
     by (Err fault) e h i later = later c is h i
-    by (Ok r) e h i later = split (Contains-append_cases r.packets (sent r.client calls) (s, messages.Ask k p x) h) (Contains-append_cases r.packets (sent r.client calls) (t, messages.Ask k q y) i)
+    by (Ok r) e h i later = split (Contains-append_cases r.packets (sent r.client calls) (s, messages.Ask k p x) h)
+        (Contains-append_cases r.packets (sent r.client calls) (t, messages.Ask k q y) i)
       where
         after : IsClient r.client
         after = kept c call r is e
@@ -264,13 +284,16 @@ tickets_from (call ∷ calls) c is s t k p q x y f g = by (react c call) refl f 
         now : (u : ℕ) (z : Bool) (w : Template) → Contains r.packets (u, messages.Ask k z w) → Asks r.client k z w
         now u z w there = asks_now r (sound c call r is e) u k z w there
 
-        split : Contains r.packets (s, messages.Ask k p x) ⊎ Contains (sent r.client calls) (s, messages.Ask k p x) → Contains r.packets (t, messages.Ask k q y) ⊎ Contains (sent r.client calls) (t, messages.Ask k q y) → (p ≡ q) × (x ≡ y)
+        split : Contains r.packets (s, messages.Ask k p x) ⊎ Contains (sent r.client calls) (s, messages.Ask k p x)
+            → Contains r.packets (t, messages.Ask k q y) ⊎ Contains (sent r.client calls) (t, messages.Ask k q y) → (p ≡ q) × (x ≡ y)
         split (inl h) (inl i) = one_ask (asked_in (pending_in r.client.task) k) p q x y (now s p x h) (now t q y i)
         split (inl h) (inr i) = ask_and_later r.client after k p q x y (now s p x h) (asks_later calls r.client after t k q y i)
-        split (inr h) (inl i) = let same = ask_and_later r.client after k q p y x (now t q y i) (asks_later calls r.client after s k p x h) in (sym same.0, sym same.1)
+        split (inr h) (inl i) = let same = ask_and_later r.client after k q p y x (now t q y i) (asks_later calls r.client after s k p x h) in
+            (sym same.0, sym same.1)
         split (inr h) (inr i) = later r.client after h i
 
-pub tickets_once : (number count : ℕ) (calls : List Call) → 1 ≤ count → count ≤ MAX_SERVERS → TicketsAreOnce (all_sent (history (new_client number count) calls))
+pub tickets_once : (number count : ℕ) (calls : List Call) → 1 ≤ count → count ≤ MAX_SERVERS
+    → TicketsAreOnce (all_sent (history (new_client number count) calls))
 tickets_once number count calls low high = tickets_from calls (new_client number count) (new_is number count low high)
 
 -- one for what is so, none for what is not
@@ -292,7 +315,8 @@ at_most_one true = omega arith
 at_most_one false = omega arith
 
 -- A call ends no more than was pending or is begun by it.
-ends_now : (c : Client) (call : Call) (r : Reaction) (o : Option Pending) → GoesOn c call o r → weight (is_end r.outcome) + pends r.client ≤ weight (is_sync call) + weight (is_some o)
+ends_now : (c : Client) (call : Call) (r : Reaction) (o : Option Pending) → GoesOn c call o r
+    → weight (is_end r.outcome) + pends r.client ≤ weight (is_sync call) + weight (is_some o)
 ends_now c call r (Some pending) (ticket, inl end) =
     let none : pends r.client ≡ 0 = ap (λ t. weight (is_some (pending_in t))) end.idle in
     let one = at_most_one (is_end r.outcome) in
@@ -331,5 +355,6 @@ ends_from (call ∷ calls) c is = by (react c call) refl (λ d is_d. ends_from c
         let then = later r.client (kept c call r is e) in
         omega (arith, ends, syncs, now, then)
 
-pub ends_once : (number count : ℕ) (calls : List Call) → 1 ≤ count → count ≤ MAX_SERVERS → end_count (history (new_client number count) calls) ≤ sync_count (history (new_client number count) calls)
+pub ends_once : (number count : ℕ) (calls : List Call) → 1 ≤ count → count ≤ MAX_SERVERS
+    → end_count (history (new_client number count) calls) ≤ sync_count (history (new_client number count) calls)
 ends_once number count calls low high = let all = ends_from calls (new_client number count) (new_is number count low high) in omega arith

@@ -1,9 +1,11 @@
 -- The Leaves of a client: to whom they go, under which numbers, and which are left once a server has answered.
-use Rattle.std.proofs.Common.{◌≡◌, ℕ, ◌+◌, ◌<◌, ◌≤◌, ◌==◌, ◌&&◌, Bool, true, false, cond, not, List, [], ◌∷◌, length, get_or, map, filter, Contains, ◌⊎◌, inl, inr, refl, sym, ap, ◌∙◌, subst, arith, eqb-true}
+use Rattle.std.proofs.Common.{◌≡◌, ℕ, ◌+◌, ◌<◌, ◌≤◌, ◌==◌, ◌&&◌, Bool, true, false, cond, not, List, [], ◌∷◌, length}
+use Rattle.std.proofs.Common.{get_or, map, filter, Contains, ◌⊎◌, inl, inr, refl, sym, ap, ◌∙◌, subst, arith, eqb-true}
 use Rattle.std.specs.Prelude.{All}
 use Rattle.std.specs.List.{enumerate_from, list_any}
 use Rattle.std.proofs.lemmas.List.{get_or-map, length-map}
-use Rattle.std.proofs.lemmas.List.Elements.{All-cons, All-filter, All-from_get_or, All-map, All-nil, All-weaker, Contains-append_left, Contains-append_right, Contains-get_or}
+use Rattle.std.proofs.lemmas.List.Elements.{All-cons, All-filter, All-from_get_or, All-map, All-nil, All-weaker}
+use Rattle.std.proofs.lemmas.List.Elements.{Contains-append_left, Contains-append_right, Contains-get_or}
 use Rattle.std.proofs.lemmas.List.FromFn.{get_or-enumerate_from, length-enumerate_from}
 use Rattle.linda_wire.specs.declared.message.Message.TheVariants as messages
 use Rattle.linda_wire.specs.declared.reply.Reply.TheVariants as replies
@@ -46,7 +48,8 @@ pub next_after : (c : Client) (s : ℕ) → s < servers c → next_at (leave c).
 next_after c s within = get_or-map (λ n. n + 1) c.next s 0 0 within
 
 -- the next numbers, none of which is the limit
-pub numbers_after : (xs : List ℕ) → All (λ n. (1 ≤ n) × (n ≤ NUMBER_LIMIT)) xs → list_any (λ n. n == NUMBER_LIMIT) xs ≡ false → All (λ n. (1 ≤ n) × (n ≤ NUMBER_LIMIT)) (map (λ n. n + 1) xs)
+pub numbers_after : (xs : List ℕ) → All (λ n. (1 ≤ n) × (n ≤ NUMBER_LIMIT)) xs
+    → list_any (λ n. n == NUMBER_LIMIT) xs ≡ false → All (λ n. (1 ≤ n) × (n ≤ NUMBER_LIMIT)) (map (λ n. n + 1) xs)
 numbers_after xs all none = All-map (λ n. (1 ≤ n) × (n ≤ NUMBER_LIMIT)) (λ n. n + 1) xs
     (λ k d low. let range = all k d low in
     let less = range.1 in
@@ -70,7 +73,8 @@ leaves_of c is = record {
     length_after d = length-map d.next (λ n. n + 1)
 
 -- Those that are not answered yet are so too.
-pub leaves_left : (c : Client) (leaves : List (ℕ × ℕ)) (server n : ℕ) → AreLeavesOf c leaves → 1 ≤ length (unanswered_leaves server n leaves) → AreLeavesOf c (unanswered_leaves server n leaves)
+pub leaves_left : (c : Client) (leaves : List (ℕ × ℕ)) (server n : ℕ) → AreLeavesOf c leaves
+    → 1 ≤ length (unanswered_leaves server n leaves) → AreLeavesOf c (unanswered_leaves server n leaves)
 leaves_left c leaves server n are some = record {
   some = some;
   rising = rising_kept (λ p. not ((p.0 == server) && (p.1 == n))) 0 leaves are.rising;
@@ -78,15 +82,18 @@ leaves_left c leaves server n are some = record {
 }
 
 -- What holds of each server with its next number holds of all Leaves.
-pub all_leaves : (P : Packet → Type 0) (c : Client) → ((s : ℕ) → s < servers c → P (s, messages.Leave (next_at c s))) → All P (leave_packets (enumerate_from 0 c.next))
-all_leaves P c each = All-map P (λ p. (p.0, messages.Leave p.1)) (enumerate_from 0 c.next) (each_place (λ p. P (p.0, messages.Leave p.1)) c.next (λ k within. each k within))
+pub all_leaves : (P : Packet → Type 0) (c : Client) → ((s : ℕ) → s < servers c → P (s, messages.Leave (next_at c s)))
+    → All P (leave_packets (enumerate_from 0 c.next))
+all_leaves P c each = All-map P (λ p. (p.0, messages.Leave p.1)) (enumerate_from 0 c.next)
+    (each_place (λ p. P (p.0, messages.Leave p.1)) c.next (λ k within. each k within))
 
 -- There is one to each server.
 pub leave_there : (c : Client) (s : ℕ) → s < servers c → Contains (leave_packets (enumerate_from 0 c.next)) (s, messages.Leave (next_at c s))
 leave_there c s within =
     let low : s < length (enumerate_from 0 c.next) = let same = length-enumerate_from 0 c.next in omega arith in
     let high : s < length (leave_packets (enumerate_from 0 c.next)) =
-    let same : length (leave_packets (enumerate_from 0 c.next)) ≡ length (enumerate_from 0 c.next) = length-map (enumerate_from 0 c.next) (λ p. (p.0, messages.Leave p.1)) in omega arith in
+    let same : length (leave_packets (enumerate_from 0 c.next)) ≡ length (enumerate_from 0 c.next) =
+    length-map (enumerate_from 0 c.next) (λ p. (p.0, messages.Leave p.1)) in omega arith in
     subst (Contains (leave_packets (enumerate_from 0 c.next)))
     (get_or-map (λ p. (p.0, messages.Leave p.1)) (enumerate_from 0 c.next) s (0, 0) (0, messages.Leave 0) low
     ∙ ap (λ p. (p.0, messages.Leave p.1)) (at_place c.next s within))
@@ -112,14 +119,17 @@ LeftOrAnswered call server n ps p = Contains (leave_packets (unanswered_leaves s
 
 -- a Leave is left, or is answered, where there is one Leave more; given whether that one is answered
 abbrev OneMore : Call → ℕ → ℕ → ℕ × ℕ → List (ℕ × ℕ) → Bool → Packet → Type 0
-OneMore call server n q ps b p = Contains (leave_packets (cond (not b) (q ∷ unanswered_leaves server n ps) (unanswered_leaves server n ps))) p ⊎ IsAnswerTo p call
+OneMore call server n q ps b p = Contains (leave_packets (cond (not b) (q ∷ unanswered_leaves server n ps) (unanswered_leaves server n ps))) p
+    ⊎ IsAnswerTo p call
 
 -- Each Leave is left, or is answered.
-pub left_or_answered : (call : Call) (server n : ℕ) → call ≡ Receive server (replies.Left n) → (ps : List (ℕ × ℕ)) → All (LeftOrAnswered call server n ps) (leave_packets ps)
+pub left_or_answered : (call : Call) (server n : ℕ) → call ≡ Receive server (replies.Left n)
+    → (ps : List (ℕ × ℕ)) → All (LeftOrAnswered call server n ps) (leave_packets ps)
 left_or_answered call server n called [] = All-nil (LeftOrAnswered call server n [])
 left_or_answered call server n called (q ∷ ps) = by ((q.0 == server) && (q.1 == n)) refl (left_or_answered call server n called ps)
   where
-    by : (b : Bool) → ((q.0 == server) && (q.1 == n)) ≡ b → All (LeftOrAnswered call server n ps) (leave_packets ps) → All (OneMore call server n q ps b) (leave_packets (q ∷ ps))
+    by : (b : Bool) → ((q.0 == server) && (q.1 == n)) ≡ b → All (LeftOrAnswered call server n ps) (leave_packets ps)
+        → All (OneMore call server n q ps b) (leave_packets (q ∷ ps))
     by true own later =
         let parts = both (q.0 == server) (q.1 == n) own in
         let to : server ≡ q.0 = sym (eqb-true q.0 server parts.0) in
@@ -128,7 +138,8 @@ left_or_answered call server n called (q ∷ ps) = by ((q.0 == server) && (q.1 =
         (inr (called ∙ ap (λ s. Receive s (replies.Left n)) to ∙ ap (λ k. Receive q.0 (replies.Left k)) under)) later
     by false other later =
         All-cons (OneMore call server n q ps false) (q.0, messages.Leave q.1) (leave_packets ps)
-        (inl (Contains-append_left ((q.0, messages.Leave q.1) ∷ []) (leave_packets (unanswered_leaves server n ps)) (q.0, messages.Leave q.1) (0, omega arith, refl)))
+        (inl (Contains-append_left ((q.0, messages.Leave q.1) ∷ []) (leave_packets (unanswered_leaves server n ps))
+        (q.0, messages.Leave q.1) (0, omega arith, refl)))
         (All-weaker (LeftOrAnswered call server n ps) (OneMore call server n q ps false) further (leave_packets ps) later)
       where
         further : (p : Packet) → LeftOrAnswered call server n ps p → OneMore call server n q ps false p

@@ -15,7 +15,9 @@ use Rattle.linda_client.specs.React.{Call, new_client, react}
 use Rattle.linda_client.specs.Ending.{IsCancel}
 use Rattle.linda_client.specs.History.{Act, act_then, all_sent, history}
 use Rattle.linda_client.specs.Leaving.{LeavesForGood, SendsNoMore}
-use Rattle.linda_client.proofs.Course.{Course, abandons, accepts, begins, commits, commits_at_once, course, departs, gives_up, hands_on, leaves_on, puts, rejects, repeats, rests, saves, stores, waits}
+use Rattle.linda_client.proofs.Course.{Course, abandons, accepts, begins, commits, commits_at_once, course, departs}
+use Rattle.linda_client.proofs.Course.{gives_up, hands_on, leaves_on, puts, rejects, repeats, rests, saves, stores}
+use Rattle.linda_client.proofs.Course.{waits}
 use Rattle.linda_client.proofs.ListLaws.{all_there, not_empty, same_first, same_rest}
 use Rattle.linda_client.proofs.RangeLaws.{kept, new_is}
 
@@ -48,7 +50,8 @@ leaves_course : (c : Client) (call : Call) (r : Reaction) → Course c call r �
 leaves_course c call r (rests clock other) = same_leave c r refl refl (λ _. All-nil IsCancel)
 leaves_course c call r (hands_on server code detail other) = same_leave c r refl refl (λ _. All-nil IsCancel)
 leaves_course c call r (rejects a within other) = same_leave c r refl refl (λ _. All-cons IsCancel _ [] tt (All-nil IsCancel))
-leaves_course c call r (repeats packets repeated there other) = same_leave c r refl refl (λ left. all_there IsCancel packets (sent_again c) there (again_none c left))
+leaves_course c call r (repeats packets repeated there other) =
+    same_leave c r refl refl (λ left. all_there IsCancel packets (sent_again c) there (again_none c left))
 leaves_course c call r (puts row idle number outs) = not_left c r Idle idle refl refl (λ e. none-some outcomes.Left e)
 leaves_course c call r (stores server n id row task called) = not_left c r (Putting server n row) task refl refl (λ e. cc)
 leaves_course c call r (commits_at_once event ready called idle is_ready) = not_left c r Idle idle refl refl (λ e. cc)
@@ -86,7 +89,8 @@ no_more_from [] c is before later act parts left = absurd (not_empty before act 
 no_more_from (call ∷ calls) c is before later act parts left = by (react c call) refl parts (λ d is_d front g. no_more_from calls d is_d front later act g left)
   where
     by : (answer : Answer) → react c call ≡ answer → act_then c call answer (λ d. history d calls) ≡ before ++ act ∷ later
-        → ((d : Client) → IsClient d → (front : List Act) → history d calls ≡ front ++ act ∷ later → All IsCancel (all_sent later)) → All IsCancel (all_sent later)
+        → ((d : Client) → IsClient d → (front : List Act) → history d calls ≡ front ++ act ∷ later → All IsCancel (all_sent later))
+        → All IsCancel (all_sent later)
     by (Err fault) e f next = next c is before f
     by (Ok r) e f next = at before f
       where

@@ -1,10 +1,13 @@
 -- Elements of lists.
-use Rattle.std.proofs.Common.{◌≡◌, ℕ, ◌+◌, ◌<◌, ◌||◌, ◌⊎◌, inl, inr, arith, Bool, true, false, List, [], ◌∷◌, ◌++◌, filter, Contains, length, get_or, map, drop, refl, sym, ap, ◌∙◌, append_assoc}
+use Rattle.std.proofs.Common.{◌≡◌, ℕ, ◌+◌, ◌<◌, ◌||◌, ◌⊎◌, inl, inr, arith, Bool, true, false, List, [], ◌∷◌, ◌++◌}
+use Rattle.std.proofs.Common.{filter, Contains, length, get_or, map, drop, refl, sym, ap, ◌∙◌, append_assoc}
 use Rattle.std.specs.Prelude.{All, Option, Some, None, filter_map, flat_map, option_to_list}
 use Rattle.std.specs.List.{cons_option, enumerate_from, list_any}
 use Rattle.std.proofs.lemmas.Bool.{false≢true}
 use Rattle.std.proofs.lemmas.List.{drop_more}
-use Rattle.std.proofs.lemmas.List.Elements.{All-cons, All-contains, All-contains_itself, All-drop, All-filter, All-nil, All-weaker, Contains-append_cases, Contains-append_left, Contains-append_right}
+use Rattle.std.proofs.lemmas.List.Elements.{All-cons, All-contains, All-contains_itself, All-drop, All-filter, All-nil}
+use Rattle.std.proofs.lemmas.List.Elements.{All-weaker, Contains-append_cases, Contains-append_left}
+use Rattle.std.proofs.lemmas.List.Elements.{Contains-append_right}
 
 -- what is left by a filter was there
 pub kept_there : {X : Type 0} (p : X → Bool) (xs : List X) (x : X) → Contains (filter p xs) x → Contains xs x
@@ -31,7 +34,8 @@ pub any_one : {X : Type 0} (p : X → Bool) (xs : List X) → list_any p xs ≡ 
 any_one p [] e = absurd (false≢true e)
 any_one {X} p (y ∷ ys) e = by (p y) refl e (λ f. any_one p ys f)
   where
-    by : (b : Bool) → p y ≡ b → (b || list_any p ys) ≡ true → (list_any p ys ≡ true → (x : X) × (Contains ys x × (p x ≡ true))) → (x : X) × (Contains (y ∷ ys) x × (p x ≡ true))
+    by : (b : Bool) → p y ≡ b → (b || list_any p ys) ≡ true → (list_any p ys ≡ true → (x : X) × (Contains ys x × (p x ≡ true)))
+        → (x : X) × (Contains (y ∷ ys) x × (p x ≡ true))
     by true here f later = (y, (Contains-append_left (y ∷ []) ys y (0, omega arith, refl), here))
     by false other f later = let found = later f in (found.0, (Contains-append_right (y ∷ []) ys found.0 found.1.0, found.1.1))
 
@@ -72,15 +76,18 @@ made_first None l = refl
 made_first (Some z) l = refl
 
 -- what the items behind are to make, after one item more
-pub made_next : {X Y Z : Type 0} (h : ℕ × Y → Option Z) (k : X → Y) (n : ℕ) (xs : List X) (x : X) (before after all : List Z) → n < length xs → x ≡ get_or xs n x → after ≡ before ++ option_to_list (h (n, k x))
+pub made_next : {X Y Z : Type 0} (h : ℕ × Y → Option Z) (k : X → Y) (n : ℕ) (xs : List X) (x : X) (before after all : List Z)
+    → n < length xs → x ≡ get_or xs n x → after ≡ before ++ option_to_list (h (n, k x))
     → before ++ filter_map h (enumerate_from n (map k (drop n xs))) ≡ all → after ++ filter_map h (enumerate_from (n + 1) (map k (drop (n + 1) xs))) ≡ all
 made_next {X} {Y} {Z} h k n xs x before after all low is more so =
     let rest : List Z = filter_map h (enumerate_from (n + 1) (map k (drop (n + 1) xs))) in
     ap (λ l. l ++ rest) more ∙ append_assoc before (option_to_list (h (n, k x))) rest
-    ∙ ap (λ l. before ++ l) (sym (made_first (h (n, k x)) rest) ∙ ap (λ l. filter_map h (enumerate_from n (map k l))) (sym (drop_more xs n x low ∙ ap (λ y. y ∷ drop (n + 1) xs) (sym is)))) ∙ so
+    ∙ ap (λ l. before ++ l) (sym (made_first (h (n, k x)) rest)
+    ∙ ap (λ l. filter_map h (enumerate_from n (map k l))) (sym (drop_more xs n x low ∙ ap (λ y. y ∷ drop (n + 1) xs) (sym is)))) ∙ so
 
 -- what the items behind are to give, after one item more
-pub given_next : {X Y : Type 0} (f : ℕ × X → List Y) (first n : ℕ) (xs : List X) (x : X) (before after all : List Y) → n < length xs → x ≡ get_or xs n x → after ≡ before ++ f (first + n, x)
+pub given_next : {X Y : Type 0} (f : ℕ × X → List Y) (first n : ℕ) (xs : List X) (x : X) (before after all : List Y)
+    → n < length xs → x ≡ get_or xs n x → after ≡ before ++ f (first + n, x)
     → before ++ flat_map f (enumerate_from (first + n) (drop n xs)) ≡ all → after ++ flat_map f (enumerate_from (first + (n + 1)) (drop (n + 1) xs)) ≡ all
 given_next {X} {Y} f first n xs x before after all low is more so =
     let rest : List Y = flat_map f (enumerate_from ((first + n) + 1) (drop (n + 1) xs)) in
@@ -89,14 +96,16 @@ given_next {X} {Y} f first n xs x before after all low is more so =
     ∙ ap (λ l. before ++ flat_map f (enumerate_from (first + n) l)) (sym (drop_more xs n x low ∙ ap (λ y. y ∷ drop (n + 1) xs) (sym is))) ∙ so
 
 -- what the items behind are to map to, after one item more
-pub mapped_next : {X Y : Type 0} (f : X → Y) (n : ℕ) (xs : List X) (d : X) (before after all : List Y) → n < length xs → after ≡ before ++ f (get_or xs n d) ∷ [] → before ++ map f (drop n xs) ≡ all
+pub mapped_next : {X Y : Type 0} (f : X → Y) (n : ℕ) (xs : List X) (d : X) (before after all : List Y)
+    → n < length xs → after ≡ before ++ f (get_or xs n d) ∷ [] → before ++ map f (drop n xs) ≡ all
     → after ++ map f (drop (n + 1) xs) ≡ all
 mapped_next f n xs d before after all low more so =
     ap (λ l. l ++ map f (drop (n + 1) xs)) more ∙ append_assoc before (f (get_or xs n d) ∷ []) (map f (drop (n + 1) xs))
     ∙ ap (λ l. before ++ map f l) (sym (drop_more xs n d low)) ∙ so
 
 -- what the items behind are with their numbers, after one item more
-pub numbered_next : {X : Type 0} (n : ℕ) (xs : List X) (d : X) (before after all : List (ℕ × X)) → n < length xs → after ≡ before ++ (n, get_or xs n d) ∷ [] → before ++ enumerate_from n (drop n xs) ≡ all
+pub numbered_next : {X : Type 0} (n : ℕ) (xs : List X) (d : X) (before after all : List (ℕ × X))
+    → n < length xs → after ≡ before ++ (n, get_or xs n d) ∷ [] → before ++ enumerate_from n (drop n xs) ≡ all
     → after ++ enumerate_from (n + 1) (drop (n + 1) xs) ≡ all
 numbered_next n xs d before after all low more so =
     ap (λ l. l ++ enumerate_from (n + 1) (drop (n + 1) xs)) more ∙ append_assoc before ((n, get_or xs n d) ∷ []) (enumerate_from (n + 1) (drop (n + 1) xs))

@@ -8,8 +8,8 @@ use Rattle.std.proofs.lemmas.List.Elements.{All-append, All-cons, All-contains, 
 use Rattle.linda_wire.specs.declared.message.Message.{Message}
 use Rattle.linda_wire.specs.declared.message.Message.TheVariants as messages
 use Rattle.linda_wire.specs.declared.reply.Reply.TheVariants as replies
-use Rattle.linda_client.specs.declared.arrival.Accepted.{Accepted}
-use Rattle.linda_client.specs.declared.arrival.Arrival.{Arrival}
+use Rattle.linda_client.specs.declared.arrived_tuple.Accepted.{Accepted}
+use Rattle.linda_client.specs.declared.arrived_tuple.ArrivedTuple.{ArrivedTuple}
 use Rattle.linda_client.specs.declared.task.Task.TheVariants.{Idle, Syncing, Leaving}
 use Rattle.linda_client.specs.Pending.{Pending}
 use Rattle.linda_client.specs.Client.{Client, IsClient, next_at, pending_in, servers}
@@ -19,7 +19,9 @@ use Rattle.linda_client.specs.React.{Call, Leave, Receive, leave, new_pending, o
 use Rattle.linda_client.specs.Ending.{IsCancel}
 use Rattle.linda_client.specs.Numbers.{IsAnswerTo, NumbersGoOn, UsesNoNumber, UsesNumber, number_of}
 use Rattle.linda_client.proofs.CancelLaws.{only_cancels}
-use Rattle.linda_client.proofs.Course.{AcceptAnswered, Course, Turn, abandons, accepts, arrives, begins, commits, commits_at_once, course, departs, gives_up, hands_on, leaves_on, oldest, puts, rejects, repeats, rests, saves, stores, waits}
+use Rattle.linda_client.proofs.Course.{AcceptAnswered, Course, Turn, abandons, accepts, arrives, begins, commits}
+use Rattle.linda_client.proofs.Course.{commits_at_once, course, departs, gives_up, hands_on, leaves_on, oldest, puts}
+use Rattle.linda_client.proofs.Course.{rejects, repeats, rests, saves, stores, waits}
 use Rattle.linda_client.proofs.LeaveLaws.{all_leaves, leave_there, left_or_answered, left_there, next_after}
 use Rattle.linda_client.proofs.ListLaws.{all_there, nowhere, only_one}
 use Rattle.linda_client.proofs.PacketLaws.{all_asks}
@@ -76,7 +78,8 @@ module _ (c : Client) (call : Call) where
   same_number : (r : Reaction) → r.client.next ≡ c.next → All (IsAgain c) r.packets → unanswered r.client.task ≡ unanswered c.task → NumbersGoOn c call r
   same_number r next again same =
       no_number r next again (subst (All (Contains (unanswered c.task))) (sym same) (All-contains_itself (unanswered c.task)))
-      (All-weaker (Contains (unanswered c.task)) (λ p. Contains (unanswered r.client.task) p ⊎ IsAnswerTo p call) (λ p there. inl (subst (λ l. Contains l p) (sym same) there)) (unanswered c.task)
+      (All-weaker (Contains (unanswered c.task)) (λ p. Contains (unanswered r.client.task) p ⊎ IsAnswerTo p call)
+      (λ p there. inl (subst (λ l. Contains l p) (sym same) there)) (unanswered c.task)
       (All-contains_itself (unanswered c.task)))
 
   -- What was unanswered is answered, and nothing is unanswered.
@@ -95,12 +98,13 @@ module _ (c : Client) (call : Call) where
       by None h = All-nil (λ p. IsAnswerTo p call)
       by (Some own) h = All-cons (λ p. IsAnswerTo p call) (own.server, messages.Accept own.n own.ticket own.id) [] h (All-nil (λ p. IsAnswerTo p call))
 
-  turn_answered : (pending : Pending) (rest : List Arrival) (a : Arrival) → Turn call pending rest a → AcceptAnswered pending.accepted call
+  turn_answered : (pending : Pending) (rest : List ArrivedTuple) (a : ArrivedTuple) → Turn call pending rest a → AcceptAnswered pending.accepted call
   turn_answered pending rest a (arrives none saved called) = subst (λ o. AcceptAnswered o call) (sym none) tt
   turn_answered pending rest a (oldest own accepted saved called) = subst (λ o. AcceptAnswered o call) (sym accepted) (inl called)
 
   -- One numbered message is sent alone, under the next number of its server, and is the one that is unanswered.
-  module _ (r : Reaction) (s : ℕ) (m : Message) (within : s < servers c) (number : number_of m ≡ Some (next_at c s)) (sent : r.packets ≡ (s, m) ∷ []) (next : r.client.next ≡ used_at c s)
+  module _ (r : Reaction) (s : ℕ) (m : Message) (within : s < servers c) (number : number_of m ≡ Some (next_at c s))
+      (sent : r.packets ≡ (s, m) ∷ []) (next : r.client.next ≡ used_at c s)
       (now : unanswered r.client.task ≡ (s, m) ∷ []) (answered : AllAnswered) where
     abbrev this : Packet
     this = (s, m)
@@ -127,7 +131,8 @@ module _ (c : Client) (call : Call) where
           sent = subst (λ l. Contains l (s, m)) (sym sent) one_there;
           own = λ k there. sym (ap (λ p. p.1) (only r.packets sent (s, k) there));
           fresh = subst (All (λ (p : Packet). number_of p.1 ≡ Some (next_at c p.0))) (sym sent)
-              (All-cons (λ (p : Packet). number_of p.1 ≡ Some (next_at c p.0)) (s, m) [] number (All-nil (λ (p : Packet). number_of p.1 ≡ Some (next_at c p.0))));
+              (All-cons (λ (p : Packet). number_of p.1 ≡ Some (next_at c p.0)) (s, m) [] number
+              (All-nil (λ (p : Packet). number_of p.1 ≡ Some (next_at c p.0))));
           alone = λ _. sent;
           within = within;
           number = number;
@@ -145,10 +150,12 @@ module _ (c : Client) (call : Call) where
     sends = leave_packets (enumerate_from 0 c.next)
 
     own_leave : (s : ℕ) (k : Message) → Contains sends (s, k) → k ≡ messages.Leave (next_at c s)
-    own_leave s k there = All-contains (λ (p : Packet). p.1 ≡ messages.Leave (next_at c p.0)) sends (s, k) (all_leaves (λ (p : Packet). p.1 ≡ messages.Leave (next_at c p.0)) c (λ t within. refl)) there
+    own_leave s k there = All-contains (λ (p : Packet). p.1 ≡ messages.Leave (next_at c p.0)) sends
+        (s, k) (all_leaves (λ (p : Packet). p.1 ≡ messages.Leave (next_at c p.0)) c (λ t within. refl)) there
 
     leave_within : (s : ℕ) (k : Message) → Contains sends (s, k) → s < servers c
-    leave_within s k there = All-contains (λ (p : Packet). p.0 < servers c) sends (s, k) (all_leaves (λ (p : Packet). p.0 < servers c) c (λ t within. within)) there
+    leave_within s k there = All-contains (λ (p : Packet). p.0 < servers c) sends (s, k)
+        (all_leaves (λ (p : Packet). p.0 < servers c) c (λ t within. within)) there
 
     none_before : {A : Type 0} (s : ℕ) (k : Message) → Contains (unanswered c.task) (s, k) → A
     none_before s k here = nowhere (s, k) (subst (λ t. Contains (unanswered t) (s, k)) idle here)
@@ -170,7 +177,8 @@ module _ (c : Client) (call : Call) where
         },
       )
       | inr past ↦ inl (record {
-        next = get_or_past (leave c).client.next s 0 (let same : length (map (λ n. n + 1) c.next) ≡ length c.next = length-map c.next (λ n. n + 1) in omega arith) ∙ sym (get_or_past c.next s 0 past);
+        next = get_or_past (leave c).client.next s 0 (let same : length (map (λ n. n + 1) c.next) ≡ length c.next =
+            length-map c.next (λ n. n + 1) in omega arith) ∙ sym (get_or_past c.next s 0 past);
         again = λ k there some. let within = leave_within s k there in absurd (omega arith);
         old = λ k here. let within = leave_within s k here in absurd (omega arith);
         stays = λ k here. none_before s k here;
@@ -178,7 +186,8 @@ module _ (c : Client) (call : Call) where
     ]
 
   -- Leaves are answered in part, and then all.
-  leaves_number : (all : List (ℕ × ℕ)) (server n : ℕ) → c.task ≡ Leaving all → call ≡ Receive server (replies.Left n) → (r : Reaction) → r.client.next ≡ c.next → r.packets ≡ []
+  leaves_number : (all : List (ℕ × ℕ)) (server n : ℕ) → c.task ≡ Leaving all → call ≡ Receive server (replies.Left n)
+      → (r : Reaction) → r.client.next ≡ c.next → r.packets ≡ []
       → unanswered r.client.task ≡ leave_packets (unanswered_leaves server n all) → NumbersGoOn c call r
   leaves_number all server n task called r next silent now =
       no_number r next (subst (All (IsAgain c)) (sym silent) (All-nil (IsAgain c)))
@@ -194,18 +203,24 @@ module _ (c : Client) (call : Call) where
   numbers_on is r (hands_on server code detail other) = same_number r refl (All-nil (IsAgain c)) refl
   numbers_on is r (rejects a within other) = same_number r refl (All-cons (IsAgain c) _ [] (λ some. absurd (false≢true some)) (All-nil (IsAgain c))) refl
   numbers_on is r (repeats packets repeated there other) = same_number r refl (all_there (IsAgain c) packets (sent_again c) there all_again) refl
-  numbers_on is r (puts row idle number outs) = one_number r (out_server c) (messages.Out (next_at c (out_server c)) row) (out_within c is) refl refl refl refl (idle_answered idle)
+  numbers_on is r (puts row idle number outs) =
+      one_number r (out_server c) (messages.Out (next_at c (out_server c)) row) (out_within c is) refl refl refl refl (idle_answered idle)
   numbers_on is r (stores server n id row task called) =
       then_none r refl (All-nil (IsAgain c)) refl
-      (subst (λ t. All (λ p. IsAnswerTo p call) (unanswered t)) (sym task) (All-cons (λ p. IsAnswerTo p call) (server, messages.Out n row) [] (id, called) (All-nil (λ p. IsAnswerTo p call))))
+      (subst (λ t. All (λ p. IsAnswerTo p call) (unanswered t)) (sym task)
+      (All-cons (λ p. IsAnswerTo p call) (server, messages.Out n row) [] (id, called) (All-nil (λ p. IsAnswerTo p call))))
   numbers_on is r (commits_at_once event ready called idle is_ready) = same_number r refl (All-nil (IsAgain c)) (sym (ap unanswered idle))
   numbers_on is r (begins event called idle within room) = same_number r refl (asks_again (new_pending c event)) (sym (ap unanswered idle))
   numbers_on is r (saves pending a task awaits within fits other) = same_number r refl (All-nil (IsAgain c)) (sym (ap unanswered task))
   numbers_on is r (accepts pending rest a task turn within input more) =
-      one_number r a.server (messages.Accept (next_at c a.server) a.ticket a.id) within refl refl refl refl (answered_of pending task (turn_answered pending rest a turn))
-  numbers_on is r (waits pending own task accepted called none) = then_none r refl (All-nil (IsAgain c)) refl (answered_of pending task (subst (λ o. AcceptAnswered o call) (sym accepted) (inl called)))
-  numbers_on is r (commits pending clock own base got task answered spares gets by) = then_none r refl (cancels_again own pending) refl (answered_of pending task answered)
-  numbers_on is r (abandons pending task none) = then_none r refl (cancels_again None pending) refl (answered_of pending task (subst (λ o. AcceptAnswered o call) (sym none) tt))
+      one_number r a.server (messages.Accept (next_at c a.server) a.ticket a.id) within refl refl refl refl
+      (answered_of pending task (turn_answered pending rest a turn))
+  numbers_on is r (waits pending own task accepted called none) =
+      then_none r refl (All-nil (IsAgain c)) refl (answered_of pending task (subst (λ o. AcceptAnswered o call) (sym accepted) (inl called)))
+  numbers_on is r (commits pending clock own base got task answered spares gets by) =
+      then_none r refl (cancels_again own pending) refl (answered_of pending task answered)
+  numbers_on is r (abandons pending task none) = then_none r refl (cancels_again None pending) refl
+      (answered_of pending task (subst (λ o. AcceptAnswered o call) (sym none) tt))
   numbers_on is r (gives_up called idle more) = leave_number called idle
   numbers_on is r (leaves_on all server n task called some) = leaves_number all server n task called r refl refl refl
   numbers_on is r (departs all server n task called none) = leaves_number all server n task called r refl refl (sym (ap leave_packets none))

@@ -8,8 +8,8 @@ use Rattle.linda_tuple.specs.Tuple.{Tuple}
 use Rattle.linda_tuple.specs.Matching.{is_match}
 use Rattle.linda_wire.specs.declared.reply.Reply.TheVariants as replies
 use Rattle.linda_wire.specs.declared.limits.TheConstants.{NUMBER_LIMIT}
-use Rattle.linda_client.specs.declared.arrival.Accepted.{Accepted}
-use Rattle.linda_client.specs.declared.arrival.Arrival.{Arrival}
+use Rattle.linda_client.specs.declared.arrived_tuple.Accepted.{Accepted}
+use Rattle.linda_client.specs.declared.arrived_tuple.ArrivedTuple.{ArrivedTuple}
 use Rattle.linda_client.specs.declared.ask.Ask.{Ask}
 use Rattle.linda_client.specs.declared.task.Task.TheVariants.{Syncing}
 use Rattle.linda_client.specs.Pending.{Pending, ask_at, is_fit, is_saved, same_arrival}
@@ -29,7 +29,7 @@ some_not o some none = false≢true (sym (ap is_some none) ∙ some)
 
 -- An offer that comes.
 module _ (c : Client) (server ticket id : ℕ) (row : Tuple) where
-  abbrev this : Arrival
+  abbrev this : ArrivedTuple
   this = record { server = server; ticket = ticket; id = id; tuple = row }
 
   abbrev TreatedOn : Answer → Type 0
@@ -44,8 +44,10 @@ module _ (c : Client) (server ticket id : ℕ) (row : Tuple) where
 
   module _ (pending : Pending) (there : pending_in c.task ≡ Some pending) (ask : Ask) (asked : ask_at pending ticket ≡ Some ask) where
     -- the synchronization and the ask of the ticket are these, however they are named
-    for_these : (r : Reaction) → (is_fit ask true row ≡ true → IsSome pending.accepted → IsSomeAnd (pending_in r.client.task) (λ later. IsSaved later server ticket id))
-        → (is_fit ask true row ≡ true → pending.accepted ≡ None → IsSomeAnd (pending_in r.client.task) (λ later. later.accepted ≡ Some (next_accept c server ticket id))) → IsTreated c server ticket id row r
+    for_these : (r : Reaction)
+        → (is_fit ask true row ≡ true → IsSome pending.accepted → IsSomeAnd (pending_in r.client.task) (λ later. IsSaved later server ticket id))
+        → (is_fit ask true row ≡ true → pending.accepted ≡ None
+        → IsSomeAnd (pending_in r.client.task) (λ later. later.accepted ≡ Some (next_accept c server ticket id))) → IsTreated c server ticket id row r
     for_these r saved accepted = record {
       stray = λ none. absurd (none-some ask (sym none ∙ ap (λ o. asked_in o ticket) there ∙ asked));
       saved = λ other wants is_there wanted fits some.
@@ -59,7 +61,8 @@ module _ (c : Client) (server ticket id : ℕ) (row : Tuple) where
     }
 
     treated_unfit : not (is_fit ask true row) ≡ true → IsTreated c server ticket id row (no_reaction c)
-    treated_unfit unfit = for_these (no_reaction c) (λ fits. absurd (false≢true (sym (ap not fits) ∙ unfit))) (λ fits. absurd (false≢true (sym (ap not fits) ∙ unfit)))
+    treated_unfit unfit = for_these (no_reaction c) (λ fits. absurd (false≢true (sym (ap not fits) ∙ unfit)))
+        (λ fits. absurd (false≢true (sym (ap not fits) ∙ unfit)))
 
     saved_before : is_saved pending this ≡ true → IsSaved pending server ticket id
     saved_before e =
@@ -79,14 +82,16 @@ module _ (c : Client) (server ticket id : ℕ) (row : Tuple) where
         for_these (spec.save c pending this) (λ fits some. by (is_saved pending this) refl) (λ fits free. absurd (some_not pending.accepted awaits free))
       where
         by : (b : Bool) → is_saved pending this ≡ b
-            → IsSomeAnd (pending_in (cond b c (record c { task = Syncing (record pending { saved = pending.saved ++ this ∷ [] }) })).task) (λ later. IsSaved later server ticket id)
+            → IsSomeAnd (pending_in (cond b c (record c { task = Syncing (record pending { saved = pending.saved ++ this ∷ [] }) })).task)
+            (λ later. IsSaved later server ticket id)
         by true e = subst (λ o. IsSomeAnd o (λ later. IsSaved later server ticket id)) (sym there) (saved_before e)
         by false e = record { arrival = this; there = Contains-push pending.saved this; server_is = refl; ticket_is = refl; id_is = refl }
 
     treated_free : is_some pending.accepted ≡ false → not (is_fit ask true row) ≡ false → TreatedOn (spec.take_up c pending this ask)
     treated_free none fits =
         by_test TreatedOn ask.remove _ _
-        (λ _. by_test TreatedOn (next_at c server == NUMBER_LIMIT) _ _ (λ _. tt) (λ _. for_these _ (λ _ some. absurd (not_some pending.accepted none some)) (λ _ _. refl)))
+        (λ _. by_test TreatedOn (next_at c server == NUMBER_LIMIT) _ _ (λ _. tt)
+        (λ _. for_these _ (λ _ some. absurd (not_some pending.accepted none some)) (λ _ _. refl)))
         (λ kept. absurd (false≢true (ap (λ b. b && is_match ask.template row) (sym kept) ∙ not_false (is_fit ask true row) fits)))
 
   treated_on : (o : Option Pending) → pending_in c.task ≡ o → TreatedOn (spec.on_arrival c o true this)
@@ -97,12 +102,14 @@ module _ (c : Client) (server ticket id : ℕ) (row : Tuple) where
       by None e = treated_stray (ap (λ o. asked_in o ticket) there ∙ e)
       by (Some ask) e =
           by_test TreatedOn (not (is_fit ask true row)) _ _ (λ unfit. treated_unfit pending there ask e unfit)
-          (λ fits. by_test TreatedOn (is_some pending.accepted) _ _ (λ awaits. treated_saved pending there ask e awaits) (λ none. treated_free pending there ask e none fits))
+          (λ fits. by_test TreatedOn (is_some pending.accepted) _ _ (λ awaits. treated_saved pending there ask e awaits)
+          (λ none. treated_free pending there ask e none fits))
 
   treated : (r : Reaction) → IsClient c → react c (Receive server (replies.Offer ticket id row)) ≡ Ok r → IsTreated c server ticket id row r
   treated r is e = subst TreatedOn e (by_test TreatedOn (nat_lt server (servers c)) _ _ (λ _. treated_on (pending_in c.task) refl) (λ _. tt))
 
 -- Each offer that comes is treated so.
-pub treats : (c : Client) (call : Call) (r : Reaction) → IsClient c → react c call ≡ Ok r → (server ticket id : ℕ) (row : Tuple) → call ≡ Receive server (replies.Offer ticket id row)
+pub treats : (c : Client) (call : Call) (r : Reaction) → IsClient c → react c call ≡ Ok r
+    → (server ticket id : ℕ) (row : Tuple) → call ≡ Receive server (replies.Offer ticket id row)
     → IsTreated c server ticket id row r
 treats c call r is e server ticket id row called = treated c server ticket id row r is (sym (ap (react c) called) ∙ e)

@@ -1,5 +1,7 @@
 -- The packets for one ticket, server by server.
-use Rattle.std.proofs.Common.{◌≡◌, ℕ, zero, suc, ◌+◌, ◌-◌, ◌<◌, nat_lt, true, false, cond, not, List, [], ◌∷◌, ◌++◌, length, length-append, get_or, map, refl, sym, ap, subst, ◌∙◌, append_assoc, append-nil, add-one, arith}
+use Rattle.std.proofs.Common.{◌≡◌, ℕ, zero, suc, ◌+◌, ◌-◌, ◌<◌, nat_lt, true, false, cond, not, List, [], ◌∷◌, ◌++◌}
+use Rattle.std.proofs.Common.{length, length-append, get_or, map, refl, sym, ap, subst, ◌∙◌, append_assoc, append-nil}
+use Rattle.std.proofs.Common.{add-one, arith}
 use Rattle.std.specs.Prelude.{All, filter, flat_map, Option, None, Some, slice_get}
 use Rattle.std.specs.List.{enumerate_from, range_with_len}
 use Rattle.std.proofs.lemmas.List.{map-append}
@@ -31,33 +33,40 @@ cancelled_next : (n : ℕ) (own : Option (ℕ × ℕ)) (ticket : ℕ) → cancel
 cancelled_next n own ticket =
     ap (λ ns. map (λ s. (s, messages.Cancel ticket)) (filter (λ s. not (is_spared own (s, ticket))) ns)) (range_next n)
     ∙ ap (map (λ s. (s, messages.Cancel ticket))) (filter-append (λ s. not (is_spared own (s, ticket))) (range_with_len 0 n) (n ∷ []))
-    ∙ map-append (λ s. (s, messages.Cancel ticket)) (filter (λ s. not (is_spared own (s, ticket))) (range_with_len 0 n)) (filter (λ s. not (is_spared own (s, ticket))) (n ∷ []))
+    ∙ map-append (λ s. (s, messages.Cancel ticket)) (filter (λ s. not (is_spared own (s, ticket))) (range_with_len 0 n))
+    (filter (λ s. not (is_spared own (s, ticket))) (n ∷ []))
 
 -- one server more is sent a Cancel, where it is not spared
-pub cancelled_more : (n : ℕ) (own : Option (ℕ × ℕ)) (ticket : ℕ) → is_spared own (n, ticket) ≡ false → cancels_of (n + 1) own ticket ≡ cancels_of n own ticket ++ (n, messages.Cancel ticket) ∷ []
+pub cancelled_more : (n : ℕ) (own : Option (ℕ × ℕ)) (ticket : ℕ) → is_spared own (n, ticket) ≡ false
+    → cancels_of (n + 1) own ticket ≡ cancels_of n own ticket ++ (n, messages.Cancel ticket) ∷ []
 cancelled_more n own ticket e =
     cancelled_next n own ticket ∙ ap (λ b. cancels_of n own ticket ++ map (λ s. (s, messages.Cancel ticket)) (cond (not b) (n ∷ []) [])) e
 
 pub cancelled_spared : (n : ℕ) (own : Option (ℕ × ℕ)) (ticket : ℕ) → is_spared own (n, ticket) ≡ true → cancels_of (n + 1) own ticket ≡ cancels_of n own ticket
 cancelled_spared n own ticket e =
-    cancelled_next n own ticket ∙ ap (λ b. cancels_of n own ticket ++ map (λ s. (s, messages.Cancel ticket)) (cond (not b) (n ∷ []) [])) e ∙ append-nil (cancels_of n own ticket)
+    cancelled_next n own ticket ∙ ap (λ b. cancels_of n own ticket ++ map (λ s. (s, messages.Cancel ticket)) (cond (not b) (n ∷ []) [])) e
+    ∙ append-nil (cancels_of n own ticket)
 
 -- one packet more, appended to those so far
-pub one_more : {X : Type 0} (start before after xs ys : List X) (x : X) → after ≡ before ++ x ∷ [] → before ≡ start ++ xs → ys ≡ xs ++ x ∷ [] → after ≡ start ++ ys
+pub one_more : {X : Type 0} (start before after xs ys : List X) (x : X) → after ≡ before ++ x ∷ []
+    → before ≡ start ++ xs → ys ≡ xs ++ x ∷ [] → after ≡ start ++ ys
 one_more start before after xs ys x e f g = e ∙ ap (λ l. l ++ x ∷ []) f ∙ append_assoc start xs (x ∷ []) ∙ ap (λ l. start ++ l) (sym g)
 
 -- what the numbers so far give, and what one more gives
 pub numbers_more : {X : Type 0} (f : ℕ → List X) (a n : ℕ) → flat_map f (range_with_len a (n + 1)) ≡ flat_map f (range_with_len a n) ++ f (a + n)
 numbers_more f a n =
-    rw add-one (ap (flat_map f) (range_more a n) ∙ flat_map-append f (range_with_len a n) ((a + n) ∷ []) ∙ ap (λ l. flat_map f (range_with_len a n) ++ l) (append-nil (f (a + n))))
+    rw add-one (ap (flat_map f) (range_more a n) ∙ flat_map-append f (range_with_len a n) ((a + n) ∷ [])
+    ∙ ap (λ l. flat_map f (range_with_len a n) ++ l) (append-nil (f (a + n))))
 
 -- An ask stands at the place of its ticket.
 at_end : {X : Type 0} (before rest : List X) (x : X) → slice_get (before ++ x ∷ rest) (length before) ≡ Some x
 at_end [] rest x = refl
 at_end (y ∷ before) rest x = at_end before rest x
 
-module _ (P : Packet → Type 0) (count : ℕ) (pending : Pending) (each : (s k : ℕ) (ask : Ask) → s < count → ask_at pending k ≡ Some ask → P (s, messages.Ask k ask.remove ask.template)) where
-  ask_there : (before rest : List Ask) (x : Ask) (n : ℕ) → asks pending.event ≡ before ++ x ∷ rest → n ≡ pending.first + length before → ask_at pending n ≡ Some x
+module _ (P : Packet → Type 0) (count : ℕ) (pending : Pending) (each : (s k : ℕ) (ask : Ask) → s < count
+    → ask_at pending k ≡ Some ask → P (s, messages.Ask k ask.remove ask.template)) where
+  ask_there : (before rest : List Ask) (x : Ask) (n : ℕ) → asks pending.event ≡ before ++ x ∷ rest
+      → n ≡ pending.first + length before → ask_at pending n ≡ Some x
   ask_there before rest x n parts place =
       let high : nat_lt n pending.first ≡ false = grind (arith, place) in
       let at : n - pending.first ≡ length before = omega (arith, place) in
@@ -73,7 +82,8 @@ module _ (P : Packet → Type 0) (count : ℕ) (pending : Pending) (each : (s k 
       let at : i ≡ get_or (range_with_len 0 count) i 0 = let e = get_or-range_with_len 0 count i 0 low in omega arith in
       subst (λ s. P (s, messages.Ask n x.remove x.template)) at (each i n x low there))
 
-  asks_from : (n : ℕ) (before xs : List Ask) → asks pending.event ≡ before ++ xs → n ≡ pending.first + length before → All P (flat_map (asks_to_all count) (enumerate_from n xs))
+  asks_from : (n : ℕ) (before xs : List Ask) → asks pending.event ≡ before ++ xs → n ≡ pending.first + length before
+      → All P (flat_map (asks_to_all count) (enumerate_from n xs))
   asks_from n before [] parts place = All-nil P
   asks_from n before (x ∷ xs) parts place =
       let more : n + 1 ≡ pending.first + length (before ++ x ∷ []) = let l = length-append before (x ∷ []) in omega (arith, place, l) in

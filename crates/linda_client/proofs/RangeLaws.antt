@@ -1,5 +1,6 @@
 -- Next numbers and tickets never fall, and a client is as every client is, at first and after each call.
-use Rattle.std.proofs.Common.{◌≡◌, ◌≢◌, ℕ, zero, suc, ◌+◌, ◌<◌, ◌≤◌, ◌==◌, false, List, [], ◌∷◌, drop, length, get_or, map, set, refl, sym, ap, ◌∙◌, subst, arith}
+use Rattle.std.proofs.Common.{◌≡◌, ◌≢◌, ℕ, zero, suc, ◌+◌, ◌<◌, ◌≤◌, ◌==◌, false, List, [], ◌∷◌, drop, length, get_or}
+use Rattle.std.proofs.Common.{map, set, refl, sym, ap, ◌∙◌, subst, arith}
 use Rattle.std.specs.Prelude.{Option, Some, None, is_some, All, IfSome, Result, Ok, Err, OnOk, OnErr, true}
 use Rattle.std.specs.declared.alloc.AllocError.{AllocError}
 use Rattle.std.specs.List.{enumerate_from, list_any}
@@ -9,8 +10,8 @@ use Rattle.std.proofs.lemmas.List.{get_or-set_same, length-map, length-replicate
 use Rattle.std.proofs.lemmas.List.Elements.{All-append, All-cons, All-drop, All-nil, All-get_or, All-replicate, All-set, All-weaker}
 use Rattle.linda_wire.specs.declared.limits.TheConstants.{NUMBER_LIMIT}
 use Rattle.linda_client.specs.declared.limits.TheConstants.{MAX_SERVERS}
-use Rattle.linda_client.specs.declared.arrival.Accepted.{Accepted}
-use Rattle.linda_client.specs.declared.arrival.Arrival.{Arrival}
+use Rattle.linda_client.specs.declared.arrived_tuple.Accepted.{Accepted}
+use Rattle.linda_client.specs.declared.arrived_tuple.ArrivedTuple.{ArrivedTuple}
 use Rattle.linda_client.specs.declared.task.Task.{Task}
 use Rattle.linda_client.specs.declared.task.Task.TheVariants.{Idle, Putting, Syncing, Leaving, Left}
 use Rattle.linda_client.specs.Pending.{FitsOpen, IsPending, Pending, save_last, take_oldest}
@@ -21,7 +22,9 @@ use Rattle.linda_client.specs.Numbers.{Rises}
 use Rattle.linda_client.proofs.LeaveLaws.{leaves_left, leaves_of, numbers_after}
 use Rattle.linda_client.proofs.PendingLaws.{saved_one}
 use Rattle.linda_client.proofs.ListLaws.{tail_all}
-use Rattle.linda_client.proofs.Course.{Course, Turn, abandons, accepts, arrives, begins, commits, commits_at_once, course, departs, gives_up, hands_on, leaves_on, oldest, pending_of, puts, rejects, repeats, rests, saves, stores, waits}
+use Rattle.linda_client.proofs.Course.{Course, Turn, abandons, accepts, arrives, begins, commits, commits_at_once}
+use Rattle.linda_client.proofs.Course.{course, departs, gives_up, hands_on, leaves_on, oldest, pending_of, puts}
+use Rattle.linda_client.proofs.Course.{rejects, repeats, rests, saves, stores, waits}
 
 set_rises : (xs : List ℕ) (s v q : ℕ) → get_or xs s 0 ≤ v → get_or xs q 0 ≤ get_or (set xs s v) q 0
 set_rises [] s v q h = omega arith
@@ -89,10 +92,13 @@ numbers_used c is s within more =
     All-set (λ n. (1 ≤ n) × (n ≤ NUMBER_LIMIT)) c.next s (next_at c s + 1) (low, high) is.numbers
 
 used_rises : (c d : Client) → Rises c d → (s n : ℕ) → IsUsed c s n → IsUsed d s n
-used_rises c d up s n used = let same = up.same_servers in let more = up.numbers s in let low = used.1.0 in let high = used.1.1 in let there = used.0 in (omega arith, (low, omega arith))
+used_rises c d up s n used = let same = up.same_servers in let more = up.numbers s in let low =
+    used.1.0 in let high = used.1.1 in let there = used.0 in (omega arith, (low, omega arith))
 
-all_within : (c d : Client) → Rises c d → (saved : List Arrival) → All (λ (a : Arrival). a.server < servers c) saved → All (λ (a : Arrival). a.server < servers d) saved
-all_within c d up saved all = let same = up.same_servers in All-weaker (λ (a : Arrival). a.server < servers c) (λ (a : Arrival). a.server < servers d) (λ a there. omega arith) saved all
+all_within : (c d : Client) → Rises c d → (saved : List ArrivedTuple) → All (λ (a : ArrivedTuple). a.server < servers c) saved
+    → All (λ (a : ArrivedTuple). a.server < servers d) saved
+all_within c d up saved all = let same = up.same_servers in
+    All-weaker (λ (a : ArrivedTuple). a.server < servers c) (λ (a : ArrivedTuple). a.server < servers d) (λ a there. omega arith) saved all
 
 own_used : (c d : Client) → Rises c d → (o : Option Accepted) → IfSome o (λ a. IsUsed c a.server a.n) → IfSome o (λ a. IsUsed d a.server a.n)
 own_used c d up None h = tt
@@ -136,7 +142,8 @@ same_is c d is n t o task = record {
 }
 
 -- a number more is used at a server
-used_is : (c d : Client) (s : ℕ) → IsClient c → s < servers c → next_at c s ≢ NUMBER_LIMIT → d.next ≡ used_at c s → d.ticket ≡ c.ticket → d.outs < NUMBER_LIMIT → IsTaskOf d d.task → IsClient d
+used_is : (c d : Client) (s : ℕ) → IsClient c → s < servers c → next_at c s ≢ NUMBER_LIMIT
+    → d.next ≡ used_at c s → d.ticket ≡ c.ticket → d.outs < NUMBER_LIMIT → IsTaskOf d d.task → IsClient d
 used_is c d s is within more n t o task =
     let same : servers d ≡ servers c = ap length n ∙ length-set c.next s (next_at c s + 1) in
     record {
@@ -175,38 +182,48 @@ left_is c is more =
     }
 
 -- a client with what one has that leaves
-pub left_so : (c d : Client) → IsClient c → list_any (λ n. n == NUMBER_LIMIT) c.next ≡ false → d.next ≡ map (λ n. n + 1) c.next → d.ticket ≡ c.ticket → d.outs ≡ c.outs → d.task ≡ Leaving (enumerate_from 0 c.next)
+pub left_so : (c d : Client) → IsClient c → list_any (λ n. n == NUMBER_LIMIT) c.next ≡ false
+    → d.next ≡ map (λ n. n + 1) c.next → d.ticket ≡ c.ticket → d.outs ≡ c.outs → d.task ≡ Leaving (enumerate_from 0 c.next)
     → IsClient d
-left_so c d is more n t o task = same_is (leave c).client d (left_is c is more) n t o (subst (IsTaskOf d) (sym task) (leaves_same (leave c).client d n (enumerate_from 0 c.next) (leaves_of c is)))
+left_so c d is more n t o task = same_is (leave c).client d (left_is c is more) n t o
+    (subst (IsTaskOf d) (sym task) (leaves_same (leave c).client d n (enumerate_from 0 c.next) (leaves_of c is)))
 
 -- a client whose Leaves are answered in part
-pub leaving_so : (c d : Client) (all rest : List (ℕ × ℕ)) (server n : ℕ) → IsClient c → c.task ≡ Leaving all → d.next ≡ c.next → d.ticket ≡ c.ticket → d.outs ≡ c.outs → d.task ≡ Leaving rest
+pub leaving_so : (c d : Client) (all rest : List (ℕ × ℕ)) (server n : ℕ) → IsClient c → c.task ≡ Leaving all
+    → d.next ≡ c.next → d.ticket ≡ c.ticket → d.outs ≡ c.outs → d.task ≡ Leaving rest
     → rest ≡ unanswered_leaves server n all → 1 ≤ length rest → IsClient d
 leaving_so c d all rest server n is was next ticket outs task left some =
     same_is c d is next ticket outs (subst (IsTaskOf d) (sym (task ∙ ap Leaving left))
     (leaves_same c d next (unanswered_leaves server n all) (leaves_left c all server n (subst (IsTaskOf c) was is.task) (subst (λ l. 1 ≤ length l) left some))))
 
 -- a client that saves an arrival
-more_saved : (c : Client) (p : Pending) (a : Arrival) → IsClient c → c.task ≡ Syncing p → a.server < servers c → IsPending (save_last a p) → IsClient (with_pending c (save_last a p))
+more_saved : (c : Client) (p : Pending) (a : ArrivedTuple) → IsClient c → c.task ≡ Syncing p → a.server < servers c
+    → IsPending (save_last a p) → IsClient (with_pending c (save_last a p))
 more_saved c p a is was within keeps =
     let own = pending_of c p is was in
     same_is c (with_pending c (save_last a p)) is refl refl refl (record {
       keeps = keeps;
       tickets = own.tickets;
       accepted = own_used c (with_pending c (save_last a p)) (rises_same c (with_pending c (save_last a p)) (omega arith) refl) p.accepted own.accepted;
-      saved = All-append (λ (x : Arrival). x.server < servers c) p.saved (a ∷ []) own.saved (All-cons (λ (x : Arrival). x.server < servers c) a [] within (All-nil (λ (x : Arrival). x.server < servers c)));
+      saved = All-append (λ (x : ArrivedTuple). x.server < servers c) p.saved (a ∷ []) own.saved
+          (All-cons (λ (x : ArrivedTuple). x.server < servers c) a [] within (All-nil (λ (x : ArrivedTuple). x.server < servers c)));
     })
 
 -- a client that saves an arrival, or for which memory runs out
-pub saving_so : (c own : Client) (p q : Pending) (a : Arrival) (r : Result (Unit {0}) AllocError) → IsClient c → c ≡ own → c.task ≡ Syncing p → a.server < servers own → IsPending q → OnOk r (q ≡ save_last a p) → OnErr r (q ≡ p)
+pub saving_so : (c own : Client) (p q : Pending) (a : ArrivedTuple) (r : Result (Unit {0}) AllocError) → IsClient c
+    → c ≡ own → c.task ≡ Syncing p → a.server < servers own → IsPending q → OnOk r (q ≡ save_last a p) → OnErr r (q ≡ p)
     → IsClient (with_pending c q)
 saving_so c own p q a (Ok u) is same was within keeps saved failed =
-    subst (λ s. IsClient (with_pending c s)) (sym saved) (more_saved c p a is was (subst (λ d. a.server < servers d) (sym same) within) (subst IsPending saved keeps))
-saving_so c own p q a (Err e) is same was within keeps saved failed = subst (λ s. IsClient (with_pending c s)) (sym failed) (subst (λ t. IsClient (record c { task = t })) was is)
+    subst (λ s. IsClient (with_pending c s)) (sym saved)
+    (more_saved c p a is was (subst (λ d. a.server < servers d) (sym same) within) (subst IsPending saved keeps))
+saving_so c own p q a (Err e) is same was within keeps saved failed =
+    subst (λ s. IsClient (with_pending c s)) (sym failed) (subst (λ t. IsClient (record c { task = t })) was is)
 
 -- a client that accepts an offer
-now_accepts : (c : Client) (p : Pending) (a : Accepted) (rest : List Arrival) → IsClient c → c.task ≡ Syncing p → a.server < servers c → a.n ≡ next_at c a.server → next_at c a.server ≢ NUMBER_LIMIT
-    → IsPending (record p { accepted = Some a; saved = rest }) → All (λ (x : Arrival). x.server < servers c) rest → IsClient (with_pending (use_number c a.server) (record p { accepted = Some a; saved = rest }))
+now_accepts : (c : Client) (p : Pending) (a : Accepted) (rest : List ArrivedTuple) → IsClient c
+    → c.task ≡ Syncing p → a.server < servers c → a.n ≡ next_at c a.server → next_at c a.server ≢ NUMBER_LIMIT
+    → IsPending (record p { accepted = Some a; saved = rest }) → All (λ (x : ArrivedTuple). x.server < servers c) rest
+    → IsClient (with_pending (use_number c a.server) (record p { accepted = Some a; saved = rest }))
 now_accepts c p a rest is was within next more keeps there =
     let d : Client = with_pending (use_number c a.server) (record p { accepted = Some a; saved = rest }) in
     used_is c d a.server is within more refl refl is.outs (record {
@@ -217,23 +234,26 @@ now_accepts c p a rest is was within next more keeps there =
     })
 
 -- a client that accepts an offer, as a value that equals it says
-pub accepting_so : (c own : Client) (p q : Pending) (a : Accepted) (next : List ℕ) → IsClient c → c ≡ own → c.task ≡ Syncing p → a.server < servers own → a.n ≡ next_at own a.server → a.n < NUMBER_LIMIT → IsPending q
+pub accepting_so : (c own : Client) (p q : Pending) (a : Accepted) (next : List ℕ) → IsClient c → c ≡ own
+    → c.task ≡ Syncing p → a.server < servers own → a.n ≡ next_at own a.server → a.n < NUMBER_LIMIT → IsPending q
     → q ≡ take_oldest a p → next ≡ used_at c a.server → IsClient (record c { next = next; task = Syncing q })
 accepting_so c own p q a next is same was within number room keeps took up =
     let here : a.n ≡ next_at c a.server = subst (λ (d : Client). a.n ≡ next_at d a.server) (sym same) number in
     subst (λ s. IsClient (record c { next = next; task = Syncing s })) (sym took)
     (subst (λ l. IsClient (record c { next = l; task = Syncing (take_oldest a p) })) (sym up)
     (now_accepts c p a (drop 1 p.saved) is was (subst (λ d. a.server < servers d) (sym same) within) here (omega arith) (subst IsPending took keeps)
-    (All-drop (λ (x : Arrival). x.server < servers c) 1 p.saved (pending_of c p is was).saved)))
+    (All-drop (λ (x : ArrivedTuple). x.server < servers c) 1 p.saved (pending_of c p is was).saved)))
 
 kept_on : (c : Client) → IsClient c → (call : Call) (r : Reaction) → Course c call r → IsClient r.client
-kept_on c is call r (rests clock other) = same_is c r.client is refl refl refl (task_rises c r.client (rises_same c r.client (omega arith) refl) refl c.task is.task)
+kept_on c is call r (rests clock other) =
+    same_is c r.client is refl refl refl (task_rises c r.client (rises_same c r.client (omega arith) refl) refl c.task is.task)
 kept_on c is call r (hands_on server code detail other) = is
 kept_on c is call r (rejects a within other) = is
 kept_on c is call r (repeats packets repeated there other) = is
 kept_on c is call r (puts row idle number outs) =
     let within = out_within c is in
-    used_is c r.client (out_server c) is within number refl refl (let low = is.outs in omega (arith, low, outs)) (now_used c r.client (out_server c) is within refl)
+    used_is c r.client (out_server c) is within number refl refl (let low = is.outs in omega (arith, low, outs))
+    (now_used c r.client (out_server c) is within refl)
 kept_on c is call r (stores server n id row task called) = same_is c r.client is refl refl refl tt
 kept_on c is call r (commits_at_once event ready called idle is_ready) = same_is c r.client is refl refl refl tt
 kept_on c is call r (begins event called idle within room) = record {
@@ -244,32 +264,49 @@ kept_on c is call r (begins event called idle within room) = record {
   ticket_low = let low = is.ticket_low in omega arith;
   ticket_high = room;
   task = record {
-    keeps = record { within = within; first = is.ticket_low; last = room; accepted = tt; saved = All-nil (FitsOpen (new_pending c event)); waiting = λ _. refl };
+    keeps = record {
+      within = within;
+      first = is.ticket_low;
+      last = room;
+      accepted = tt;
+      saved =
+          All-nil (FitsOpen (new_pending c event));
+      waiting = λ _. refl;
+    };
     tickets = omega arith;
     accepted = tt;
-    saved = All-nil (λ (a : Arrival). a.server < servers c);
+    saved = All-nil (λ (a : ArrivedTuple). a.server < servers c);
   };
 }
-kept_on c is call r (saves pending a task awaits within fits other) = more_saved c pending a is task within (saved_one pending a (pending_of c pending is task).keeps fits awaits)
+kept_on c is call r (saves pending a task awaits within fits other) =
+    more_saved c pending a is task within (saved_one pending a (pending_of c pending is task).keeps fits awaits)
 kept_on c is call r (accepts pending rest a task turn within input more) = by turn
   where
     own : IsPendingOf c pending
     own = pending_of c pending is task
 
-    with_rest : All (FitsOpen pending) rest → All (λ (x : Arrival). x.server < servers c) rest → IsClient r.client
+    with_rest : All (FitsOpen pending) rest → All (λ (x : ArrivedTuple). x.server < servers c) rest → IsClient r.client
     with_rest fits there =
         now_accepts c pending (next_accept c a.server a.ticket a.id) rest is task within refl more
         (record { within = own.keeps.within; first = own.keeps.first; last = own.keeps.last; accepted = input; saved = fits; waiting = λ none. cc }) there
 
     by : Turn call pending rest a → IsClient r.client
-    by (arrives none saved called) = with_rest (subst (All (FitsOpen pending)) (sym saved) own.keeps.saved) (subst (All (λ (x : Arrival). x.server < servers c)) (sym saved) own.saved)
+    by (arrives none saved called) = with_rest (subst (All (FitsOpen pending)) (sym saved) own.keeps.saved)
+        (subst (All (λ (x : ArrivedTuple). x.server < servers c)) (sym saved) own.saved)
     by (oldest accepted was saved called) =
         with_rest (tail_all (FitsOpen pending) a rest (subst (All (FitsOpen pending)) saved own.keeps.saved))
-        (tail_all (λ (x : Arrival). x.server < servers c) a rest (subst (All (λ (x : Arrival). x.server < servers c)) saved own.saved))
+        (tail_all (λ (x : ArrivedTuple). x.server < servers c) a rest (subst (All (λ (x : ArrivedTuple). x.server < servers c)) saved own.saved))
 kept_on c is call r (waits pending own task accepted called none) =
     let of_it = pending_of c pending is task in
     same_is c r.client is refl refl refl (record {
-      keeps = record { within = of_it.keeps.within; first = of_it.keeps.first; last = of_it.keeps.last; accepted = tt; saved = of_it.keeps.saved; waiting = λ _. none };
+      keeps = record {
+        within = of_it.keeps.within;
+        first = of_it.keeps.first;
+        last = of_it.keeps.last;
+        accepted = tt;
+        saved = of_it.keeps.saved;
+        waiting = λ _. none;
+      };
       tickets = of_it.tickets;
       accepted = tt;
       saved = of_it.saved;
@@ -277,7 +314,8 @@ kept_on c is call r (waits pending own task accepted called none) =
 kept_on c is call r (commits pending clock own base got task answered spares gets by) = same_is c r.client is refl refl refl tt
 kept_on c is call r (abandons pending task none) = same_is c r.client is refl refl refl tt
 kept_on c is call r (gives_up called idle more) = left_is c is more
-kept_on c is call r (leaves_on all server n task called some) = leaving_so c r.client all (unanswered_leaves server n all) server n is task refl refl refl refl refl some
+kept_on c is call r (leaves_on all server n task called some) =
+    leaving_so c r.client all (unanswered_leaves server n all) server n is task refl refl refl refl refl some
 kept_on c is call r (departs all server n task called none) = same_is c r.client is refl refl refl tt
 
 -- A client is as every client is after each call.

@@ -27,9 +27,12 @@ idle_so Left stays e = cc
 -- The client is idle, and the event is within its limits, as a test of them says.
 pub record Begins (c : Client) (event : Tree) : Type 0 where
   pub idle : c.task ≡ Idle
-  pub limits : ◌≡◌ {A = Result (Unit {0}) ClientFault} (Ok tt) (cond (is_too_deep event) (Err faults.TooDeep) (cond (has_too_many event) (Err faults.TooManyBases) (Ok tt)))
+  pub limits : ◌≡◌ {A = Result (Unit {0}) ClientFault} (Ok tt)
+      (cond (is_too_deep event) (Err faults.TooDeep) (cond (has_too_many event) (Err faults.TooManyBases) (Ok tt)))
 
-passed : (deep many : Bool) (rest : Answer) → ◌≡◌ {A = Result (Unit {0}) ClientFault} (Ok tt) (cond deep (Err faults.TooDeep) (cond many (Err faults.TooManyBases) (Ok tt))) → cond deep (Err faults.TooDeep) (cond many (Err faults.TooManyBases) rest) ≡ rest
+passed : (deep many : Bool) (rest : Answer)
+    → ◌≡◌ {A = Result (Unit {0}) ClientFault} (Ok tt) (cond deep (Err faults.TooDeep) (cond many (Err faults.TooManyBases) (Ok tt)))
+    → cond deep (Err faults.TooDeep) (cond many (Err faults.TooManyBases) rest) ≡ rest
 passed true many rest e = cc
 passed false true rest e = cc
 passed false false rest e = refl
@@ -40,7 +43,8 @@ begins c event b =
     (passed (is_too_deep event) (has_too_many event) (on_ready (record c { task = Idle }) event (first_ready c.clock event)) b.limits)
 
 -- where a base is ready it commits to that
-pub is_ready : (c : Client) (event : Tree) (base : ℕ) (got : Got) → Begins c event → first_ready c.clock event ≡ Some (base, got) → on_sync c event ≡ Ok (commit c event [] base got)
+pub is_ready : (c : Client) (event : Tree) (base : ℕ) (got : Got) → Begins c event
+    → first_ready c.clock event ≡ Some (base, got) → on_sync c event ≡ Ok (commit c event [] base got)
 is_ready c event base got b ready = begins c event b ∙ ap (on_ready c event) ready
 
 first_false : {X : Type 0} (b : Bool) (o : Option X) → o ≡ None → false ≡ b && not (is_some o) → b ≡ false
@@ -49,9 +53,11 @@ first_false true (Some x) none e = cc
 first_false false o none e = refl
 
 -- else the servers are asked, where its tickets are within the limit
-pub must_ask : (c : Client) (event : Tree) → Begins c event → IsWithinLimits event → false ≡ lacks_tickets c event → first_ready c.clock event ≡ None → MustAsk c event
+pub must_ask : (c : Client) (event : Tree) → Begins c event → IsWithinLimits event → false ≡ lacks_tickets c event
+    → first_ready c.clock event ≡ None → MustAsk c event
 must_ask c event b within room none =
-    let low : nat_lt NUMBER_LIMIT (c.ticket + length (asks event)) ≡ false = first_false (nat_lt NUMBER_LIMIT (c.ticket + length (asks event))) (first_ready c.clock event) none room in
+    let low : nat_lt NUMBER_LIMIT (c.ticket + length (asks event)) ≡ false =
+    first_false (nat_lt NUMBER_LIMIT (c.ticket + length (asks event))) (first_ready c.clock event) none room in
     record {
       answer = begins c event b ∙ ap (on_ready c event) none ∙ ap (λ t. cond t (Err faults.Spent) (Ok (ask_servers c event))) low;
       within = within;

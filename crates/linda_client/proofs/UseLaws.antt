@@ -1,9 +1,13 @@
 -- No number and no ticket is used twice, and a repeat sends nothing new.
-use Rattle.std.proofs.Common.{◌≡◌, ℕ, zero, suc, ◌+◌, ◌<◌, ◌≤◌, ◌==◌, ◌&&◌, nat_lt, Bool, true, false, cond, List, [], ◌∷◌, ◌++◌, length, get_or, map, Contains, ◌⊎◌, inl, inr, refl, sym, ap, ◌∙◌, subst, append_assoc, arith, lt-ltb, le-ltb, ltb-true, eq-eqb}
+use Rattle.std.proofs.Common.{◌≡◌, ℕ, zero, suc, ◌+◌, ◌<◌, ◌≤◌, ◌==◌, ◌&&◌, nat_lt, Bool, true, false, cond, List, []}
+use Rattle.std.proofs.Common.{◌∷◌, ◌++◌, length, get_or, map, Contains, ◌⊎◌, inl, inr, refl, sym, ap, ◌∙◌, subst}
+use Rattle.std.proofs.Common.{append_assoc, arith, lt-ltb, le-ltb, ltb-true, eq-eqb}
 use Rattle.std.specs.Prelude.{Option, Some, None, Ok, Err, IfOk, All, count_by, flat_map, option_to_list}
 use Rattle.std.specs.List.{enumerate_from, range_with_len}
 use Rattle.std.proofs.lemmas.Bool.{cases_eq, false≢true, ne_eqb}
-use Rattle.std.proofs.lemmas.List.Elements.{All-append, All-contains, All-contains_itself, All-cons, All-filter, All-head, All-nil, All-tail, All-weaker, Contains-append_left, Contains-append_right}
+use Rattle.std.proofs.lemmas.List.Elements.{All-append, All-contains, All-contains_itself, All-cons, All-filter}
+use Rattle.std.proofs.lemmas.List.Elements.{All-head, All-nil, All-tail, All-weaker, Contains-append_left}
+use Rattle.std.proofs.lemmas.List.Elements.{Contains-append_right}
 use Rattle.std.proofs.lemmas.List.Sums.{sum_by-append, sum_by-cons}
 use Rattle.std.proofs.lemmas.Result.{IfOk-at_ok}
 use Rattle.linda_wire.specs.declared.message.Message.{Message}
@@ -16,13 +20,16 @@ use Rattle.linda_client.specs.Pending.{Pending}
 use Rattle.linda_client.specs.Client.{Client, IsClient, next_at, pending_in, servers}
 use Rattle.linda_client.specs.Packets.{Packet, accept_packet, ask_packets, asks_to_all, cancels_but, leave_packets, open_asks, sent_again, unanswered}
 use Rattle.linda_client.specs.Reaction.{Answer, Reaction}
-use Rattle.linda_client.specs.React.{Call, Out, Sync, Receive, Tick, Resend, Reconnected, Abandon, Leave, new_client, new_pending, out_server, react, unanswered_leaves, used_at}
+use Rattle.linda_client.specs.React.{Call, Out, Sync, Receive, Tick, Resend, Reconnected, Abandon, Leave, new_client}
+use Rattle.linda_client.specs.React.{new_pending, out_server, react, unanswered_leaves, used_at}
 use Rattle.linda_client.specs.Ending.{IsCancel}
 use Rattle.linda_client.specs.Numbers.{number_of}
 use Rattle.linda_client.specs.History.{Act, act_then, history}
 use Rattle.linda_client.specs.Uses.{AreUsedOnce, RepeatsAreOld, all_anew, anew, is_number, is_repeat, is_under, ticket_of, uses}
 use Rattle.linda_client.proofs.CancelLaws.{only_cancels}
-use Rattle.linda_client.proofs.Course.{Course, abandons, accepts, begins, commits, commits_at_once, course, departs, gives_up, hands_on, leaves_on, puts, rejects, repeats, rests, saves, stores, waits}
+use Rattle.linda_client.proofs.Course.{Course, abandons, accepts, begins, commits, commits_at_once, course, departs}
+use Rattle.linda_client.proofs.Course.{gives_up, hands_on, leaves_on, puts, rejects, repeats, rests, saves, stores}
+use Rattle.linda_client.proofs.Course.{waits}
 use Rattle.linda_client.proofs.HistoryLaws.{weight}
 use Rattle.linda_client.proofs.LeaveLaws.{all_leaves, left_there}
 use Rattle.linda_client.proofs.ListLaws.{not_empty, same_first, same_rest}
@@ -99,7 +106,8 @@ module _ (of : Message → Option ℕ) (s n : ℕ) where
 
   repeated : (call : Call) (r : Reaction) (a b : ℕ) → a ≤ b → is_repeat call ≡ true → Counts call r a b
   repeated call r a b more e =
-      subst (λ t. count_by (is_under of s n) (cond t [] r.packets) + weight (nat_lt n a) ≤ weight (nat_lt n b)) (sym e) (let low = up n a b more in omega (arith, low))
+      subst (λ t. count_by (is_under of s n) (cond t [] r.packets) + weight (nat_lt n a) ≤ weight (nat_lt n b))
+      (sym e) (let low = up n a b more in omega (arith, low))
 
 -- Where the next number of each server, as `mark` gives it of a client, rises so at each call, none is used twice.
 module _ (of : Message → Option ℕ) (mark : Client → ℕ → ℕ) (s n : ℕ)
@@ -145,7 +153,8 @@ none_below s n from (x ∷ xs) low =
 
 -- A Leave to each server counts, under its next number.
 leaves_count : (s n from k : ℕ) (xs : List ℕ) → s ≡ from + k
-    → count_by (is_under number_of s n) (leave_packets (enumerate_from from xs)) + weight (nat_lt n (get_or xs k 0)) ≤ weight (nat_lt n (get_or (map (λ m. m + 1) xs) k 0))
+    → count_by (is_under number_of s n) (leave_packets (enumerate_from from xs)) + weight
+    (nat_lt n (get_or xs k 0)) ≤ weight (nat_lt n (get_or (map (λ m. m + 1) xs) k 0))
 leaves_count s n from k [] at = omega arith
 leaves_count s n from zero (x ∷ xs) at =
     let cons = sum_by-cons (λ q. cond (is_under number_of s n q) 1 0) (from, messages.Leave x) (leave_packets (enumerate_from (from + 1) xs)) in
@@ -163,7 +172,9 @@ module _ (s n : ℕ) (c : Client) (is : IsClient c) (call : Call) where
   -- A message under the next number counts, and no number else rises.
   one_counts : (r : Reaction) (p : Packet) → r.packets ≡ p ∷ [] → number_of p.1 ≡ Some (next_at c p.0) → p.0 < servers c → r.client.next ≡ used_at c p.0
       → Counts number_of s n call r (next_at c s) (next_at r.client s)
-  one_counts r p sent number within used = all_count number_of s n call r (next_at c s) (next_at r.client s) (subst (λ l. count_by (is_under number_of s n) l + weight (nat_lt n (next_at c s)) ≤ weight (nat_lt n (next_at r.client s))) (sym sent) (by (cases_eq p.0 s)))
+  one_counts r p sent number within used = all_count number_of s n call r (next_at c s) (next_at r.client s)
+      (subst (λ l. count_by (is_under number_of s n) l + weight (nat_lt n (next_at c s)) ≤ weight (nat_lt n (next_at r.client s)))
+      (sym sent) (by (cases_eq p.0 s)))
     where
       cons : count_by (is_under number_of s n) (p ∷ []) ≡ weight (is_under number_of s n p) + 0
       cons = sum_by-cons (λ q. cond (is_under number_of s n q) 1 0) p []
@@ -189,27 +200,33 @@ module _ (s n : ℕ) (c : Client) (is : IsClient c) (call : Call) where
           omega (arith, cons, here, none, stays)
 
   numbers_on : (r : Reaction) → next_at c s ≤ next_at r.client s → Course c call r → Counts number_of s n call r (next_at c s) (next_at r.client s)
-  numbers_on r more (rejects a within other) = plain number_of s n call r (next_at c s) (next_at r.client s) more (All-cons (IsPlain number_of) _ [] refl (All-nil (IsPlain number_of)))
+  numbers_on r more (rejects a within other) =
+      plain number_of s n call r (next_at c s) (next_at r.client s) more (All-cons (IsPlain number_of) _ [] refl (All-nil (IsPlain number_of)))
   numbers_on r more (repeats packets again there other) = repeated number_of s n call r (next_at c s) (next_at r.client s) more again
   numbers_on r more (puts row idle number outs) = one_counts r (out_server c, messages.Out (next_at c (out_server c)) row) refl refl (out_within c is) refl
   numbers_on r more (begins event called idle within room) =
-      plain number_of s n call r (next_at c s) (next_at r.client s) more (all_asks (IsPlain number_of) (servers c) (new_pending c event) (λ t k ask low there. refl))
+      plain number_of s n call r (next_at c s) (next_at r.client s) more
+      (all_asks (IsPlain number_of) (servers c) (new_pending c event) (λ t k ask low there. refl))
   numbers_on r more (accepts pending rest a task turn within input room) =
       one_counts r (a.server, messages.Accept (next_at c a.server) a.ticket a.id) refl refl within refl
   numbers_on r more (commits pending clock own base got task answered spares gets by) =
-      plain number_of s n call r (next_at c s) (next_at r.client s) more (cancels_plain number_of (λ p cancels. (cancel_plain p cancels).0) (servers c) own pending)
+      plain number_of s n call r (next_at c s) (next_at r.client s) more
+      (cancels_plain number_of (λ p cancels. (cancel_plain p cancels).0) (servers c) own pending)
   numbers_on r more (abandons pending task none) =
-      plain number_of s n call r (next_at c s) (next_at r.client s) more (cancels_plain number_of (λ p cancels. (cancel_plain p cancels).0) (servers c) None pending)
+      plain number_of s n call r (next_at c s) (next_at r.client s) more
+      (cancels_plain number_of (λ p cancels. (cancel_plain p cancels).0) (servers c) None pending)
   numbers_on r more (gives_up called idle room) = all_count number_of s n call r (next_at c s) (next_at r.client s) (leaves_count s n 0 s c.next (omega arith))
   numbers_on r more _ = plain number_of s n call r (next_at c s) (next_at r.client s) more (All-nil (IsPlain number_of))
 
 -- The Asks of one ticket, to each server: one to each, where it is this ticket.
 ask_row : (s k t : ℕ) (x : Ask) (a m : ℕ)
-    → count_by (is_under ticket_of s k) (map (λ u. (u, messages.Ask t x.remove x.template)) (range_with_len a m)) + weight ((t == k) && nat_lt s a) ≤ weight (t == k)
+    → count_by (is_under ticket_of s k) (map (λ u. (u, messages.Ask t x.remove x.template)) (range_with_len a m)) + weight
+    ((t == k) && nat_lt s a) ≤ weight (t == k)
 ask_row s k t x a zero = let low = both_less (t == k) (nat_lt s a) in omega (arith, low)
 ask_row s k t x a (suc m) =
     let cons =
-    sum_by-cons (λ p. cond (is_under ticket_of s k p) 1 0) (a, messages.Ask t x.remove x.template) (map (λ u. (u, messages.Ask t x.remove x.template)) (range_with_len (a + 1) m)) in
+    sum_by-cons (λ p. cond (is_under ticket_of s k p) 1 0) (a, messages.Ask t x.remove x.template)
+    (map (λ u. (u, messages.Ask t x.remove x.template)) (range_with_len (a + 1) m)) in
     let step = steps_if (t == k) s a in
     let later = ask_row s k t x (a + 1) m in
     omega (arith, cons, step, later)
@@ -219,7 +236,8 @@ ask_rows : (s k count t : ℕ) (xs : List Ask)
     → count_by (is_under ticket_of s k) (flat_map (asks_to_all count) (enumerate_from t xs)) + weight (nat_lt k t) ≤ weight (nat_lt k (t + length xs))
 ask_rows s k count t [] = let low = up k t (t + 0) (omega arith) in omega (arith, low)
 ask_rows s k count t (x ∷ xs) =
-    let parts = sum_by-append (λ p. cond (is_under ticket_of s k p) 1 0) (asks_to_all count (t, x)) (flat_map (asks_to_all count) (enumerate_from (t + 1) xs)) in
+    let parts = sum_by-append (λ p. cond (is_under ticket_of s k p) 1 0) (asks_to_all count (t, x))
+    (flat_map (asks_to_all count) (enumerate_from (t + 1) xs)) in
     let here = ask_row s k t x 0 count in
     let step = steps k t in
     let later = ask_rows s k count (t + 1) xs in
@@ -228,10 +246,13 @@ ask_rows s k count t (x ∷ xs) =
 
 module _ (s k : ℕ) (c : Client) (call : Call) where
   tickets_on : (r : Reaction) → c.ticket ≤ r.client.ticket → Course c call r → Counts ticket_of s k call r c.ticket r.client.ticket
-  tickets_on r more (rejects a within other) = plain ticket_of s k call r c.ticket r.client.ticket more (All-cons (IsPlain ticket_of) _ [] refl (All-nil (IsPlain ticket_of)))
+  tickets_on r more (rejects a within other) = plain ticket_of s k call r c.ticket r.client.ticket more
+      (All-cons (IsPlain ticket_of) _ [] refl (All-nil (IsPlain ticket_of)))
   tickets_on r more (repeats packets again there other) = repeated ticket_of s k call r c.ticket r.client.ticket more again
-  tickets_on r more (puts row idle number outs) = plain ticket_of s k call r c.ticket r.client.ticket more (All-cons (IsPlain ticket_of) _ [] refl (All-nil (IsPlain ticket_of)))
-  tickets_on r more (begins event called idle within room) = all_count ticket_of s k call r c.ticket r.client.ticket (ask_rows s k (servers c) c.ticket (asks event))
+  tickets_on r more (puts row idle number outs) =
+      plain ticket_of s k call r c.ticket r.client.ticket more (All-cons (IsPlain ticket_of) _ [] refl (All-nil (IsPlain ticket_of)))
+  tickets_on r more (begins event called idle within room) =
+      all_count ticket_of s k call r c.ticket r.client.ticket (ask_rows s k (servers c) c.ticket (asks event))
   tickets_on r more (accepts pending rest a task turn within input room) =
       plain ticket_of s k call r c.ticket r.client.ticket more (All-cons (IsPlain ticket_of) _ [] refl (All-nil (IsPlain ticket_of)))
   tickets_on r more (commits pending clock own base got task answered spares gets by) =
@@ -241,14 +262,19 @@ module _ (s k : ℕ) (c : Client) (call : Call) where
   tickets_on r more (gives_up called idle room) = plain ticket_of s k call r c.ticket r.client.ticket more (all_leaves (IsPlain ticket_of) c (λ t low. refl))
   tickets_on r more _ = plain ticket_of s k call r c.ticket r.client.ticket more (All-nil (IsPlain ticket_of))
 
-pub numbers_used_once : (number count : ℕ) (calls : List Call) → 1 ≤ count → count ≤ MAX_SERVERS → AreUsedOnce number_of (history (new_client number count) calls)
+pub numbers_used_once : (number count : ℕ) (calls : List Call) → 1 ≤ count → count ≤ MAX_SERVERS
+    → AreUsedOnce number_of (history (new_client number count) calls)
 numbers_used_once number count calls low high s n =
-    let all = used_from number_of next_at s n (λ c call r is e. numbers_on s n c is call r ((rises c call r is e).numbers s) (course c is call r e)) calls (new_client number count) (new_is number count low high) in
+    let all = used_from number_of next_at s n (λ c call r is e. numbers_on s n c is call r ((rises c call r is e).numbers s) (course c is call r e)) calls
+    (new_client number count) (new_is number count low high) in
     omega (arith, all)
 
-pub tickets_used_once : (number count : ℕ) (calls : List Call) → 1 ≤ count → count ≤ MAX_SERVERS → AreUsedOnce ticket_of (history (new_client number count) calls)
+pub tickets_used_once : (number count : ℕ) (calls : List Call) → 1 ≤ count → count ≤ MAX_SERVERS
+    → AreUsedOnce ticket_of (history (new_client number count) calls)
 tickets_used_once number count calls low high s k =
-    let all = used_from ticket_of (λ c t. c.ticket) s k (λ c call r is e. tickets_on s k c call r (rises c call r is e).tickets (course c is call r e)) calls (new_client number count) (new_is number count low high) in
+    let all = used_from ticket_of (λ c t. c.ticket) s k
+    (λ c call r is e. tickets_on s k c call r (rises c call r is e).tickets (course c is call r e)) calls
+    (new_client number count) (new_is number count low high) in
     omega (arith, all)
 
 -- What the client sends again then it sent again before, or has sent now.
@@ -287,7 +313,8 @@ module _ (c : Client) where
   again_on call r same (waits pending own task accepted called none) = asks_before r pending task
   again_on call r same (commits pending clock own base got task answered spares gets by) = All-nil (AgainOrNow c r)
   again_on call r same (abandons pending task none) = All-nil (AgainOrNow c r)
-  again_on call r same (gives_up called idle more) = All-append (AgainOrNow c r) (leave_packets (enumerate_from 0 c.next)) [] (all_now r) (All-nil (AgainOrNow c r))
+  again_on call r same (gives_up called idle more) =
+      All-append (AgainOrNow c r) (leave_packets (enumerate_from 0 c.next)) [] (all_now r) (All-nil (AgainOrNow c r))
   again_on call r same (leaves_on all server n task called some) =
       All-append (AgainOrNow c r) (leave_packets (unanswered_leaves server n all)) []
       (All-weaker (Contains (leave_packets all)) (AgainOrNow c r)
@@ -322,20 +349,23 @@ again_known c call r is e past known = by (is_repeat call) refl
         was : (p : Packet) → AgainOrNow c r p → Contains (past ++ []) p
         was p (inl before) = Contains-append_left past [] p (All-contains (Contains past) (sent_again c) p known before)
         was p (inr now) = Contains-append_left past [] p (All-contains (Contains past) (sent_again c) p known
-            (All-contains (Contains (sent_again c)) r.packets p (IfOk-at_ok (λ (x : Reaction). All (Contains (sent_again c)) x.packets) e (repeat_on c call asked)) now))
+            (All-contains (Contains (sent_again c)) r.packets p
+            (IfOk-at_ok (λ (x : Reaction). All (Contains (sent_again c)) x.packets) e (repeat_on c call asked)) now))
     by false other = All-weaker (AgainOrNow c r) (Contains (past ++ r.packets)) was (sent_again r.client) again
       where
         was : (p : Packet) → AgainOrNow c r p → Contains (past ++ r.packets) p
         was p (inl before) = Contains-append_left past r.packets p (All-contains (Contains past) (sent_again c) p known before)
         was p (inr now) = Contains-append_right past r.packets p now
 
-old_from : (calls : List Call) (c : Client) → IsClient c → (past : List Packet) → All (Contains past) (sent_again c) → (before later : List Act) (act : Act) → history c calls ≡ before ++ act ∷ later
+old_from : (calls : List Call) (c : Client) → IsClient c → (past : List Packet) → All (Contains past) (sent_again c)
+    → (before later : List Act) (act : Act) → history c calls ≡ before ++ act ∷ later
     → is_repeat act.call ≡ true → All (Contains (past ++ all_anew before)) act.reaction.packets
 old_from [] c is past known before later act parts asked = absurd (not_empty before act later parts)
 old_from (call ∷ calls) c is past known before later act parts asked = by (react c call) refl parts (λ d is_d. old_from calls d is_d)
   where
     by : (answer : Answer) → react c call ≡ answer → act_then c call answer (λ d. history d calls) ≡ before ++ act ∷ later
-        → ((d : Client) → IsClient d → (so_far : List Packet) → All (Contains so_far) (sent_again d) → (front behind : List Act) (x : Act) → history d calls ≡ front ++ x ∷ behind → is_repeat x.call ≡ true
+        → ((d : Client) → IsClient d → (so_far : List Packet) → All (Contains so_far) (sent_again d)
+        → (front behind : List Act) (x : Act) → history d calls ≡ front ++ x ∷ behind → is_repeat x.call ≡ true
         → All (Contains (so_far ++ all_anew front)) x.reaction.packets)
         → All (Contains (past ++ all_anew before)) act.reaction.packets
     by (Err fault) e f next = next c is past known before later act f asked
@@ -347,13 +377,17 @@ old_from (call ∷ calls) c is past known before later act parts asked = by (rea
         at : (xs : List Act) → first ∷ history r.client calls ≡ xs ++ act ∷ later → All (Contains (past ++ all_anew xs)) act.reaction.packets
         at [] g =
             let same : first ≡ act = same_first first act (history r.client calls) later g in
-            let own = IfOk-at_ok (λ (x : Reaction). All (Contains (sent_again c)) x.packets) e (repeat_on c call (ap (λ (x : Act). is_repeat x.call) same ∙ asked)) in
+            let own = IfOk-at_ok (λ (x : Reaction). All (Contains (sent_again c)) x.packets) e
+            (repeat_on c call (ap (λ (x : Act). is_repeat x.call) same ∙ asked)) in
             subst (λ (x : Act). All (Contains (past ++ [])) x.reaction.packets) same
-            (All-weaker (Contains (sent_again c)) (Contains (past ++ [])) (λ p there. Contains-append_left past [] p (All-contains (Contains past) (sent_again c) p known there)) r.packets own)
+            (All-weaker (Contains (sent_again c)) (Contains (past ++ []))
+            (λ p there. Contains-append_left past [] p (All-contains (Contains past) (sent_again c) p known there)) r.packets own)
         at (x ∷ xs) g =
             let same : first ≡ x = same_first first x (history r.client calls) (xs ++ act ∷ later) g in
-            subst (λ l. All (Contains l) act.reaction.packets) (append_assoc past (anew first) (all_anew xs) ∙ ap (λ (y : Act). past ++ (anew y ++ all_anew xs)) same)
-            (next r.client (kept c call r is e) (past ++ anew first) (again_known c call r is e past known) xs later act (same_rest first x (history r.client calls) (xs ++ act ∷ later) g) asked)
+            subst (λ l. All (Contains l) act.reaction.packets) (append_assoc past (anew first) (all_anew xs)
+            ∙ ap (λ (y : Act). past ++ (anew y ++ all_anew xs)) same)
+            (next r.client (kept c call r is e) (past ++ anew first) (again_known c call r is e past known) xs later act
+            (same_rest first x (history r.client calls) (xs ++ act ∷ later) g) asked)
 
 pub repeats_old : (number count : ℕ) (calls : List Call) → 1 ≤ count → count ≤ MAX_SERVERS → RepeatsAreOld (history (new_client number count) calls)
 repeats_old number count calls low high = old_from calls (new_client number count) (new_is number count low high) [] (All-nil (Contains []))

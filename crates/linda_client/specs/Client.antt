@@ -6,8 +6,8 @@ use Rattle.linda_wire.specs.declared.limits.TheConstants.{NUMBER_LIMIT}
 use Rattle.linda_client.specs.declared.limits.TheConstants.{MAX_SERVERS}
 use Rattle.linda_client.specs.declared.task.Task.{Task}
 use Rattle.linda_client.specs.declared.task.Task.TheVariants.{Idle, Putting, Syncing, Leaving, Left}
-use Rattle.linda_client.specs.declared.arrival.Accepted.{Accepted}
-use Rattle.linda_client.specs.declared.arrival.Arrival.{Arrival}
+use Rattle.linda_client.specs.declared.arrived_tuple.Accepted.{Accepted}
+use Rattle.linda_client.specs.declared.arrived_tuple.ArrivedTuple.{ArrivedTuple}
 use Rattle.linda_client.specs.declared.ask.Ask.{Ask}
 use Rattle.linda_client.specs.Pending.{Pending, IsPending, ask_at, ticket_count}
 
@@ -92,7 +92,7 @@ pub record IsPendingOf (c : Client) (pending : Pending) : Type 0 where
   pub keeps : IsPending pending
   pub tickets : pending.first + ticket_count pending ≤ c.ticket
   pub accepted : IfSome pending.accepted (λ a. IsUsed c a.server a.n)
-  pub saved : All (λ (a : Arrival). a.server < servers c) pending.saved
+  pub saved : All (λ (a : ArrivedTuple). a.server < servers c) pending.saved
 
 -- The servers rise, from this one on.
 abbrev pub AreRising : ℕ → List (ℕ × ℕ) → Type 0

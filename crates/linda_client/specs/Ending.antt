@@ -7,7 +7,7 @@ use Rattle.linda_event.specs.Trees.{Tree, Kind, input, read, alarm, always}
 use Rattle.linda_event.specs.Paths as paths
 use Rattle.linda_wire.specs.declared.message.Message.TheVariants as messages
 use Rattle.linda_wire.specs.declared.reply.Reply.TheVariants as replies
-use Rattle.linda_client.specs.declared.arrival.Accepted.{Accepted}
+use Rattle.linda_client.specs.declared.arrived_tuple.Accepted.{Accepted}
 use Rattle.linda_client.specs.declared.outcome.Got.{Got}
 use Rattle.linda_client.specs.declared.outcome.Got.TheVariants.{Took, Copied, Alarm, Always}
 use Rattle.linda_client.specs.declared.outcome.Outcome.{Outcome}

@@ -1,5 +1,5 @@
 pub mod Ask
-pub mod Arrival
+pub mod ArrivedTuple
 pub mod Pending
 pub mod Client
 pub mod PendingCode

@@ -5,8 +5,8 @@ use Rattle.std.specs.Prelude.{true}
 use Rattle.linda_tuple.specs.Tuple.{Tuple}
 use Rattle.linda_wire.specs.declared.message.Message.TheVariants as messages
 use Rattle.linda_wire.specs.declared.reply.Reply.TheVariants as replies
-use Rattle.linda_client.specs.declared.arrival.Accepted.{Accepted}
-use Rattle.linda_client.specs.declared.arrival.Arrival.{Arrival}
+use Rattle.linda_client.specs.declared.arrived_tuple.Accepted.{Accepted}
+use Rattle.linda_client.specs.declared.arrived_tuple.ArrivedTuple.{ArrivedTuple}
 use Rattle.linda_client.specs.declared.ask.Ask.{Ask}
 use Rattle.linda_client.specs.Pending.{Pending, ask_at, is_fit}
 use Rattle.linda_client.specs.Client.{Client, asked_in, next_at, pending_in, servers}
@@ -15,7 +15,7 @@ use Rattle.linda_client.specs.React.{Call, Receive, next_accept}
 
 -- An offer of this server, for this ticket, of this id is saved.
 pub record IsSaved (pending : Pending) (server ticket id : ℕ) : Type 0 where
-  pub arrival : Arrival
+  pub arrival : ArrivedTuple
   pub there : Contains pending.saved arrival
   pub server_is : arrival.server ≡ server
   pub ticket_is : arrival.ticket ≡ ticket

@@ -4,8 +4,8 @@ use Rattle.std.specs.Prelude.{Option, Some, None, map, filter, flat_map, option_
 use Rattle.std.specs.List.{enumerate_from, list_any, range_with_len}
 use Rattle.linda_wire.specs.declared.message.Message.{Message}
 use Rattle.linda_wire.specs.declared.message.Message.TheVariants as messages
-use Rattle.linda_client.specs.declared.arrival.Accepted.{Accepted}
-use Rattle.linda_client.specs.declared.arrival.Arrival.{Arrival}
+use Rattle.linda_client.specs.declared.arrived_tuple.Accepted.{Accepted}
+use Rattle.linda_client.specs.declared.arrived_tuple.ArrivedTuple.{ArrivedTuple}
 use Rattle.linda_client.specs.declared.ask.Ask.{Ask}
 use Rattle.linda_client.specs.declared.task.Task.{Task}
 use Rattle.linda_client.specs.declared.task.Task.TheVariants.{Idle, Putting, Syncing, Leaving, Left}
@@ -36,12 +36,12 @@ ask_packets count pending =
     flat_map (asks_to_all count) (enumerate_from pending.first (asks pending.event))
 
 -- whether an arrival is of this server and ticket
-abbrev pub is_of : ℕ × ℕ → Arrival → Bool
+abbrev pub is_of : ℕ × ℕ → ArrivedTuple → Bool
 is_of pair a = (a.server == pair.0) && (a.ticket == pair.1)
 
 -- the server and the ticket of the accepted offer, if there is one, unless an offer of them is
 -- saved
-abbrev pub spared_by : Option Accepted → List Arrival → Option (ℕ × ℕ)
+abbrev pub spared_by : Option Accepted → List ArrivedTuple → Option (ℕ × ℕ)
 spared_by None saved = None
 spared_by (Some a) saved =
     (if list_any (is_of (a.server, a.ticket)) saved then None else Some (a.server, a.ticket))

@@ -8,8 +8,8 @@ use Rattle.linda_tuple.specs.Matching.{Matches, is_match}
 use Rattle.linda_wire.specs.declared.limits.TheConstants.{NUMBER_LIMIT}
 use Rattle.linda_event.specs.Trees.{Tree}
 use Rattle.linda_event.specs.Limits.{IsWithinLimits}
-use Rattle.linda_client.specs.declared.arrival.Arrival.{Arrival}
-use Rattle.linda_client.specs.declared.arrival.Accepted.{Accepted}
+use Rattle.linda_client.specs.declared.arrived_tuple.ArrivedTuple.{ArrivedTuple}
+use Rattle.linda_client.specs.declared.arrived_tuple.Accepted.{Accepted}
 use Rattle.linda_client.specs.declared.ask.Ask.{Ask}
 use Rattle.linda_client.specs.Ask.{asks}
 
@@ -19,7 +19,7 @@ pub record Pending : Type 0 where
   pub event : Tree
   pub first : ℕ
   pub accepted : Option Accepted
-  pub saved : List Arrival
+  pub saved : List ArrivedTuple
 
 -- What is asked by a ticket, if it is open: the k-th input or read base, from 0, has the first
 -- ticket plus k.
@@ -38,11 +38,11 @@ is_fit ask true row = ask.remove && is_match ask.template row
 is_fit ask false row = not ask.remove && is_match ask.template row
 
 -- whether two arrivals are the same: of one server, for one ticket, of one id
-abbrev pub same_arrival : Arrival → Arrival → Bool
+abbrev pub same_arrival : ArrivedTuple → ArrivedTuple → Bool
 same_arrival a b = (a.server == b.server) && ((a.ticket == b.ticket) && (a.id == b.id))
 
 -- whether the arrival is saved already
-abbrev pub is_saved : Pending → Arrival → Bool
+abbrev pub is_saved : Pending → ArrivedTuple → Bool
 is_saved pending arrival = list_any (same_arrival arrival) pending.saved
 
 -- whether the accepted offer, if there is one, was accepted by message n to this server
@@ -54,7 +54,7 @@ abbrev pub IsOpenInput : Pending → ℕ → Type 0
 IsOpenInput pending ticket = IsSomeAnd (ask_at pending ticket) (λ ask. ask.remove ≡ true)
 
 -- The ticket is open, and the template of its base matches the tuple.
-abbrev pub FitsOpen : Pending → Arrival → Type 0
+abbrev pub FitsOpen : Pending → ArrivedTuple → Type 0
 FitsOpen pending arrival =
     IsSomeAnd (ask_at pending arrival.ticket) (λ ask. Matches ask.template arrival.tuple)
 
@@ -67,7 +67,7 @@ abbrev pub take_oldest : Accepted → Pending → Pending
 take_oldest a pending = record (drop_oldest pending) { accepted = Some a }
 
 -- It saves an arrival, after those that it saved before.
-abbrev pub save_last : Arrival → Pending → Pending
+abbrev pub save_last : ArrivedTuple → Pending → Pending
 save_last a pending = record pending { saved = pending.saved ++ a ∷ [] }
 
 -- It lets go of the offer that it accepted.

@@ -5,8 +5,8 @@ use Rattle.linda_tuple.specs.Tuple.{Tuple}
 use Rattle.linda_tuple.specs.Codes.{tuple_code}
 use Rattle.linda_event.specs.Trees.{Tree}
 use Rattle.linda_event.specs.Codes.{tree_code}
-use Rattle.linda_client.specs.declared.arrival.Arrival.{Arrival}
-use Rattle.linda_client.specs.declared.arrival.Accepted.{Accepted}
+use Rattle.linda_client.specs.declared.arrived_tuple.ArrivedTuple.{ArrivedTuple}
+use Rattle.linda_client.specs.declared.arrived_tuple.Accepted.{Accepted}
 use Rattle.linda_client.specs.Pending.{Pending}
 
 -- the code of an accepted offer
@@ -17,7 +17,7 @@ accepted_code =
     (λ p. record { server = p.0; n = p.1.0; ticket = p.1.1.0; id = p.1.1.1 }) (λ _. refl)
 
 -- the code of an arrival
-abbrev pub arrival_code : Coded Arrival
+abbrev pub arrival_code : Coded ArrivedTuple
 arrival_code =
     code_by (ℕ × (ℕ × (ℕ × Tuple))) (coded× coded_ℕ (coded× coded_ℕ (coded× coded_ℕ tuple_code)))
     (λ a. (a.server, (a.ticket, (a.id, a.tuple))))
@@ -26,7 +26,7 @@ arrival_code =
 -- the code of a pending synchronization
 abbrev pub pending_code : Coded Pending
 pending_code =
-    code_by (Tree × (ℕ × (Option Accepted × List Arrival)))
+    code_by (Tree × (ℕ × (Option Accepted × List ArrivedTuple)))
     (coded× tree_code
     (coded× coded_ℕ (coded× (coded_option accepted_code) (coded_list arrival_code))))
     (λ s. (s.event, (s.first, (s.accepted, s.saved))))

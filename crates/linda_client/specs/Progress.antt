@@ -5,8 +5,8 @@ use Rattle.linda_event.specs.Trees.{Tree}
 use Rattle.linda_wire.specs.declared.message.Message.{Message}
 use Rattle.linda_wire.specs.declared.message.Message.TheVariants as messages
 use Rattle.linda_wire.specs.declared.reply.Reply.TheVariants as replies
-use Rattle.linda_client.specs.declared.arrival.Accepted.{Accepted}
-use Rattle.linda_client.specs.declared.arrival.Arrival.{Arrival}
+use Rattle.linda_client.specs.declared.arrived_tuple.Accepted.{Accepted}
+use Rattle.linda_client.specs.declared.arrived_tuple.ArrivedTuple.{ArrivedTuple}
 use Rattle.linda_client.specs.declared.task.Task.TheVariants.{Idle}
 use Rattle.linda_client.specs.Ask.{asks}
 use Rattle.linda_client.specs.Pending.{Pending}
@@ -29,7 +29,7 @@ abbrev pub IsSoundPacket : Client → Packet → Type 0
 IsSoundPacket new p = (p.0 < servers new) × AsksOpenly new p.1
 
 -- What is accepted is what an arrival offers, under the next number of its server.
-abbrev pub accept_of : Client → Arrival → Accepted
+abbrev pub accept_of : Client → ArrivedTuple → Accepted
 accept_of c a = next_accept c a.server a.ticket a.id
 
 -- The call says that the unanswered Accept's offer is gone.
@@ -42,13 +42,13 @@ IsGone (Some own) call = call ≡ Receive own.server (replies.Gone own.n)
 pub record KeepsAccept (call : Call) (pending later : Pending) : Type 0 where
   pub waits : IsGone pending.accepted call → ⊥
   pub accepted : later.accepted ≡ pending.accepted
-  pub more : List Arrival
+  pub more : List ArrivedTuple
   pub saved : later.saved ≡ pending.saved ++ more
 
 -- With none unanswered, an offer that comes is accepted, and what is saved stays.
 pub record AcceptsOffer (c : Client) (call : Call) (pending later : Pending) : Type 0 where
   pub free : pending.accepted ≡ None
-  pub offer : Arrival
+  pub offer : ArrivedTuple
   pub comes : call ≡ Receive offer.server (replies.Offer offer.ticket offer.id offer.tuple)
   pub accepted : later.accepted ≡ Some (accept_of c offer)
   pub saved : later.saved ≡ pending.saved

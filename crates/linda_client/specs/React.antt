@@ -13,8 +13,8 @@ use Rattle.linda_event.specs.Limits.{is_ask, is_too_deep}
 use Rattle.linda_wire.specs.declared.message.Message.TheVariants as messages
 use Rattle.linda_wire.specs.declared.reply.Reply.{Reply}
 use Rattle.linda_wire.specs.declared.reply.Reply.TheVariants as replies
-use Rattle.linda_client.specs.declared.arrival.Accepted.{Accepted}
-use Rattle.linda_client.specs.declared.arrival.Arrival.{Arrival}
+use Rattle.linda_client.specs.declared.arrived_tuple.Accepted.{Accepted}
+use Rattle.linda_client.specs.declared.arrived_tuple.ArrivedTuple.{ArrivedTuple}
 use Rattle.linda_client.specs.declared.ask.Ask.{Ask}
 use Rattle.linda_client.specs.declared.ask.Alarm.{Alarm}
 use Rattle.linda_client.specs.declared.fault.ClientFault.TheVariants as faults
@@ -141,7 +141,7 @@ accept c pending server ticket id =
     (record pending { accepted = Some (next_accept c server ticket id) })))
 
 -- what a base gets by a copy
-abbrev pub got_by_read : Ask → Arrival → Got
+abbrev pub got_by_read : Ask → ArrivedTuple → Got
 got_by_read ask a = gots.Copied a.server a.id a.tuple (bindings_of ask.template a.tuple)
 
 -- what a base gets by an input
@@ -150,24 +150,24 @@ got_by_input ask server id row = gots.Took server id row (bindings_of ask.templa
 
 -- an arrival that fits its ask, while no Accept is unanswered: an offer is accepted, and a copy
 -- commits to its base
-abbrev pub take_up : Client → Pending → Arrival → Ask → Answer
+abbrev pub take_up : Client → Pending → ArrivedTuple → Ask → Answer
 take_up c pending a ask =
     if ask.remove then accept c pending a.server a.ticket a.id
     else Ok (commit c pending.event (cancels (servers c) pending) ask.base (got_by_read ask a))
 
 -- an arrival is saved, unless it is saved already
-abbrev pub save : Client → Pending → Arrival → Reaction
+abbrev pub save : Client → Pending → ArrivedTuple → Reaction
 save c pending a =
     no_reaction (if is_saved pending a then c else with_pending c (save_last a pending))
 
 -- an offer for a ticket that is not open is cancelled; a copy for one is ignored
-abbrev pub on_stray : Client → Bool → Arrival → Reaction
+abbrev pub on_stray : Client → Bool → ArrivedTuple → Reaction
 on_stray c true a = send ((a.server, messages.Cancel a.ticket) ∷ []) c
 on_stray c false a = no_reaction c
 
 -- an offer, or a copy, given what its ticket asked: what does not fit is ignored, and what fits is
 -- saved while an Accept is unanswered
-abbrev pub on_arrival_for : Client → Pending → Bool → Arrival → Option Ask → Answer
+abbrev pub on_arrival_for : Client → Pending → Bool → ArrivedTuple → Option Ask → Answer
 on_arrival_for c pending remove a None = Ok (on_stray c remove a)
 on_arrival_for c pending remove a (Some ask) =
     if not (is_fit ask remove a.tuple) then Ok (no_reaction c)
@@ -175,7 +175,7 @@ on_arrival_for c pending remove a (Some ask) =
     else take_up c pending a ask)
 
 -- an offer (true) or a copy (false) has arrived, given the synchronization that is pending
-abbrev pub on_arrival : Client → Option Pending → Bool → Arrival → Answer
+abbrev pub on_arrival : Client → Option Pending → Bool → ArrivedTuple → Answer
 on_arrival c None remove a = Ok (on_stray c remove a)
 on_arrival c (Some pending) remove a = on_arrival_for c pending remove a (ask_at pending a.ticket)
 
@@ -208,13 +208,13 @@ on_alarm c pending (Some alarm) =
 on_alarm c pending None = no_reaction (with_pending c pending)
 
 -- an arrival that was saved, given what its ticket asked
-abbrev pub on_saved : Client → Pending → Arrival → Option Ask → Answer
+abbrev pub on_saved : Client → Pending → ArrivedTuple → Option Ask → Answer
 on_saved c pending a None = Ok (no_reaction (with_pending c pending))
 on_saved c pending a (Some ask) = take_up c pending a ask
 
 -- A synchronization goes on without the offer that it accepted: with the oldest arrival that it
 -- saved, which is saved no more; else with the first alarm that is ready; else it waits.
-abbrev pub go_on : Client → Pending → List Arrival → Answer
+abbrev pub go_on : Client → Pending → List ArrivedTuple → Answer
 go_on c pending [] = Ok (on_alarm c (let_go pending) (first_alarm c.clock pending.event))
 go_on c pending (a ∷ rest) =
     on_saved c (record pending { accepted = None; saved = rest }) a (ask_at pending a.ticket)

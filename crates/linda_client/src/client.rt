@@ -21,11 +21,11 @@ ghost use Rattle.linda_client.specs.declared.task.Task.TheVariants as tasks;
 ghost use Rattle.linda_client.specs.Client.{IsClient, OfPending, has_left, is_idle, next_at};
 ghost use Rattle.linda_client.specs.Client.{pending_in};
 ghost use Rattle.linda_client.specs.Client.{servers, with_pending};
-ghost use Rattle.linda_client.specs.Pending.{FitsOpen, IsOpenInput, IsPending, let_go};
+ghost use Rattle.linda_client.specs.Pending.{FitsOpen, IsOpenInput, let_go};
 ghost use Rattle.linda_client.specs.Pending.{save_last, take_oldest, ticket_count};
 ghost use Rattle.linda_client.specs.React.{leave, new_client, on_left, out_server, put, use_number};
 
-use crate::arrival::{Accepted, Arrival};
+use crate::arrived_tuple::{Accepted, ArrivedTuple};
 use crate::fault::ClientFault;
 use crate::leaves::Leaves;
 use crate::limits::MAX_SERVERS;
@@ -243,7 +243,7 @@ impl Client {
     }
 
     // An arrival is saved; or memory runs out, and the client is as before.
-    fn save(&mut self, arrival: Arrival) -> Result<(), AllocError>
+    fn save(&mut self, arrival: ArrivedTuple) -> Result<(), AllocError>
         requires server { arrival.server < servers self.old }
         requires fits { OfPending self.old (λ p. FitsOpen p arrival) }
         requires accepted { OfPending self.old (λ p. is_some p.accepted ≡ true) }

@@ -5,7 +5,7 @@
 //! fails to hold, whatever is called and whatever servers reply, in whatever order and however
 //! often.
 
-ghost use Rattle.std.specs.Prelude.{◌≡◌, ◌≤◌, ℕ, All};
+ghost use Rattle.std.specs.Prelude.{◌≤◌, ℕ, All};
 ghost use Rattle.linda_client.specs.declared.limits.TheConstants.{MAX_SERVERS};
 ghost use Rattle.linda_client.specs.Client.{IsClient, pending_in};
 ghost use Rattle.linda_client.specs.Ending.{TakenBy};

@@ -13,7 +13,7 @@
 //! A call that may take memory has a fault for that; no other call takes any.
 #![tactic(auto)]
 
-mod arrival;
+mod arrived_tuple;
 mod ask;
 mod call;
 mod client;

@@ -1,7 +1,6 @@
 //! Packets: messages with the servers that they go to.
 
 ghost use Rattle.std.specs.Prelude.{◌≡◌, [], ◌∷◌, ◌++◌, ◌==◌, filter, IfOk, OnOk};
-ghost use Rattle.linda_wire.specs.declared.message.Message.TheVariants as messages;
 ghost use Rattle.linda_client.specs.Packets.{asks_to_all, cancels_of, is_spared};
 
 use crate::ask::Ask;

@@ -8,7 +8,7 @@ ghost use Rattle.linda_wire.specs.declared.limits.TheConstants.{NUMBER_LIMIT};
 ghost use Rattle.linda_event.specs.Limits.{IsWithinLimits};
 ghost use Rattle.linda_event.specs.Paths.{all_nacks};
 ghost use Rattle.linda_event.specs.Trees.{tree_of};
-ghost use Rattle.linda_client.specs.Arrival.{arrival_of};
+ghost use Rattle.linda_client.specs.ArrivedTuple.{arrival_of};
 ghost use Rattle.linda_client.specs.Ask.{asks as asks_of, alarms as alarms_of, first_alarm};
 ghost use Rattle.linda_client.specs.Packets.{ask_packets, cancels_but, is_of, sent_for, spared};
 ghost use Rattle.linda_client.specs.Pending.{FitsOpen, IsOpenInput, IsPending, ask_at, is_saved};
@@ -17,7 +17,7 @@ ghost use Rattle.linda_client.specs.Pending.{ticket_count};
 ghost use Rattle.linda_client.specs.React.{ask_of_taken, awaits};
 ghost use Rattle.linda_client.specs.Reaction.{commitment};
 
-use crate::arrival::{Accepted, Arrival, Arriving};
+use crate::arrived_tuple::{Accepted, ArrivedTuple, Arriving};
 use crate::ask::{Alarm, Ask, first_due};
 use crate::outcome::{Bindings, Got, Outcome};
 use crate::packet::{push_asked, push_cancelled};
@@ -41,7 +41,7 @@ pub(crate) struct Pending {
     alarms: Vec<Alarm>,
     first: u64,
     accepted: Option<Accepted>,
-    saved: VecDeque<Arrival>,
+    saved: VecDeque<ArrivedTuple>,
 }
 
 impl Model for Pending {
@@ -154,7 +154,7 @@ impl Pending {
     }
 
     /// The arrival that has been saved longest.
-    pub(crate) fn oldest(&self) -> &Arrival
+    pub(crate) fn oldest(&self) -> &ArrivedTuple
         requires { 0 < length self.now.saved }
         ensures oldest { slice_get self.now.saved 0 ≡ Some result.now }
         ensures fits { FitsOpen self.now result.now }
@@ -163,7 +163,7 @@ impl Pending {
     }
 
     /// What an arrival answers that fits an open ticket.
-    pub(crate) fn ask_of(&self, arrival: &Arrival) -> &Ask
+    pub(crate) fn ask_of(&self, arrival: &ArrivedTuple) -> &Ask
         requires { FitsOpen self.now arrival.now }
         ensures ask { ask_at self.now arrival.now.ticket ≡ Some result.now }
         ensures fits { Matches result.now.template arrival.now.tuple }
@@ -293,7 +293,7 @@ impl Pending {
     /// # Errors
     ///
     /// `AllocError` if memory runs out, and then the synchronization is as before.
-    pub(crate) fn save(&mut self, arrival: Arrival) -> Result<(), AllocError>
+    pub(crate) fn save(&mut self, arrival: ArrivedTuple) -> Result<(), AllocError>
         requires fits { FitsOpen self.old arrival }
         requires accepted { is_some self.old.accepted ≡ true }
         ensures ok { OnOk result (self.new ≡ save_last arrival self.old) }

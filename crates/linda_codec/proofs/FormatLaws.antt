@@ -1,5 +1,7 @@
 -- The laws of formats: those of the basic ones, and that a format made of lawful formats is lawful.
-use Rattle.std.proofs.Common.{◌≡◌, ℕ, ℤ, zero, suc, ◌^◌, ◌<◌, ◌≤◌, Bool, true, false, cond, ltb, eqb, List, [], ◌∷◌, ◌++◌, length, take, drop, Ok, Err, refl, sym, ap, subst, ◌∙◌, append_assoc, arith, length-drop}
+use Rattle.std.proofs.Common.{◌≡◌, ℕ, ℤ, zero, suc, ◌^◌, ◌<◌, ◌≤◌, Bool, true, false, cond, ltb, eqb, List, [], ◌∷◌}
+use Rattle.std.proofs.Common.{◌++◌, length, take, drop, Ok, Err, refl, sym, ap, subst, ◌∙◌, append_assoc, arith}
+use Rattle.std.proofs.Common.{length-drop}
 use Rattle.std.specs.Prelude.{if◌then◌else◌}
 use Rattle.std.specs.List.{flat_map, AllByRecursion}
 use Rattle.std.specs.Int.{Width, w16, w32, w64, byte_len, from_be_bytes, to_be_bytes, cast_signed, cast_unsigned}
@@ -13,9 +15,13 @@ use Rattle.std.proofs.lemmas.List.{take_at, drop_at, length-append, length-take}
 use Rattle.std.proofs.lemmas.Str.{is_utf8-from_IsUtf8}
 use Rattle.linda_codec.specs.declared.fault.ReadFault.TheVariants.{Short, BadText, TooMany, LongText}
 use Rattle.linda_codec.specs.Steps.{Read, Reader, ◌>>=◌, many_at}
-use Rattle.linda_codec.specs.Formats.{Format, byte_at, byte, number_at, length_at, short_length, short_number, number, integer, truth_at, truth, nothing, both, made_at, made, known_as, sized_text, count_at, counted, no_kind, body_at, choice_at}
+use Rattle.linda_codec.specs.Formats.{Format, byte_at, byte, number_at, length_at, short_length, short_number, number}
+use Rattle.linda_codec.specs.Formats.{integer, truth_at, truth, nothing, both, made_at, made, known_as, sized_text}
+use Rattle.linda_codec.specs.Formats.{count_at, counted, no_kind, body_at, choice_at}
 use Rattle.linda_codec.specs.Lawful.{IsBytes, Takes, IsBounded, IsSpelled, IsFormat}
-use Rattle.linda_codec.proofs.TakeLaws.{IsBytes-rest, bind_ok, guard_ok, guard_then, guard_right, ok_is, Takes-then, Takes-none, Takes-byte, Takes-behind, Takes-front, wide16, wide32, wide64, number_takes, number_again, byte_takes}
+use Rattle.linda_codec.proofs.TakeLaws.{IsBytes-rest, bind_ok, guard_ok, guard_then, guard_right, ok_is, Takes-then}
+use Rattle.linda_codec.proofs.TakeLaws.{Takes-none, Takes-byte, Takes-behind, Takes-front, wide16, wide32, wide64}
+use Rattle.linda_codec.proofs.TakeLaws.{number_takes, number_again, byte_takes}
 use Rattle.linda_codec.proofs.ManyLaws.{many_takes, many_again}
 use Rattle.linda_codec.proofs.BoundLaws.{more_bounded, bounded_then, guarded, many_bounded}
 
@@ -30,7 +36,8 @@ byte_is = record { takes = byte_takes; again = λ n rest fits. refl; bounded = w
 
 number_bounded : (w : Width) (bytes : List ℕ) → IsBounded (length bytes) (number_at w bytes)
 number_bounded w bytes =
-    guarded (length bytes) (ltb (length bytes) (byte_len w)) Short (Ok (from_be_bytes w (take (byte_len w) bytes), drop (byte_len w) bytes)) tt (omega (arith, length-drop (byte_len w) bytes))
+    guarded (length bytes) (ltb (length bytes) (byte_len w)) Short
+    (Ok (from_be_bytes w (take (byte_len w) bytes), drop (byte_len w) bytes)) tt (omega (arith, length-drop (byte_len w) bytes))
 
 pub short_number_is : IsFormat short_number
 short_number_is = record { takes = number_takes w32 (2 ^ 32) wide32; again = number_again w32 (2 ^ 32) wide32; bounded = number_bounded w32 }
@@ -53,7 +60,8 @@ short_length_is limit = record {
     length_bounded true bytes e = rw e tt
     length_bounded false bytes e =
         let long : 2 ≤ length bytes = ltb-false _ _ e in
-        rw e (guarded (length bytes) (ltb limit (from_be_bytes w16 (take 2 bytes))) (LongText (length bytes)) (Ok (from_be_bytes w16 (take 2 bytes), drop 2 bytes)) (omega (arith, long), omega arith) (omega (arith, length-drop 2 bytes)))
+        rw e (guarded (length bytes) (ltb limit (from_be_bytes w16 (take 2 bytes))) (LongText (length bytes))
+        (Ok (from_be_bytes w16 (take 2 bytes), drop 2 bytes)) (omega (arith, long), omega arith) (omega (arith, length-drop 2 bytes)))
 
 pub number_is : IsFormat number
 number_is = record { takes = number_takes w64 (2 ^ 64) wide64; again = number_again w64 (2 ^ 64) wide64; bounded = number_bounded w64 }
@@ -126,7 +134,8 @@ pub record IsReader {A : Type 0} (spell : A → List ℕ) (Fits : A → Type 0) 
   pub takes : (bytes : List ℕ) (x : A × List ℕ) → IsBytes bytes → read bytes ≡ Ok x → IsSpelled spell Fits (front ++ bytes) x
   pub bounded : (bytes : List ℕ) → IsBounded (length bytes) (read bytes)
 
-pub body_is : {A M : Type 0} {f : Format A} → IsFormat f → (spell : M → List ℕ) (Fits : M → Type 0) (front : List ℕ) (make : A → M) → ((a : A) → spell (make a) ≡ front ++ f.spell a) → ((a : A) → f.Fits a → Fits (make a)) → IsReader spell Fits front (made_at make f)
+pub body_is : {A M : Type 0} {f : Format A} → IsFormat f → (spell : M → List ℕ) (Fits : M → Type 0) (front : List ℕ) (make : A → M)
+    → ((a : A) → spell (make a) ≡ front ++ f.spell a) → ((a : A) → f.Fits a → Fits (make a)) → IsReader spell Fits front (made_at make f)
 body_is {M = M} {f = f} is spell Fits front make spelled fit = record {
   takes = λ bytes x fits e.
       let a = bind_ok (f.read bytes) (λ a. Ok (make a.0, a.1)) x e in
@@ -138,10 +147,12 @@ body_is {M = M} {f = f} is spell Fits front make spelled fit = record {
 }
 
 -- What a format spells is read again as what it makes.
-pub made_again : {A M : Type 0} {f : Format A} → IsFormat f → (make : A → M) (value : A) (rest : List ℕ) → f.Fits value → made_at make f (f.spell value ++ rest) ≡ Ok (make value, rest)
+pub made_again : {A M : Type 0} {f : Format A} → IsFormat f → (make : A → M) (value : A) (rest : List ℕ)
+    → f.Fits value → made_at make f (f.spell value ++ rest) ≡ Ok (make value, rest)
 made_again is make value rest fits = rw (is.again value rest fits) refl
 
-pub made_is : {A M : Type 0} {f : Format A} → IsFormat f → (make : A → M) (parts : M → A) → ((a : A) → parts (make a) ≡ a) → ((m : M) → make (parts m) ≡ m) → IsFormat (made make parts f)
+pub made_is : {A M : Type 0} {f : Format A} → IsFormat f → (make : A → M) (parts : M → A)
+    → ((a : A) → parts (make a) ≡ a) → ((m : M) → make (parts m) ≡ m) → IsFormat (made make parts f)
 made_is {A = A} {M = M} {f = f} is make parts back again = record {
   takes = reads.takes;
   again = λ m rest fits. rw (is.again (parts m) rest fits, again m) refl;
@@ -151,7 +162,8 @@ made_is {A = A} {M = M} {f = f} is make parts back again = record {
     reads : IsReader (λ m. f.spell (parts m)) (λ m. f.Fits (parts m)) [] (made_at make f)
     reads = body_is is (λ m. f.spell (parts m)) (λ m. f.Fits (parts m)) [] make (λ a. ap f.spell (back a)) (λ a fits. subst f.Fits (sym (back a)) fits)
 
-pub known_as_is : {A : Type 0} {f : Format A} → IsFormat f → (Fits : A → Type 0) → ((a : A) → f.Fits a → Fits a) → ((a : A) → Fits a → f.Fits a) → IsFormat (known_as Fits f)
+pub known_as_is : {A : Type 0} {f : Format A} → IsFormat f → (Fits : A → Type 0) → ((a : A) → f.Fits a → Fits a)
+    → ((a : A) → Fits a → f.Fits a) → IsFormat (known_as Fits f)
 known_as_is is Fits to from = record {
   takes = λ bytes x fits e. let t = is.takes bytes x fits e in (t.0, to x.0 t.1);
   again = λ a rest fits. is.again a rest (from a fits);
@@ -170,14 +182,17 @@ some_bytes zero [] e = absurd (true≢false (sym empty_text ∙ e))
 some_bytes (suc n) [] e = absurd (true≢false (sym empty_text ∙ e))
 some_bytes n (b ∷ bytes) e = omega arith
 
-told_text : (n m : ℕ) (b : Bool) (bytes : List ℕ) (x : List ℕ × List ℕ) → is_utf8 (take m bytes) ≡ b → length bytes ≤ n → length x.1 ≤ n → IsBounded n (cond b (Ok x) (Err (BadText (length bytes))))
+told_text : (n m : ℕ) (b : Bool) (bytes : List ℕ) (x : List ℕ × List ℕ) → is_utf8 (take m bytes) ≡ b
+    → length bytes ≤ n → length x.1 ≤ n → IsBounded n (cond b (Ok x) (Err (BadText (length bytes))))
 told_text n m true bytes x e le rest = rest
 told_text n m false bytes x e le rest = (some_bytes m bytes e, le)
 
 pub sized_text_is : {size : Format ℕ} → IsFormat size → IsFormat (sized_text size)
 sized_text_is {size = size} is = record {
   takes = λ bytes x fits e.
-      let a = bind_ok (size.read bytes) (λ n. if ltb (length n.1) n.0 then Err Short else (if is_utf8 (take n.0 n.1) then Ok (take n.0 n.1, drop n.0 n.1) else Err (BadText (length n.1)))) x e in
+      let a = bind_ok (size.read bytes)
+      (λ n. if ltb (length n.1) n.0 then Err Short else
+      (if is_utf8 (take n.0 n.1) then Ok (take n.0 n.1, drop n.0 n.1) else Err (BadText (length n.1)))) x e in
       let n : ℕ = a.0.0 in
       let rest : List ℕ = a.0.1 in
       let s = is.takes bytes a.0 fits a.1 in
@@ -192,9 +207,18 @@ sized_text_is {size = size} is = record {
       (subst (λ (k : ℕ). Takes bytes (size.spell k ++ take n rest) (drop n rest)) len whole, (subst size.Fits len s.1, t.0));
   again = λ t rest fits.
       let long : ltb (length (t ++ rest)) (length t) ≡ false = le-ltb _ _ (omega (arith, length-append t rest)) in
-      rw (append_assoc (size.spell (length t)) t rest, is.again (length t) (t ++ rest) fits.0, long, take_at t rest (length t) refl, drop_at t rest (length t) refl, fits.1) refl;
+      rw (
+        append_assoc (size.spell (length t)) t rest,
+        is.again (length t) (t ++ rest) fits.0,
+        long,
+        take_at t rest (length t) refl,
+        drop_at t rest (length t) refl,
+        fits.1,
+      ) refl;
   bounded = λ bytes.
-      bounded_then (length bytes) (size.read bytes) (λ n. if ltb (length n.1) n.0 then Err Short else (if is_utf8 (take n.0 n.1) then Ok (take n.0 n.1, drop n.0 n.1) else Err (BadText (length n.1)))) (is.bounded bytes)
+      bounded_then (length bytes) (size.read bytes)
+      (λ n. if ltb (length n.1) n.0 then Err Short else
+      (if is_utf8 (take n.0 n.1) then Ok (take n.0 n.1, drop n.0 n.1) else Err (BadText (length n.1)))) (is.bounded bytes)
       (λ n. guarded (length n.1) (ltb (length n.1) n.0) Short (cond (is_utf8 (take n.0 n.1)) (Ok (take n.0 n.1, drop n.0 n.1)) (Err (BadText (length n.1)))) tt
       (told_text (length n.1) n.0 (is_utf8 (take n.0 n.1)) n.1 (take n.0 n.1, drop n.0 n.1) refl (omega arith) (omega (arith, length-drop n.0 n.1))));
 }
@@ -206,7 +230,8 @@ count_takes limit [] x fits e = absurd cc
 count_takes limit (n ∷ bytes) x fits e =
     let g = guard_ok (ltb limit n) (TooMany (suc (length bytes))) (n, bytes) x e in
     let few : n ≤ limit = ltb-false _ _ g.0 in
-    subst (λ (y : ℕ × List ℕ). Takes (n ∷ bytes) (y.0 ∷ []) y.1 × (y.0 ≤ limit)) g.1 (Takes-byte n bytes [] bytes (Takes-none bytes (IsBytes-rest n bytes fits)), few)
+    subst (λ (y : ℕ × List ℕ). Takes (n ∷ bytes) (y.0 ∷ []) y.1 × (y.0 ≤ limit)) g.1
+    (Takes-byte n bytes [] bytes (Takes-none bytes (IsBytes-rest n bytes fits)), few)
 
 count_again : (limit n : ℕ) (rest : List ℕ) → n ≤ limit → count_at limit (n ∷ rest) ≡ Ok (n, rest)
 count_again limit n rest few =
@@ -215,7 +240,8 @@ count_again limit n rest few =
 
 count_bounded : (limit : ℕ) (bytes : List ℕ) → IsBounded (length bytes) (count_at limit bytes)
 count_bounded limit [] = tt
-count_bounded limit (n ∷ bytes) = guarded (suc (length bytes)) (ltb limit n) (TooMany (suc (length bytes))) (Ok (n, bytes)) (omega arith, omega arith) (omega arith)
+count_bounded limit (n ∷ bytes) = guarded (suc (length bytes)) (ltb limit n) (TooMany (suc (length bytes)))
+    (Ok (n, bytes)) (omega arith, omega arith) (omega arith)
 
 pub counted_is : {A : Type 0} (limit : ℕ) {f : Format A} → IsFormat f → IsFormat (counted limit f)
 counted_is {A = A} limit {f = f} is = record {
@@ -223,11 +249,14 @@ counted_is {A = A} limit {f = f} is = record {
       let a = bind_ok (count_at limit bytes) (λ count. many_at f.read count.0 count.1) x e in
       let c = count_takes limit bytes a.0 fits a.1 in
       let m = many_takes f.read f.spell f.Fits is.takes a.0.0 a.0.1 x c.0.rest_fits a.2 in
-      let whole : Takes bytes (a.0.0 ∷ flat_map f.spell x.0) x.1 = Takes-then bytes (a.0.0 ∷ []) a.0.1 (flat_map f.spell x.0) x.1 c.0 m.0 in
-      (subst (λ (k : ℕ). Takes bytes (k ∷ flat_map f.spell x.0) x.1) {x = a.0.0} {y = length x.0} (sym {a = length x.0} m.1) whole, (omega (arith, m.1, c.1), m.2));
+      let whole : Takes bytes (a.0.0 ∷ flat_map f.spell x.0) x.1 = Takes-then bytes (a.0.0 ∷ []) a.0.1 (flat_map f.spell x.0) x.1 c.0 m.0 in (
+        subst (λ (k : ℕ). Takes bytes (k ∷ flat_map f.spell x.0) x.1) {x = a.0.0} {y = length x.0} (sym {a = length x.0} m.1) whole,
+        (omega (arith, m.1, c.1), m.2),
+      );
   again = λ items rest fits.
       rw (count_again limit (length items) (flat_map f.spell items ++ rest) fits.0) (many_again f.read f.spell f.Fits is.again items rest fits.1);
-  bounded = λ bytes. bounded_then (length bytes) (count_at limit bytes) (λ count. many_at f.read count.0 count.1) (count_bounded limit bytes) (λ count. many_bounded f.read is.bounded count.0 count.1);
+  bounded = λ bytes. bounded_then (length bytes) (count_at limit bytes) (λ count. many_at f.read count.0 count.1)
+      (count_bounded limit bytes) (λ count. many_bounded f.read is.bounded count.0 count.1);
 }
 
 -- ---- a choice by a kind byte
@@ -247,11 +276,14 @@ no_kind_is {A = A} spell Fits = record { takes = none; bounded = within }
 abbrev pub AreBodies : {A : Type 0} → (A → List ℕ) → (A → Type 0) → List (ℕ × Reader A) → Type 0
 AreBodies spell Fits rows = AllByRecursion (λ row. IsReader spell Fits (row.0 ∷ []) row.1) rows
 
-picked : {A : Type 0} (kind one : ℕ) (test : Bool) (P : ℕ → Type 0) (body others : Read A) (x : A × List ℕ) → (test ≡ true → kind ≡ one) → (body ≡ Ok x → P one) → (others ≡ Ok x → P kind) → cond test body others ≡ Ok x → P kind
+picked : {A : Type 0} (kind one : ℕ) (test : Bool) (P : ℕ → Type 0) (body others : Read A) (x : A × List ℕ)
+    → (test ≡ true → kind ≡ one) → (body ≡ Ok x → P one) → (others ≡ Ok x → P kind) → cond test body others ≡ Ok x → P kind
 picked kind one true P body others x same here there e = subst P (sym (same refl)) (here e)
 picked kind one false P body others x same here there e = there e
 
-kinds_take : {A : Type 0} (spell : A → List ℕ) (Fits : A → Type 0) (rows : List (ℕ × Reader A)) (other : Reader A) → AreBodies spell Fits rows → IsReader spell Fits [] other → (kind : ℕ) (bytes : List ℕ) (x : A × List ℕ) → IsBytes (kind ∷ bytes) → body_at rows other kind bytes ≡ Ok x → IsSpelled spell Fits (kind ∷ bytes) x
+kinds_take : {A : Type 0} (spell : A → List ℕ) (Fits : A → Type 0) (rows : List (ℕ × Reader A)) (other : Reader A) → AreBodies spell Fits rows
+    → IsReader spell Fits [] other → (kind : ℕ) (bytes : List ℕ) (x : A × List ℕ) → IsBytes (kind ∷ bytes)
+    → body_at rows other kind bytes ≡ Ok x → IsSpelled spell Fits (kind ∷ bytes) x
 kinds_take spell Fits [] other all by_default kind bytes x fits e = by_default.takes (kind ∷ bytes) x fits e
 kinds_take spell Fits (row ∷ rows) other all by_default kind bytes x fits e =
     picked kind row.0 (eqb kind row.0) (λ k. IsSpelled spell Fits (k ∷ bytes) x) (row.1 bytes) (body_at rows other kind bytes) x (eqb-true kind row.0)
@@ -261,15 +293,19 @@ either_bounded : {A : Type 0} (n : ℕ) (test : Bool) (body others : Read A) →
 either_bounded n true body others here there = here
 either_bounded n false body others here there = there
 
-kinds_bounded : {A : Type 0} (spell : A → List ℕ) (Fits : A → Type 0) (rows : List (ℕ × Reader A)) (other : Reader A) → AreBodies spell Fits rows → IsReader spell Fits [] other → (kind : ℕ) (bytes : List ℕ) → IsBounded (suc (length bytes)) (body_at rows other kind bytes)
+kinds_bounded : {A : Type 0} (spell : A → List ℕ) (Fits : A → Type 0) (rows : List (ℕ × Reader A)) (other : Reader A) → AreBodies spell Fits rows
+    → IsReader spell Fits [] other → (kind : ℕ) (bytes : List ℕ) → IsBounded (suc (length bytes)) (body_at rows other kind bytes)
 kinds_bounded spell Fits [] other all by_default kind bytes = by_default.bounded (kind ∷ bytes)
 kinds_bounded spell Fits (row ∷ rows) other all by_default kind bytes =
     either_bounded (suc (length bytes)) (eqb kind row.0) (row.1 bytes) (body_at rows other kind bytes)
-    (more_bounded (length bytes) (suc (length bytes)) (row.1 bytes) (omega arith) (all.0.bounded bytes)) (kinds_bounded spell Fits rows other all.1 by_default kind bytes)
+    (more_bounded (length bytes) (suc (length bytes)) (row.1 bytes) (omega arith) (all.0.bounded bytes))
+    (kinds_bounded spell Fits rows other all.1 by_default kind bytes)
 
 -- A choice by a kind byte among lawful bodies, and another lawful reader for the rest.
-pub choice_is : {A : Type 0} (spell : A → List ℕ) (Fits : A → Type 0) (rows : List (ℕ × Reader A)) (other : Reader A) → AreBodies spell Fits rows → IsReader spell Fits [] other
-    → ((a : A) (rest : List ℕ) → Fits a → choice_at rows other (spell a ++ rest) ≡ Ok (a, rest)) → IsFormat record { spell = spell; Fits = Fits; read = choice_at rows other }
+pub choice_is : {A : Type 0} (spell : A → List ℕ) (Fits : A → Type 0) (rows : List (ℕ × Reader A)) (other : Reader A)
+    → AreBodies spell Fits rows → IsReader spell Fits [] other
+    → ((a : A) (rest : List ℕ) → Fits a → choice_at rows other (spell a ++ rest) ≡ Ok (a, rest))
+    → IsFormat record { spell = spell; Fits = Fits; read = choice_at rows other }
 choice_is {A = A} spell Fits rows other all by_default again = record { takes = takes; again = again; bounded = bounded }
   where
     takes : (bytes : List ℕ) (x : A × List ℕ) → IsBytes bytes → choice_at rows other bytes ≡ Ok x → IsSpelled spell Fits bytes x

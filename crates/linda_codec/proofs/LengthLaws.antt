@@ -19,9 +19,11 @@ atom_short One (atoms.Text t) sound = omega (arith, sound.0)
 atom_short Two (atoms.Text t) sound = omega (arith, sound.0)
 atom_short form (atoms.Bool b) sound = omega arith
 
-atoms_short : (form : Form) (many : List Atom) → AllByRecursion (IsSoundIn form) many → length (flat_map (value.atom form).spell many) ≤ MAX_ATOM_BYTES * length many
+atoms_short : (form : Form) (many : List Atom) → AllByRecursion (IsSoundIn form) many
+    → length (flat_map (value.atom form).spell many) ≤ MAX_ATOM_BYTES * length many
 atoms_short form [] sound = omega arith
-atoms_short form (a ∷ many) sound = omega (arith, atom_short form a sound.0, atoms_short form many sound.1, length-append ((value.atom form).spell a) (flat_map (value.atom form).spell many))
+atoms_short form (a ∷ many) sound =
+    omega (arith, atom_short form a sound.0, atoms_short form many sound.1, length-append ((value.atom form).spell a) (flat_map (value.atom form).spell many))
 
 -- A tuple that has a spelling spells no more bytes than any.
 pub tuple_short : (form : Form) (t : Tuple) → FitsIn form t → length ((value.tuple form).spell t) ≤ MAX_TUPLE_BYTES

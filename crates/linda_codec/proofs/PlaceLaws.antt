@@ -16,11 +16,13 @@ end_of front rest bytes e =
     (omega arith, sym (ap (drop (length bytes - length rest)) e ∙ drop_at front rest (length bytes - length rest) count))
 
 -- What is read from the offset on is spelled so, fits, and ends within the bytes.
-pub is_found : {A : Type 0} {f : Format A} → IsFormat f → (bytes tail : List ℕ) (at : ℕ) (x : A × List ℕ) → IsBytes bytes → tail ≡ drop at bytes → f.read tail ≡ Ok x
+pub is_found : {A : Type 0} {f : Format A} → IsFormat f → (bytes tail : List ℕ) (at : ℕ) (x : A × List ℕ)
+    → IsBytes bytes → tail ≡ drop at bytes → f.read tail ≡ Ok x
     → f.Fits x.0 × (length x.1 ≤ length bytes) × (drop at bytes ≡ f.spell x.0 ++ drop (length bytes - length x.1) bytes)
 is_found {f = f} is bytes tail at x fits is_tail e =
     let t = is.takes (drop at bytes) x (IsBytes-drop at bytes fits) (ap f.read (sym is_tail) ∙ e) in
-    let whole : bytes ≡ (take at bytes ++ f.spell x.0) ++ x.1 = sym (take-append-drop at bytes) ∙ ap (λ (w : List ℕ). take at bytes ++ w) t.0.parts ∙ sym (append_assoc (take at bytes) (f.spell x.0) x.1) in
+    let whole : bytes ≡ (take at bytes ++ f.spell x.0) ++ x.1 = sym (take-append-drop at bytes)
+    ∙ ap (λ (w : List ℕ). take at bytes ++ w) t.0.parts ∙ sym (append_assoc (take at bytes) (f.spell x.0) x.1) in
     let end = end_of (take at bytes ++ f.spell x.0) x.1 bytes whole in
     (t.1, end.0, t.0.parts ∙ ap (λ (w : List ℕ). f.spell x.0 ++ w) end.1)
 
@@ -34,7 +36,8 @@ is_only {A = A} {f = f} is bytes tail at x is_tail e a rest fits spelled =
     (ap (λ (y : A × List ℕ). y.0) same, ap (λ (y : A × List ℕ). y.1) same)
 
 -- Where a value is spelled from the offset on, the only fault is want of memory.
-pub no_fault : {A : Type 0} {f : Format A} → IsFormat f → (bytes tail : List ℕ) (at n : ℕ) (fault told : ReadFault) → tail ≡ drop at bytes → (fault ≢ Memory → f.read tail ≡ Err fault) → told ≡ placed n fault
+pub no_fault : {A : Type 0} {f : Format A} → IsFormat f → (bytes tail : List ℕ) (at n : ℕ) (fault told : ReadFault)
+    → tail ≡ drop at bytes → (fault ≢ Memory → f.read tail ≡ Err fault) → told ≡ placed n fault
     → (a : A) (rest : List ℕ) → f.Fits a → drop at bytes ≡ f.spell a ++ rest → told ≢ Memory → ⊥
 no_fault {f = f} is bytes tail at n fault told is_tail fails is_told a rest fits spelled not_memory =
     let found : f.read tail ≡ Ok (a, rest) = ap f.read (is_tail ∙ spelled) ∙ is.again a rest fits in

@@ -26,7 +26,8 @@ left_then (Ok x) next rest total e others = rw (ok_is x.1 rest e) (others x.0)
 left_then (Err fault) next rest total e others = absurd cc
 
 -- A step that fails.
-pub left_fault : {F A B : Type 0} (step : ReadOr F A) (next : A × List ℕ → ReadOr F B) (fault : F) → left_by step ≡ Err fault → left_by (step >>= next) ≡ Err fault
+pub left_fault : {F A B : Type 0} (step : ReadOr F A) (next : A × List ℕ → ReadOr F B) (fault : F)
+    → left_by step ≡ Err fault → left_by (step >>= next) ≡ Err fault
 left_fault (Ok x) next fault e = absurd cc
 left_fault (Err f) next fault e = e
 
@@ -36,22 +37,27 @@ left_made (Ok x) make = refl
 left_made (Err fault) make = refl
 
 -- Behind what the first of two formats reads, the second one leaves what both leave.
-pub left_behind : {A B : Type 0} (f : Format A) (g : Format B) (bytes : List ℕ) (a : A) (rest : List ℕ) → f.read bytes ≡ Ok (a, rest) → left_by ((both f g).read bytes) ≡ left_by (g.read rest)
+pub left_behind : {A B : Type 0} (f : Format A) (g : Format B) (bytes : List ℕ) (a : A) (rest : List ℕ)
+    → f.read bytes ≡ Ok (a, rest) → left_by ((both f g).read bytes) ≡ left_by (g.read rest)
 left_behind f g bytes a rest e = rw e (left_made (g.read rest) (λ b. (a, b)))
 
 -- Behind a tag and a count, so many values leave what all of it leaves.
-pub left_tagged : {A : Type 0} (form : Form) (f : Format A) (bytes rest : List ℕ) (count : ℕ × List ℕ) → left_by ((atom form).read bytes) ≡ Ok rest → count_at (most_fields form) rest ≡ Ok count
+pub left_tagged : {A : Type 0} (form : Form) (f : Format A) (bytes rest : List ℕ) (count : ℕ × List ℕ)
+    → left_by ((atom form).read bytes) ≡ Ok rest → count_at (most_fields form) rest ≡ Ok count
     → left_by ((tagged form f).read bytes) ≡ left_by (many_at f.read count.0 count.1)
 left_tagged form f bytes rest count tag some =
-    left_then ((atom form).read bytes) (λ a. (counted (most_fields form) f).read a.1 >>= λ b. Ok ((a.0, b.0), b.1)) rest (left_by (many_at f.read count.0 count.1)) tag
+    left_then ((atom form).read bytes) (λ a. (counted (most_fields form) f).read a.1 >>= λ b. Ok ((a.0, b.0), b.1)) rest
+    (left_by (many_at f.read count.0 count.1)) tag
     (λ a. rw some (left_made (many_at f.read count.0 count.1) (λ b. (a, b))))
 
 -- A fault of the tag.
-pub tag_fault : {A : Type 0} (form : Form) (f : Format A) (bytes : List ℕ) (fault : ReadFault) → left_by ((atom form).read bytes) ≡ Err fault → left_by ((tagged form f).read bytes) ≡ Err fault
+pub tag_fault : {A : Type 0} (form : Form) (f : Format A) (bytes : List ℕ) (fault : ReadFault)
+    → left_by ((atom form).read bytes) ≡ Err fault → left_by ((tagged form f).read bytes) ≡ Err fault
 tag_fault form f bytes fault e = left_fault ((atom form).read bytes) (λ a. (counted (most_fields form) f).read a.1 >>= λ b. Ok ((a.0, b.0), b.1)) fault e
 
 -- A fault of the count.
-pub count_fault : {A : Type 0} (form : Form) (f : Format A) (bytes rest : List ℕ) (fault : ReadFault) → left_by ((atom form).read bytes) ≡ Ok rest → count_at (most_fields form) rest ≡ Err fault → left_by ((tagged form f).read bytes) ≡ Err fault
+pub count_fault : {A : Type 0} (form : Form) (f : Format A) (bytes rest : List ℕ) (fault : ReadFault)
+    → left_by ((atom form).read bytes) ≡ Ok rest → count_at (most_fields form) rest ≡ Err fault → left_by ((tagged form f).read bytes) ≡ Err fault
 count_fault form f bytes rest fault tag none =
     left_then ((atom form).read bytes) (λ a. (counted (most_fields form) f).read a.1 >>= λ b. Ok ((a.0, b.0), b.1)) rest (Err fault) tag (λ a. rw none refl)
 
@@ -62,24 +68,29 @@ skips_from read count bytes =
     let k : count - 0 ≡ count = omega arith in
     rw k refl
 
-pub skips_on : {A : Type 0} (read : Reader A) (count i : ℕ) (bytes after : List ℕ) (total : Result (List ℕ) ReadFault) → i < count → left_by (read bytes) ≡ Ok after
+pub skips_on : {A : Type 0} (read : Reader A) (count i : ℕ) (bytes after : List ℕ) (total : Result (List ℕ) ReadFault)
+    → i < count → left_by (read bytes) ≡ Ok after
     → left_by (many_at read (count - i) bytes) ≡ total → left_by (many_at read (count - (i + 1)) after) ≡ total
 unfolding many_at
 skips_on read count i bytes after total lt one so_far =
     let k : count - i ≡ suc (count - (i + 1)) = omega arith in
     let same : left_by (many_at read (count - i) bytes) ≡ left_by (many_at read (count - (i + 1)) after) =
-    rw k (left_then (read bytes) (λ first. many_at read (count - (i + 1)) first.1 >>= λ others. Ok (first.0 ∷ others.0, others.1)) after (left_by (many_at read (count - (i + 1)) after)) one (λ a. left_made (many_at read (count - (i + 1)) after) (λ others. a ∷ others))) in
+    rw k (left_then (read bytes) (λ first. many_at read (count - (i + 1)) first.1 >>= λ others. Ok (first.0 ∷ others.0, others.1)) after
+    (left_by (many_at read (count - (i + 1)) after)) one (λ a. left_made (many_at read (count - (i + 1)) after) (λ others. a ∷ others))) in
     sym same ∙ so_far
 
-pub skips_end : {A : Type 0} (read : Reader A) (fault : ReadFault) (count i : ℕ) (bytes : List ℕ) (total : Result (List ℕ) ReadFault) → i < count → left_by (read bytes) ≡ Err fault
+pub skips_end : {A : Type 0} (read : Reader A) (fault : ReadFault) (count i : ℕ) (bytes : List ℕ) (total : Result (List ℕ) ReadFault)
+    → i < count → left_by (read bytes) ≡ Err fault
     → left_by (many_at read (count - i) bytes) ≡ total → total ≡ Err fault
 unfolding many_at
 skips_end read fault count i bytes total lt fails so_far =
     let k : count - i ≡ suc (count - (i + 1)) = omega arith in
-    let same : left_by (many_at read (count - i) bytes) ≡ Err fault = rw k (left_fault (read bytes) (λ first. many_at read (count - (i + 1)) first.1 >>= λ others. Ok (first.0 ∷ others.0, others.1)) fault fails) in
+    let same : left_by (many_at read (count - i) bytes) ≡ Err fault =
+    rw k (left_fault (read bytes) (λ first. many_at read (count - (i + 1)) first.1 >>= λ others. Ok (first.0 ∷ others.0, others.1)) fault fails) in
     sym so_far ∙ same
 
-pub skips_done : {A : Type 0} (read : Reader A) (count i : ℕ) (bytes : List ℕ) (total : Result (List ℕ) ReadFault) → count ≤ i → left_by (many_at read (count - i) bytes) ≡ total → total ≡ Ok bytes
+pub skips_done : {A : Type 0} (read : Reader A) (count i : ℕ) (bytes : List ℕ) (total : Result (List ℕ) ReadFault)
+    → count ≤ i → left_by (many_at read (count - i) bytes) ≡ total → total ≡ Ok bytes
 unfolding many_at
 skips_done read count i bytes total le so_far =
     let k : count - i ≡ 0 = omega arith in

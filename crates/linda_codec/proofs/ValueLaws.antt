@@ -14,7 +14,9 @@ use Rattle.linda_codec.specs.declared.kinds.TheConstants.{INTEGER, TEXT, TRUTH, 
 use Rattle.linda_codec.specs.Lawful.{IsFormat}
 use Rattle.linda_codec.specs.Formats.{no_kind}
 use Rattle.linda_codec.specs.Values as format
-use Rattle.linda_codec.proofs.FormatLaws.{byte_is, short_length_is, integer_is, truth_is, nothing_is, both_is, body_is, made_again, made_is, known_as_is, sized_text_is, counted_is, no_kind_is, choice_is, AreBodies}
+use Rattle.linda_codec.proofs.FormatLaws.{byte_is, short_length_is, integer_is, truth_is, nothing_is, both_is, body_is}
+use Rattle.linda_codec.proofs.FormatLaws.{made_again, made_is, known_as_is, sized_text_is, counted_is, no_kind_is}
+use Rattle.linda_codec.proofs.FormatLaws.{choice_is, AreBodies}
 
 -- The length of a text that has a spelling has one.
 length_fits : (form : Form) (n : ℕ) → n ≤ longest_text form → (format.text_length form).Fits n
@@ -39,7 +41,8 @@ atom_bodies : (form : Form) → AreBodies (format.spell_atom form) (IsSoundIn fo
 atom_bodies form = (
   body_is integer_is (format.spell_atom form) (IsSoundIn form) (INTEGER ∷ []) (λ n. atoms.Int n) (λ n. refl) (λ n fits. fits),
   (
-    body_is (text_is form) (format.spell_atom form) (IsSoundIn form) (TEXT ∷ []) (λ t. atoms.Text t) (λ t. refl) (λ t fits. (length_short form (length t) fits.0, fits.1)),
+    body_is (text_is form) (format.spell_atom form) (IsSoundIn form) (TEXT ∷ []) (λ t. atoms.Text t)
+        (λ t. refl) (λ t fits. (length_short form (length t) fits.0, fits.1)),
     (body_is truth_is (format.spell_atom form) (IsSoundIn form) (TRUTH ∷ []) (λ b. atoms.Bool b) (λ b. refl) (λ b fits. fits), tt),
   ),
 )
@@ -68,10 +71,12 @@ formal_bodies form = (
   ),
 )
 
-value_again : (form : Form) (a : Atom) (rest : List ℕ) → IsSoundIn form a → format.value_at form ((format.atom form).spell a ++ rest) ≡ Ok (patterns.Value a, rest)
+value_again : (form : Form) (a : Atom) (rest : List ℕ) → IsSoundIn form a
+    → format.value_at form ((format.atom form).spell a ++ rest) ≡ Ok (patterns.Value a, rest)
 value_again form a rest sound = made_again (atom_is form) (λ v. patterns.Value v) a rest sound
 
-pattern_again : (form : Form) (p : Pattern) (rest : List ℕ) → IsSoundPatternIn form p → (format.pattern form).read ((format.pattern form).spell p ++ rest) ≡ Ok (p, rest)
+pattern_again : (form : Form) (p : Pattern) (rest : List ℕ) → IsSoundPatternIn form p
+    → (format.pattern form).read ((format.pattern form).spell p ++ rest) ≡ Ok (p, rest)
 pattern_again form (patterns.Value (atoms.Int n)) rest sound = value_again form (atoms.Int n) rest sound
 pattern_again form (patterns.Value (atoms.Text t)) rest sound = value_again form (atoms.Text t) rest sound
 pattern_again form (patterns.Value (atoms.Bool b)) rest sound = value_again form (atoms.Bool b) rest sound
@@ -89,12 +94,14 @@ pattern_is form =
 
 pub tuple_is : (form : Form) → IsFormat (format.tuple form)
 tuple_is form =
-    known_as_is (made_is (both_is (atom_is form) (counted_is (most_fields form) (atom_is form))) (λ p. record { tag = p.0; fields = p.1 }) (λ t. (t.tag, t.fields)) (λ p. refl) (λ t. refl))
+    known_as_is (made_is (both_is (atom_is form) (counted_is (most_fields form) (atom_is form)))
+    (λ p. record { tag = p.0; fields = p.1 }) (λ t. (t.tag, t.fields)) (λ p. refl) (λ t. refl))
     (FitsIn form) (λ t fits. record { count = fits.1.0; tag = fits.0; fields = fits.1.1 }) (λ t within. (within.tag, (within.count, within.fields)))
 
 pub template_is : (form : Form) → IsFormat (format.template form)
 template_is form =
-    known_as_is (made_is (both_is (atom_is form) (counted_is (most_fields form) (pattern_is form))) (λ p. record { tag = p.0; fields = p.1 }) (λ t. (t.tag, t.fields)) (λ p. refl) (λ t. refl))
+    known_as_is (made_is (both_is (atom_is form) (counted_is (most_fields form) (pattern_is form)))
+    (λ p. record { tag = p.0; fields = p.1 }) (λ t. (t.tag, t.fields)) (λ p. refl) (λ t. refl))
     (FitsTemplateIn form) (λ t fits. record { count = fits.1.0; tag = fits.0; fields = fits.1.1 }) (λ t within. (within.tag, (within.count, within.fields)))
 
 -- ---- what has a spelling in a form is within the limits

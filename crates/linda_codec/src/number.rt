@@ -1,6 +1,5 @@
 //! Readers of numbers and of truth values, each of which gives the value and the bytes after it.
 
-ghost use Rattle.std.specs.Prelude.{◌≡◌};
 ghost use Rattle.linda_codec.specs.Steps.{GivesAlways};
 ghost use Rattle.linda_codec.specs.Formats as format;
 

@@ -2,9 +2,9 @@
 //!
 //! `Memory` is returned last: only of bytes at whose front a whole value is.
 
-ghost use Rattle.std.specs.Prelude.{◌≡◌, ◌∷◌, IsOk, IsErrOf};
+ghost use Rattle.std.specs.Prelude.{◌∷◌, [], IsOk, IsErrOf};
 ghost use Rattle.linda_tuple.specs.declared.atom.Atom.TheVariants as atoms;
-ghost use Rattle.linda_codec.specs.Steps.{Gives, GivesAlways};
+ghost use Rattle.linda_codec.specs.Steps.{Gives, GivesAlways, many_at};
 ghost use Rattle.linda_codec.specs.Formats.{integer, made_at, truth};
 ghost use Rattle.linda_codec.specs.Values as format;
 
@@ -135,8 +135,20 @@ fn build_tuple(alloc: Global, form: Form, bytes: &[u8]) -> Result<(Tuple, &[u8])
 {
     let (tag, rest) = read_atom(alloc, form, bytes)?;
     let (count, rest) = read_count(form, rest)?;
+    if count == 1 {
+        let (field, rest) = read_field(alloc, form, rest)?;
+        return Ok((Tuple::single(tag, field).shared(alloc), rest));
+    }
     let (fields, rest) = read_list(alloc, form, count, rest)?;
     Ok((Tuple::from_parts(tag, fields).shared(alloc), rest))
+}
+
+// Reads the only field of a tuple: no memory is taken for a list.
+fn read_field(alloc: Global, form: Form, bytes: &[u8]) -> Result<(Atom, &[u8]), ReadFault>
+    ensures { Gives (λ x. (x.0 ∷ [], x.1.now)) result
+        (many_at (format.atom form).read 1 bytes.now) }
+{
+    read_atom(alloc, form, bytes)
 }
 
 // Reads a template; likewise.

@@ -1,7 +1,7 @@
 //! Passing over tuples and templates: what their readers leave and which fault they return, without
 //! taking memory.
 
-ghost use Rattle.std.specs.Prelude.{◌≡◌, ◌∷◌};
+ghost use Rattle.std.specs.Prelude.{◌∷◌};
 ghost use Rattle.linda_codec.specs.Steps.{GivesAlways, left_by};
 ghost use Rattle.linda_codec.specs.Formats.{integer, truth};
 ghost use Rattle.linda_codec.specs.Values as format;

@@ -172,8 +172,8 @@ fn push_integer(out: &mut Vec<u8>, number: i64) -> Result<(), AllocError>
         ≡ out.old.items ++ INTEGER ∷ formats.integer.spell number) }
     ensures front { take (length out.old.items) out.new.items ≡ out.old.items }
 {
-    out.push(INTEGER)?;
-    out.extend_from_slice(&number.to_be_bytes())
+    let [s, t, u, v, w, x, y, z] = number.to_be_bytes();
+    out.extend_from_slice(&[INTEGER, s, t, u, v, w, x, y, z])
 }
 
 // Appends the kind of a text, its length and the text; likewise.
@@ -183,8 +183,7 @@ fn push_text(form: Form, out: &mut Vec<u8>, text: &Text) -> Result<(), AllocErro
         ≡ out.old.items ++ TEXT ∷ (format.text form).spell text.now) }
     ensures front { take (length out.old.items) out.new.items ≡ out.old.items }
 {
-    out.push(TEXT)?;
-    push_text_length(form, out, text.len())?;
+    push_text_head(form, out, text.len())?;
     out.extend_from_slice(text.as_str().as_bytes())
 }
 
@@ -193,23 +192,21 @@ fn push_truth(out: &mut Vec<u8>, truth: bool) -> Result<(), AllocError>
     ensures ok { OnOk result (out.new.items ≡ out.old.items ++ TRUTH ∷ formats.truth.spell truth) }
     ensures front { take (length out.old.items) out.new.items ≡ out.old.items }
 {
-    out.push(TRUTH)?;
-    out.push(u8::from(truth))?;
-    Ok(())
+    out.extend_from_slice(&[TRUTH, u8::from(truth)])
 }
 
-// Appends the length of a text; if memory runs out, a part of it may be after the old bytes.
-fn push_text_length(form: Form, out: &mut Vec<u8>, len: usize) -> Result<(), AllocError>
+// Appends the kind of a text and its length; likewise.
+fn push_text_head(form: Form, out: &mut Vec<u8>, len: usize) -> Result<(), AllocError>
     requires { len ≤ longest_text form }
     ensures ok { OnOk result (out.new.items
-        ≡ out.old.items ++ (format.text_length form).spell len) }
+        ≡ out.old.items ++ TEXT ∷ (format.text_length form).spell len) }
     ensures front { take (length out.old.items) out.new.items ≡ out.old.items }
 {
     match form {
-        Form::One => {
-            out.push(len as u8)?;
-            Ok(())
+        Form::One => out.extend_from_slice(&[TEXT, len as u8]),
+        Form::Two => {
+            let [high, low] = (len as u16).to_be_bytes();
+            out.extend_from_slice(&[TEXT, high, low])
         }
-        Form::Two => out.extend_from_slice(&(len as u16).to_be_bytes()),
     }
 }

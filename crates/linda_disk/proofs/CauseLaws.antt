@@ -5,7 +5,8 @@ use Rattle.linda_disk.specs.declared.fault.DiskFault.TheVariants.{Device, Memory
 use Rattle.linda_disk.specs.Disk.{CountsFailure, TellsFailures}
 
 -- A fault that is counted from a count that stayed is counted from the beginning, whatever else the call would return.
-pub fails_on : {T U : Type 0} (fault : DiskFault) (old mid new : ℕ) → mid ≡ old → CountsFailure {T = T} (Err fault) mid new → CountsFailure {T = U} (Err fault) old new
+pub fails_on : {T U : Type 0} (fault : DiskFault) (old mid new : ℕ) → mid ≡ old
+    → CountsFailure {T = T} (Err fault) mid new → CountsFailure {T = U} (Err fault) old new
 fails_on Device old mid new same counts = record {
   ok = tt;
   memory = λ is. cc;
@@ -18,7 +19,8 @@ fails_on Memory old mid new same counts = record {
 }
 
 -- A fault that is the device's exactly where another one is tells the same.
-pub renamed : {F G : Type 0} (device told : F) (failed fault : G) (old new : ℕ) → (told ≡ device) ↔ (fault ≡ failed) → TellsFailures failed fault old new → TellsFailures device told old new
+pub renamed : {F G : Type 0} (device told : F) (failed fault : G) (old new : ℕ) → (told ≡ device) ↔ (fault ≡ failed)
+    → TellsFailures failed fault old new → TellsFailures device told old new
 renamed device told failed fault old new same tells = record {
   cause = λ is. tells.cause (same.0 is);
   others = λ not. tells.others (λ is. not (same.1 is));

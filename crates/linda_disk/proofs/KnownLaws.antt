@@ -2,11 +2,11 @@
 use Rattle.std.proofs.Common.{◌≡◌, ℕ, zero, suc, ◌<◌, ◌≤◌, true, List, [], ◌∷◌, length, take}
 use Rattle.std.proofs.Common.{refl, ap, arith}
 use Rattle.linda_disk.specs.Image.{overlay}
-use Rattle.linda_disk.specs.History.{History, content, content_from, fits, fits_from}
+use Rattle.linda_disk.specs.DiskHistory.{DiskHistory, content, content_from, fits, fits_from}
 use Rattle.linda_disk.specs.Past.{first_or, first_after}
 
 -- A file of which no call is on record reads as it did when it was opened.
-pub as_opened : (h : History) → h.calls ≡ [] → (content h ≡ h.first) × (fits h ≡ true)
+pub as_opened : (h : DiskHistory) → h.calls ≡ [] → (content h ≡ h.first) × (fits h ≡ true)
 as_opened h none = (ap (content_from h.first) none, ap (fits_from h.first) none)
 
 -- Where all or some of its bytes were read first, its first byte is theirs.

@@ -8,12 +8,12 @@ use Rattle.linda_disk.specs.declared.trouble.Turn.TheVariants.{Works, Stops, Fai
 use Rattle.linda_disk.specs.declared.trouble.Trouble.{Trouble}
 use Rattle.linda_disk.specs.declared.mem_disk.MemDisk.{MemDisk}
 use Rattle.linda_disk.specs.Disk.{Syncs}
-use Rattle.linda_disk.specs.History.{History, after, fits, Leaves, view_of}
-use Rattle.linda_disk.specs.HistoryLaws.{left_kept}
+use Rattle.linda_disk.specs.DiskHistory.{DiskHistory, after, fits, Leaves, view_of}
+use Rattle.linda_disk.specs.DiskHistoryLaws.{left_kept}
 use Rattle.linda_disk.specs.MemDisk.{view, answer_at, history_at, GoesBy}
 
 -- A sync on record.
-pub synced : (h : History) → fits h ≡ true → Syncs {T = Unit {0}} (Ok tt) (view_of h) (view_of (after Sync h))
+pub synced : (h : DiskHistory) → fits h ≡ true → Syncs {T = Unit {0}} (Ok tt) (view_of h) (view_of (after Sync h))
 synced h fit = record {
   seen = refl;
   durable = λ image is. is;
@@ -27,7 +27,7 @@ synced h fit = record {
 }
 
 -- A sync that reports a failure is not.
-not_synced : (h : History) (fault : DiskFault) → Syncs {T = Unit {0}} (Err fault) (view_of h) (view_of h)
+not_synced : (h : DiskHistory) (fault : DiskFault) → Syncs {T = Unit {0}} (Err fault) (view_of h) (view_of h)
 not_synced h fault = record {
   seen = tt;
   durable = tt;
@@ -41,7 +41,7 @@ not_synced h fault = record {
   clock = record { ok = tt; most = omega arith };
 }
 
-synced_at : (turn : Turn) (h : History) → fits h ≡ true
+synced_at : (turn : Turn) (h : DiskHistory) → fits h ≡ true
     → Syncs (answer_at turn) (view_of h) (view_of (history_at turn Sync h))
 synced_at Works h fit = synced h fit
 synced_at Stops h fit = not_synced h Device
@@ -53,7 +53,7 @@ told_at : (turn : Turn × Trouble) (result : Result (Unit {0}) DiskFault) (old n
 told_at turn result old new goes other =
     let at_turn = synced_at turn.0 old.history old.begun in
     let now = sym (goes.done other) in
-    let done = subst (λ (h : History). Syncs (answer_at turn.0) (view old) (view_of h)) now at_turn in
+    let done = subst (λ (h : DiskHistory). Syncs (answer_at turn.0) (view old) (view_of h)) now at_turn in
     subst (λ (r : Result (Unit {0}) DiskFault). Syncs r (view old) (view new)) (sym (goes.told other)) done
 
 -- A sync at any turn, and where memory runs out.

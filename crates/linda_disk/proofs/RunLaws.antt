@@ -1,9 +1,6 @@
 -- How a run of device calls begins and goes on, and what two runs come to.
-use Rattle.std.proofs.Common.{◌≡◌, inl, inr, ⊎_elim, ℕ, List, length, Result, sym, subst, ◌∙◌, arith}
-use Rattle.linda_disk.specs.declared.fault.DiskFault.{DiskFault}
+use Rattle.std.proofs.Common.{◌≡◌, inl, inr, ⊎_elim, ℕ, List, sym, subst, ◌∙◌, arith}
 use Rattle.linda_disk.specs.View.{View, IsDurable, IsTimed, LeavesNoMore, Follows, Elapses}
-use Rattle.linda_disk.specs.Image.{TornWrite, TornCut}
-use Rattle.linda_disk.specs.Disk.{Writes, Cuts}
 use Rattle.linda_disk.specs.Run.{LeavesOnly}
 
 -- Before the first call.

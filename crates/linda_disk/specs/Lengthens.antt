@@ -18,8 +18,8 @@ HasMore old bytes true new = new ≡ old ++ bytes
 HasMore old bytes false new = new ≡ old
 
 module _ {D : Type 0} (g : Ghosts D) where
-  -- These bytes were written behind the end of a file, or, at false, the device did not take them and
-  -- the file is as it was (`lengthen`).
+  -- These bytes were written behind the end of a file, or, at false, the device did not take them
+  -- and the file is as it was (`lengthen`).
   pub record Lengthens (bytes : List ℕ) (old : D) (result : Result Bool DiskFault) (new : D)
       : Type 0 where
     -- At each moment the file begins with all that it had.

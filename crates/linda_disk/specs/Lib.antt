@@ -4,8 +4,8 @@ pub mod Disk
 pub mod Run
 pub mod Runs
 pub mod Lengthens
-pub mod History
-pub mod HistoryLaws
+pub mod DiskHistory
+pub mod DiskHistoryLaws
 pub mod Trouble
 pub mod MemDisk
 pub mod Past

@@ -9,10 +9,10 @@ use Rattle.linda_disk.specs.declared.trouble.Turn.TheVariants.{Works, Stops, Fai
 use Rattle.linda_disk.specs.declared.trouble.Trouble.{Trouble}
 use Rattle.linda_disk.specs.declared.mem_disk.MemDisk.{MemDisk}
 use Rattle.linda_disk.specs.View.{View}
-use Rattle.linda_disk.specs.History.{History, after, view_of}
+use Rattle.linda_disk.specs.DiskHistory.{DiskHistory, after, view_of}
 
 -- what it held at first, and the calls since
-abbrev pub history : MemDisk → History
+abbrev pub history : MemDisk → DiskHistory
 history disk = disk.history
 
 -- what is to go wrong on it
@@ -39,7 +39,7 @@ answer_at Fails = Err Device
 
 -- If the machine stops inside a write or a cut, it is done in full. A sync in which it stops has
 -- not happened.
-abbrev pub history_at : Turn → DeviceCall → History → History
+abbrev pub history_at : Turn → DeviceCall → DiskHistory → DiskHistory
 history_at Works call h = after call h
 history_at Stops (Write at bytes) h = after (Write at bytes) h
 history_at Stops (Cut n) h = after (Cut n) h
@@ -53,7 +53,7 @@ failures_at Stops n = n + 1
 failures_at Fails n = n + 1
 
 -- A call at this turn, which leaves this history: if memory runs out, all is as before.
-pub record GoesBy (turn : Turn × Trouble) (then : History) (result : Told) (old new : MemDisk)
+pub record GoesBy (turn : Turn × Trouble) (then : DiskHistory) (result : Told) (old new : MemDisk)
     : Type 0 where
   pub memory : IsErrOf result Memory → new ≡ old
   -- a call that is to fail takes none: it says so, as long as the count can rise

@@ -5,7 +5,7 @@ use Rattle.linda_disk.specs.declared.past.Spelling.TheOpen.{Spelling-F}
 use Rattle.linda_disk.specs.declared.past.Link.{Link, fold-Link}
 use Rattle.linda_disk.specs.declared.past.Link.TheOpen.{Link-F}
 use Rattle.linda_disk.specs.declared.call.DeviceCall.TheVariants.{Write, Cut, Sync}
-use Rattle.linda_disk.specs.History.{History, after}
+use Rattle.linda_disk.specs.DiskHistory.{DiskHistory, after}
 
 -- one byte more, with those before it already seen
 abbrev pub bytes_step : Spelling-F (List ℕ) → List ℕ
@@ -17,11 +17,11 @@ abbrev pub bytes_of : Spelling → List ℕ
 bytes_of = fold-Spelling (List ℕ) bytes_step
 
 -- The history of a file that held these bytes too when it was opened.
-abbrev pub with_more : List ℕ → History → History
+abbrev pub with_more : List ℕ → DiskHistory → DiskHistory
 with_more bytes h = record { first = h.first ++ bytes; calls = h.calls }
 
 -- one link, with the record before it already seen
-abbrev pub history_step : Link-F History → History
+abbrev pub history_step : Link-F DiskHistory → DiskHistory
 history_step Link-F.Opened = record { first = []; calls = [] }
 history_step (Link-F.Held before bytes) = with_more bytes.value.items before.value
 history_step (Link-F.Wrote before at bytes) = after (Write at (bytes_of bytes.value)) before.value
@@ -29,8 +29,8 @@ history_step (Link-F.Cut before n) = after (Cut n) before.value
 history_step (Link-F.Synced before) = after Sync before.value
 
 -- The history that a record says.
-abbrev pub history_of : Link → History
-history_of = fold-Link History history_step
+abbrev pub history_of : Link → DiskHistory
+history_of = fold-Link DiskHistory history_step
 
 -- The first of these bytes, or this one if there are none.
 abbrev pub first_or : ℕ → List ℕ → ℕ

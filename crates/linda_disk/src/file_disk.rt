@@ -111,7 +111,7 @@ impl Disk for FileDisk {
     ghost use Rattle.std.specs.Prelude.{◌≡◌, ◌+◌, ◌≤◌, length, take, drop, OnOk};
     ghost use Rattle.linda_disk.specs.Disk.{Writes, Cuts, Syncs, CountsFailure};
     ghost use Rattle.linda_disk.specs.FileDisk as disk;
-    ghost use Rattle.linda_disk.specs.HistoryLaws as laws;
+    ghost use Rattle.linda_disk.specs.DiskHistoryLaws as laws;
 
     ghost honest = { λ _. Unit {0} };
 

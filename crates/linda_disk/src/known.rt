@@ -1,12 +1,12 @@
 //! Facts known of a file without a call of the system.
 
 ghost use Rattle.std.specs.Prelude.{◌≡◌, ◌≤◌, [], true, length, take, IfOk, OnOk};
-ghost use Rattle.linda_disk.specs.History.{content, fits};
+ghost use Rattle.linda_disk.specs.DiskHistory.{content, fits};
 ghost use Rattle.linda_disk.specs.Past.{history_of, first_or, first_after};
 
 use crate::fault::DiskFault;
 use crate::past::{Link, note_bytes, note_cut, note_sync, note_write, opened};
-use linda_moment::Moment;
+use linda_ghost::Moment;
 use std::alloc::Global;
 use std::fs::File;
 use std::os::unix::fs::FileExt;
@@ -37,7 +37,7 @@ impl Known {
     ghost use Rattle.std.specs.Prelude.{◌≡◌, ◌+◌, ◌<◌, ◌≤◌, [], true, length, take, drop, IfOk};
     ghost use Rattle.std.specs.Prelude.{OnOk, OnErr, Err};
     ghost use Rattle.linda_disk.specs.declared.call.DeviceCall.TheVariants.{Write, Cut, Sync};
-    ghost use Rattle.linda_disk.specs.History.{after, content};
+    ghost use Rattle.linda_disk.specs.DiskHistory.{after, content};
     ghost use Rattle.linda_disk.specs.Known.{history};
 
     /// Syncs a file and reads all of it, and keeps as many bytes of its front, at most.

@@ -10,10 +10,10 @@
 
 mod call;
 mod disk;
+mod disk_history;
 mod fault;
 mod file_disk;
 mod file_trouble;
-mod history;
 mod known;
 mod lengthened;
 mod mem_disk;

@@ -1,12 +1,12 @@
 //! A disk in memory, which comes out of a crash in each of three ways.
 
 ghost use Rattle.std.specs.Prelude.{◌≡◌, true};
-ghost use Rattle.linda_disk.specs.History.{fits};
+ghost use Rattle.linda_disk.specs.DiskHistory.{fits};
 
 use crate::call::{Bytes, DeviceCall};
 use crate::disk::Disk;
+use crate::disk_history::DiskHistory;
 use crate::fault::DiskFault;
-use crate::history::History;
 use crate::torn::Torn;
 use crate::trouble::{Power, Trouble, Turn};
 use crate::turn::{counted, is_done, told};
@@ -17,7 +17,7 @@ use std::alloc::Global;
 /// was written since then.
 pub struct MemDisk {
     alloc: Global,
-    history: History,
+    history: DiskHistory,
     trouble: Trouble,
     failures: u64,
     ghost begun: { fits history ≡ true },
@@ -38,7 +38,7 @@ impl MemDisk {
     ghost use Rattle.std.specs.Prelude.{◌≡◌, ◌≤◌, ℕ, [], length, Some, IfOk, IfErr, OnOk, OnErr};
     ghost use Rattle.linda_disk.specs.declared.trouble.Power.TheVariants.{On, OnFor};
     ghost use Rattle.linda_disk.specs.View.{IsDurable};
-    ghost use Rattle.linda_disk.specs.History.{content, synced, filled};
+    ghost use Rattle.linda_disk.specs.DiskHistory.{content, synced, filled};
     ghost use Rattle.linda_disk.specs.MemDisk as disk;
 
     /// An empty disk.
@@ -50,7 +50,7 @@ impl MemDisk {
     {
         MemDisk {
             alloc,
-            history: History::empty(alloc),
+            history: DiskHistory::empty(alloc),
             trouble: Trouble::none(),
             failures: 0,
         }
@@ -70,7 +70,7 @@ impl MemDisk {
             ≡ record { power = On; failing = None }) }
         ensures err { IfErr result (λ fault. fault ≡ DiskFault.Memory) }
     {
-        let history = History::new(alloc, bytes)?;
+        let history = DiskHistory::new(alloc, bytes)?;
         Ok(MemDisk {
             alloc,
             history,
@@ -146,7 +146,7 @@ impl MemDisk {
 
 impl MemDisk {
     ghost use Rattle.std.specs.Prelude.{◌≡◌, true};
-    ghost use Rattle.linda_disk.specs.History.{fits, after};
+    ghost use Rattle.linda_disk.specs.DiskHistory.{fits, after};
     ghost use Rattle.linda_disk.specs.Trouble.{turn_of_read, turn_of_call};
     ghost use Rattle.linda_disk.specs.MemDisk as disk;
 
@@ -185,7 +185,7 @@ impl Disk for MemDisk {
     ghost use Rattle.linda_disk.specs.Trouble.{turn_of_read, turn_of_call};
     ghost use Rattle.linda_disk.specs.Disk.{Writes, Cuts, Syncs};
     ghost use Rattle.linda_disk.specs.MemDisk as disk;
-    ghost use Rattle.linda_disk.specs.HistoryLaws as laws;
+    ghost use Rattle.linda_disk.specs.DiskHistoryLaws as laws;
 
     ghost honest = { λ _. Unit {0} };
 

@@ -1,12 +1,12 @@
 //! The record of a file: what it held when it was opened, and each call since. Only contracts see
 //! it: it takes no memory.
 
-ghost use Rattle.std.specs.Prelude.{◌≡◌, [], ◌++◌};
+ghost use Rattle.std.specs.Prelude.{◌≡◌, []};
 ghost use Rattle.linda_disk.specs.declared.call.DeviceCall.TheVariants.{Write, Cut, Sync};
-ghost use Rattle.linda_disk.specs.History.{after};
+ghost use Rattle.linda_disk.specs.DiskHistory.{after};
 ghost use Rattle.linda_disk.specs.Past.{history_of, bytes_of, with_more};
 
-use linda_moment::Moment;
+use linda_ghost::Moment;
 use std::mem;
 
 /// A list of bytes, built byte by byte.

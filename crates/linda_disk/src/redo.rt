@@ -2,7 +2,7 @@
 
 ghost use Rattle.std.specs.Prelude.{◌≡◌, ◌≤◌, ℕ, List, length, take, drop, reverse, IfOk, OnOk};
 ghost use Rattle.std.specs.Prelude.{OnErr};
-ghost use Rattle.linda_disk.specs.History as history;
+ghost use Rattle.linda_disk.specs.DiskHistory as history;
 
 use crate::call::DeviceCall;
 use crate::overlay::overlay;

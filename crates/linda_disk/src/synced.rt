@@ -1,6 +1,6 @@
 //! A write that is synced: two calls, as most who write to a disk make them.
 
-ghost use Rattle.std.specs.Prelude.{◌≡◌, ◌+◌, ◌≤◌, length, OnOk};
+ghost use Rattle.std.specs.Prelude.{◌+◌, ◌≤◌, length, OnOk};
 ghost use Rattle.linda_disk.specs.Disk.{CountsFailure};
 ghost use Rattle.linda_disk.specs.Runs.{Runs, WritesSynced, anything, takes};
 

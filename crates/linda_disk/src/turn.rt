@@ -2,7 +2,7 @@
 
 ghost use Rattle.std.specs.Prelude.{◌≡◌, ◌≢◌, ◌≤◌, ◌+◌, ◌^◌, if◌then◌else◌, IsTrue, IfOk, IfErr};
 ghost use Rattle.std.specs.Prelude.{OnErr};
-ghost use Rattle.linda_disk.specs.History.{History, after};
+ghost use Rattle.linda_disk.specs.DiskHistory.{DiskHistory, after};
 ghost use Rattle.linda_disk.specs.MemDisk.{answer_at, history_at, failures_at};
 
 use crate::call::DeviceCall;
@@ -22,7 +22,7 @@ pub(crate) fn told(turn: Turn) -> Result<(), DiskFault>
 
 /// Whether a call is done at this turn: if the machine stops inside a sync, it has not happened.
 pub(crate) fn is_done(turn: Turn, call: &DeviceCall) -> bool
-    ensures history { (h : History)
+    ensures history { (h : DiskHistory)
         → history_at turn call.now h ≡ (if result then after call.now h else h) }
     ensures fails { IsTrue result → turn ≢ Turn.Fails }
 {

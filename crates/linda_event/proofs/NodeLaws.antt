@@ -4,7 +4,8 @@ use Rattle.std.specs.Prelude.{filter, filter_map}
 use Rattle.std.proofs.lemmas.List.{map-append}
 use Rattle.std.proofs.lemmas.List.Elements.{filter_map-append, filter-append}
 use Rattle.linda_event.specs.Trees.{Kind}
-use Rattle.linda_event.specs.Paths.{Mark, at_base, at_choice, at_label, at_nack, Place, Node, under, leaf_at, label_at, nack_at, is_above, leads_to, labels_among, nacks_among}
+use Rattle.linda_event.specs.Paths.{Mark, at_base, at_choice, at_label, at_nack, Place, Node, under, leaf_at, label_at}
+use Rattle.linda_event.specs.Paths.{nack_at, is_above, leads_to, labels_among, nacks_among}
 use Rattle.linda_event.specs.Ways.{leaf_under, way_under}
 
 -- the leaves among nodes
@@ -31,7 +32,8 @@ bases_in-append xs ys = ap (map (λ leaf. leaf.1)) (leaves_in-append xs ys) ∙ 
 
 pub labels_on-append : (way : Option Place) (xs ys : List Node) → labels_on way (xs ++ ys) ≡ labels_on way xs ++ labels_on way ys
 labels_on-append way xs ys =
-    ap labels_among (filter-append (is_above way) xs ys) ∙ filter_map-append {X = Node} (λ node. label_at node.mark) (filter (is_above way) xs) (filter (is_above way) ys)
+    ap labels_among (filter-append (is_above way) xs ys)
+    ∙ filter_map-append {X = Node} (λ node. label_at node.mark) (filter (is_above way) xs) (filter (is_above way) ys)
 
 pub nacks_off-append : (way : Option Place) (xs ys : List Node) → nacks_off way (xs ++ ys) ≡ nacks_off way xs ++ nacks_off way ys
 nacks_off-append way xs ys =
@@ -39,7 +41,8 @@ nacks_off-append way xs ys =
     ap nacks_among (filter-append off xs ys) ∙ filter_map-append {X = Node} (λ node. nack_at node.mark) (filter off xs) (filter off ys)
 
 under_at : (m : ℕ) (place : Place) (mark : Mark) (ns : List Node) → leaves_in (map (under m) ns) ≡ map (leaf_under m) (leaves_in ns)
-    → leaves_in (under m (record { place = place; mark = mark }) ∷ map (under m) ns) ≡ map (leaf_under m) (leaves_in (record { place = place; mark = mark } ∷ ns))
+    → leaves_in (under m (record { place = place; mark = mark }) ∷ map (under m) ns)
+    ≡ map (leaf_under m) (leaves_in (record { place = place; mark = mark } ∷ ns))
 under_at m place (at_base kind) ns more = ap (λ ls. (m ∷ place, kind) ∷ ls) more
 under_at m place at_choice ns more = more
 under_at m place (at_label n) ns more = more

@@ -1,6 +1,6 @@
 //! Paths to a base: its labels, and the nack numbers that are raised.
 
-ghost use Rattle.std.specs.Prelude.{◌≡◌, ◌++◌, not, map, filter, option_map, IfOk};
+ghost use Rattle.std.specs.Prelude.{◌≡◌, ◌++◌, map, option_map, IfOk};
 ghost use Rattle.linda_event.specs.Trees.{tree_of};
 ghost use Rattle.linda_event.specs.Paths.{leaves, place_of, labels_above, nacks_beside};
 ghost use Rattle.linda_event.specs.Paths.{labels, raised, all_nacks};

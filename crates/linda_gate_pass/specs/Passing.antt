@@ -97,12 +97,14 @@ Stops numbers passed rest NotAllowed =
     × (may_pass numbers passed m ≡ false)
 
 -- How reading ends: no whole frame is left; or a fault.
-abbrev pub Ends : ClientNumbers → List Message → List ℕ → List ℕ → Result (Unit {0}) PassFault → Type 0
+abbrev pub Ends : ClientNumbers → List Message → List ℕ → List ℕ → Result (Unit {0}) PassFault
+    → Type 0
 Ends numbers passed rest unread (Ok unit) = (unread ≡ rest) × (message_front rest ≡ Partial)
 Ends numbers passed rest unread (Err fault) = Stops numbers passed rest fault
 
 -- The frames of bytes are read, as far as they may pass.
-abbrev pub ReadsAll : ClientNumbers → List Message → List Message → List ℕ → List ℕ → List ℕ → List ℕ
+abbrev pub ReadsAll : ClientNumbers → List Message → List Message → List ℕ → List ℕ → List ℕ
+    → List ℕ
     → Result (Unit {0}) PassFault → Type 0
 ReadsAll numbers old new bytes unread before after result =
     (rest : List ℕ)

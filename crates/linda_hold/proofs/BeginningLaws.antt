@@ -5,10 +5,10 @@ use Rattle.std.specs.FinMap.{contains_key}
 use Rattle.linda_tuple.specs.declared.atom.Atom.{Atom}
 use Rattle.linda_bag.specs.Filing.{Rows, with_row}
 use Rattle.linda_bag.specs.Ids.{Many, SetsId}
-use Rattle.linda_bag.specs.Firsts.{if_keyed, keyed_in}
+use Rattle.linda_bag.specs.FirstFieldIndex.{if_keyed, keyed_in}
 use Rattle.linda_bag.proofs.NotedLaws.{noted_with}
 use Rattle.linda_hold.specs.declared.asked.Asked.{Asked}
-use Rattle.linda_hold.specs.Firsts.{first_of}
+use Rattle.linda_hold.specs.FirstValue.{first_of}
 use Rattle.linda_hold.specs.Group.{if_unkeyed, unkeyed_at, unkeyed_of, HasNumbers}
 
 -- There is no request where there is none that begins with a value, and none that begins with no value.
@@ -21,7 +21,9 @@ no_request (Some asked) keyed unkeyed = by (first_of asked) keyed unkeyed
     by (Some v) keyed unkeyed = keyed
 
 -- A set of the requests that begin with no value, where one row changed.
-pub unkeyed_with : (old new : Many) (asked : Rows Asked) (id : ℕ) (o : Option Asked) (b : Bool) → HasNumbers old (unkeyed_of asked) → SetsId old new id b → b ≡ is_some (unkeyed_at o) → HasNumbers new (unkeyed_of (with_row asked id o))
+pub unkeyed_with : (old new : Many) (asked : Rows Asked) (id : ℕ) (o : Option Asked) (b : Bool) → HasNumbers old (unkeyed_of asked)
+    → SetsId old new id b → b ≡ is_some (unkeyed_at o) → HasNumbers new (unkeyed_of (with_row asked id o))
 unkeyed_with old new asked id o b has changed same q =
     noted_with (contains_key old) (contains_key new) (unkeyed_of asked) id has b (unkeyed_at o) changed same q
-    ∙ elim (is_eq (nat_cmp id q)) as (λ t. is_some (cond t (unkeyed_at o) (unkeyed_at (asked q))) ≡ is_some (unkeyed_at (cond t o (asked q)))) [ true ↦ refl | false ↦ refl ]
+    ∙ elim (is_eq (nat_cmp id q)) as (λ t. is_some (cond t (unkeyed_at o) (unkeyed_at (asked q)))
+    ≡ is_some (unkeyed_at (cond t o (asked q)))) [ true ↦ refl | false ↦ refl ]

@@ -1,5 +1,7 @@
 -- The numbers of a client's requests: those in its map, and as many as are there.
-use Rattle.std.proofs.Common.{◌≡◌, ◌⊎◌, inl, inr, ℕ, ◌≤◌, arith, Bool, true, false, ◌||◌, cond, List, [], ◌∷◌, Option, None, Some, is_some, length, map, unwrap_or, refl, sym, ap, subst, ◌∙◌, nat_cmp, true≢false}
+use Rattle.std.proofs.Common.{◌≡◌, ◌⊎◌, inl, inr, ℕ, ◌≤◌, arith, Bool, true, false, ◌||◌, cond, List, [], ◌∷◌, Option}
+use Rattle.std.proofs.Common.{None, Some, is_some, length, map, unwrap_or, refl, sym, ap, subst, ◌∙◌, nat_cmp}
+use Rattle.std.proofs.Common.{true≢false}
 use Rattle.std.specs.BTreeSet.{BTreeSet}
 use Rattle.std.specs.BTreeSet as sets
 use Rattle.std.specs.BTreeMap.{is_at}
@@ -19,11 +21,12 @@ use Rattle.std.proofs.lemmas.Map.Views.{Contains-from_lookup, lookup-from_Contai
 use Rattle.linda_bag.specs.Filing.{HasIds, row_at, rows_at, placed}
 use Rattle.linda_hold.specs.declared.request.Request.{Request}
 use Rattle.linda_hold.specs.Request.{request_of}
-use Rattle.linda_hold.specs.Named.{Requests, IsNumbered, client_of}
+use Rattle.linda_hold.specs.TicketIndex.{Requests, IsNumbered, client_of}
 use Rattle.linda_hold.proofs.NameLaws.{number_told}
 
 -- A request of the client's own, or none.
-own_request : (client : ℕ) (o : Option Request) → is_some (row_at nat_cmp client (placed client_of o)) ≡ true → (request : Request) × (o ≡ Some request) × (request.client ≡ client)
+own_request : (client : ℕ) (o : Option Request) → is_some (row_at nat_cmp client (placed client_of o)) ≡ true
+    → (request : Request) × (o ≡ Some request) × (request.client ≡ client)
 own_request client None own = absurd (true≢false (sym own))
 own_request client (Some request) own = (request, refl, (number_told request.client client).0 (by (is_eq (nat_cmp request.client client)) own))
   where
@@ -39,7 +42,9 @@ mapped : (f : ℕ → ℕ) (x : ℕ) (xs : List ℕ) → list_any (is_at (nat_cm
 mapped f x [] there = absurd (true≢false (sym there))
 mapped f x (y ∷ ys) there = by (or_cases (is_eq (nat_cmp x y)) (list_any (is_at (nat_cmp x)) ys) there) (mapped f x ys)
   where
-    by : (is_eq (nat_cmp x y) ≡ true) ⊎ (list_any (is_at (nat_cmp x)) ys ≡ true) → (list_any (is_at (nat_cmp x)) ys ≡ true → list_any (is_at (nat_cmp (f x))) (map f ys) ≡ true) → (is_eq (nat_cmp (f x) (f y)) || list_any (is_at (nat_cmp (f x))) (map f ys)) ≡ true
+    by : (is_eq (nat_cmp x y) ≡ true) ⊎ (list_any (is_at (nat_cmp x)) ys ≡ true)
+        → (list_any (is_at (nat_cmp x)) ys ≡ true → list_any (is_at (nat_cmp (f x))) (map f ys) ≡ true)
+        → (is_eq (nat_cmp (f x) (f y)) || list_any (is_at (nat_cmp (f x))) (map f ys)) ≡ true
     by (inl here) rest = or_left (is_eq (nat_cmp (f x) (f y))) _ ((number_told (f x) (f y)).1 (ap f ((number_told x y).0 here)))
     by (inr later) rest = or_right (is_eq (nat_cmp (f x) (f y))) _ (rest later)
 
@@ -47,7 +52,8 @@ abbrev ticket_of : Option Request → ℕ
 ticket_of o = unwrap_or (option_map (λ r. r.ticket) o) 0
 
 -- The numbers es of a client's tickets.
-module _ (requests : Requests) {u : Request → Option ℕ} (numbered : IsNumbered u requests) (client : ℕ) (es : List (ℕ × ℕ)) (sorted : IsStrictlySortedBy nat_cmp (keys_of es)) (found : (ticket : ℕ) → u (request_of client ticket) ≡ lookup (is_at (nat_cmp ticket)) es) where
+module _ (requests : Requests) {u : Request → Option ℕ} (numbered : IsNumbered u requests) (client : ℕ) (es : List (ℕ × ℕ))
+    (sorted : IsStrictlySortedBy nat_cmp (keys_of es)) (found : (ticket : ℕ) → u (request_of client ticket) ≡ lookup (is_at (nat_cmp ticket)) es) where
   abbrev own : Requests
   own = rows_at nat_cmp client_of client requests
 
@@ -80,7 +86,9 @@ module _ (requests : Requests) {u : Request → Option ℕ} (numbered : IsNumber
   pub counted : (numbers : BTreeSet ℕ) → sets.IsOrdered nat_cmp numbers → HasIds numbers own → length es ≡ length numbers.keys
   counted numbers rising has =
       let most : length (keys_of es) ≤ length (map tickets numbers.keys) = length-le_from_is_member laws (keys_of es) (map tickets numbers.keys) differ each in
-      let least : length numbers.keys ≤ length (values_of es) = length-le_from_is_member laws numbers.keys (values_of es) (IsDistinct-from_sorted nat_cmp numbers.keys rising) (λ q there. listed q ∙ sym (has q) ∙ there) in
+      let least : length numbers.keys ≤ length (values_of es) =
+      length-le_from_is_member laws numbers.keys (values_of es) (IsDistinct-from_sorted nat_cmp numbers.keys rising)
+      (λ q there. listed q ∙ sym (has q) ∙ there) in
       let keys = length-keys_of es in
       let values = length-values_of es in
       let mapped_length = length-map numbers.keys tickets in

@@ -1,5 +1,7 @@
--- The waits that a map keeps under their numbers: each request is in one of them, which is found by the request, and what a change of the map does to the list of them in order.
-use Rattle.std.proofs.Common.{◌≡◌, ℕ, ◌<◌, ◌+◌, arith, Bool, true, false, not, ◌||◌, ◌==◌, List, [], ◌∷◌, ◌++◌, Option, None, Some, filter, cond, refl, sym, ap, subst, ◌∙◌, nat_cmp, nat_eq, Less, Greater}
+-- The waits that a map keeps under their numbers: each request is in one of them, which is found by the request, and
+-- what a change of the map does to the list of them in order.
+use Rattle.std.proofs.Common.{◌≡◌, ℕ, ◌<◌, ◌+◌, arith, Bool, true, false, not, ◌||◌, ◌==◌, List, [], ◌∷◌, ◌++◌, Option}
+use Rattle.std.proofs.Common.{None, Some, filter, cond, refl, sym, ap, subst, ◌∙◌, nat_cmp, nat_eq, Less, Greater}
 use Rattle.std.specs.declared.cmp.Ordering.{Ordering}
 use Rattle.std.specs.Ordering.{is_eq}
 use Rattle.std.specs.Option.{is_some, option_map, unwrap_or}
@@ -13,12 +15,12 @@ use Rattle.std.specs.Map.{lookup, keys_of, values_of}
 use Rattle.std.proofs.lemmas.Bool.{true≢false, false_from_ne_true, or_right}
 use Rattle.std.proofs.lemmas.Map.Entries.{option_filter, lookup-filter-values}
 use Rattle.std.proofs.lemmas.Map.Keys.{IsDistinct-from_sorted}
-use Rattle.linda_maps.proofs.MapLaws.{get_inserted, same_map}
+use Rattle.linda_map_laws.proofs.MapLaws.{get_inserted, same_map}
 use Rattle.linda_hold.specs.declared.request.Request.{Request}
 use Rattle.linda_hold.specs.Request.{request_of, same_request}
 use Rattle.linda_hold.specs.Waits.{Wait, is_waiting, waits_of, without, AreDistinct}
-use Rattle.linda_hold.specs.Heads.{Waiting}
-use Rattle.linda_hold.specs.Named.{IsNumbered}
+use Rattle.linda_hold.specs.TagIndex.{Waiting}
+use Rattle.linda_hold.specs.TicketIndex.{IsNumbered}
 use Rattle.linda_hold.specs.Numbered.{AreBelow, in_order, wait_at}
 use Rattle.linda_hold.specs.Index.{requests_of}
 use Rattle.linda_hold.proofs.ListLaws.{request_told, weaker}
@@ -39,7 +41,8 @@ hit : (p : Wait → Bool) (test : ℕ → Bool) (es : List (ℕ × Wait)) (w : W
 hit p test [] w found passes = absurd (true≢false (sym (ap is_some found)))
 hit p test (e ∷ es) w found passes = by (test e.0) found (λ later. hit p test es w later passes)
   where
-    by : (b : Bool) → cond b (Some e.1) (lookup test es) ≡ Some w → (lookup test es ≡ Some w → list_any p (values_of es) ≡ true) → (p e.1 || list_any p (values_of es)) ≡ true
+    by : (b : Bool) → cond b (Some e.1) (lookup test es) ≡ Some w → (lookup test es ≡ Some w → list_any p (values_of es) ≡ true)
+        → (p e.1 || list_any p (values_of es)) ≡ true
     by true is later = ap (λ b. b || list_any p (values_of es)) (ap p (same_some is) ∙ passes)
     by false is later = or_right (p e.1) (list_any p (values_of es)) (later is)
 
@@ -63,7 +66,8 @@ told : (k q : ℕ) → nat_eq k q ≡ is_eq (nat_cmp k q)
 told k q = unsigned_ties k q
 
 -- What a change of the map is to an index.
-pub as_rows : (old new : Waiting) (k : ℕ) (o : Option Wait) → ((q : ℕ) → new q ≡ cond (nat_eq k q) o (old q)) → (q : ℕ) → new q ≡ cond (is_eq (nat_cmp k q)) o (old q)
+pub as_rows : (old new : Waiting) (k : ℕ) (o : Option Wait) → ((q : ℕ) → new q ≡ cond (nat_eq k q) o (old q))
+    → (q : ℕ) → new q ≡ cond (is_eq (nat_cmp k q)) o (old q)
 as_rows old new k o changed q = changed q ∙ ap (λ b. cond b o (old q)) (told k q)
 
 -- Maps with the same entries have the same waits.
@@ -84,20 +88,24 @@ other request w = not (same_request request w.0)
 
 module _ (old new : List (ℕ × Wait)) (k : ℕ) where
   -- The next to arrive is the last in order.
-  pub added : (w : Wait) → AreBelow k (wait_at old) → ((q : ℕ) → wait_at new q ≡ cond (nat_eq k q) (Some w) (wait_at old q)) → values_of (in_order new) ≡ values_of (in_order old) ++ w ∷ []
+  pub added : (w : Wait) → AreBelow k (wait_at old) → ((q : ℕ) → wait_at new q ≡ cond (nat_eq k q) (Some w) (wait_at old q))
+      → values_of (in_order new) ≡ values_of (in_order old) ++ w ∷ []
   added w below changed =
       ap (λ m. values_of (entries m)) inserted
       ∙ ap values_of (entries-insert nat_cmp_total (from_entries old) k w)
-      ∙ put_last k w (in_order old) (weaker _ (λ e. e.0 < k) (λ e there. below e.0 (ap is_some (found old e.0 ∙ there))) (in_order old) (each_found (in_order old) (ordered old)))
+      ∙ put_last k w (in_order old)
+      (weaker _ (λ e. e.0 < k) (λ e there. below e.0 (ap is_some (found old e.0 ∙ there))) (in_order old) (each_found (in_order old) (ordered old)))
     where
       rows : (es : List (ℕ × Wait)) (q : ℕ) → get (from_entries {R = nat_cmp} es) q ≡ wait_at es q
       rows es q = get-from_entries nat_cmp_total es q ∙ sym (alike es q)
 
       inserted : from_entries {R = nat_cmp} new ≡ insert (from_entries old) k w
-      inserted = same_map _ _ (λ q. rows new q ∙ changed q ∙ ap (λ b. cond b (Some w) (wait_at old q)) (nat_eq_equiv.symm k q) ∙ ap (cond (q == k) (Some w)) (sym (rows old q)) ∙ sym (get_inserted (from_entries old) k w q))
+      inserted = same_map _ _ (λ q. rows new q ∙ changed q ∙ ap (λ b. cond b (Some w) (wait_at old q)) (nat_eq_equiv.symm k q)
+          ∙ ap (cond (q == k) (Some w)) (sym (rows old q)) ∙ sym (get_inserted (from_entries old) k w q))
 
   -- Numbers below the next are below the one after it.
-  pub below_next : (w : Wait) → AreBelow k (wait_at old) → ((q : ℕ) → wait_at new q ≡ cond (nat_eq k q) (Some w) (wait_at old q)) → AreBelow (k + 1) (wait_at new)
+  pub below_next : (w : Wait) → AreBelow k (wait_at old) → ((q : ℕ) → wait_at new q ≡ cond (nat_eq k q) (Some w) (wait_at old q))
+      → AreBelow (k + 1) (wait_at new)
   below_next w below changed q some = by (nat_eq k q) refl (sym (ap is_some (changed q)) ∙ some)
     where
       by : (b : Bool) → nat_eq k q ≡ b → is_some (cond b (Some w) (wait_at old q)) ≡ true → q < k + 1
@@ -113,7 +121,8 @@ module _ (old new : List (ℕ × Wait)) (k : ℕ) where
       by false there = below q there
 
   -- To take out the wait under the number of a request is to take out what the request asked.
-  pub taken : (request : Request) {u : Request → Option ℕ} → IsNumbered u (requests_of (wait_at old)) → u request ≡ Some k → ((q : ℕ) → wait_at new q ≡ cond (nat_eq k q) None (wait_at old q)) → values_of (in_order new) ≡ without request (values_of (in_order old))
+  pub taken : (request : Request) {u : Request → Option ℕ} → IsNumbered u (requests_of (wait_at old)) → u request ≡ Some k
+      → ((q : ℕ) → wait_at new q ≡ cond (nat_eq k q) None (wait_at old q)) → values_of (in_order new) ≡ without request (values_of (in_order old))
   taken request {u} numbered named changed =
       ap values_of (same_list (in_order new) (part (other request) (in_order old)) (ordered new) (part_sorted (other request) (in_order old) (ordered old)) at)
       ∙ part_values (other request) (in_order old)
@@ -135,7 +144,8 @@ module _ (old new : List (ℕ × Wait)) (k : ℕ) where
           ∙ changed q
           ∙ left q (nat_eq k q) refl (wait_at old q) refl
           ∙ ap (option_filter (other request)) (found old q)
-          ∙ sym (lookup-filter-values (eq_by_cmp_equiv nat_cmp_total) (other request) q (in_order old) (IsDistinct-from_sorted nat_cmp (keys_of (in_order old)) (ordered old)))
+          ∙ sym (lookup-filter-values (eq_by_cmp_equiv nat_cmp_total) (other request) q (in_order old)
+          (IsDistinct-from_sorted nat_cmp (keys_of (in_order old)) (ordered old)))
 
 -- The waits of a map, by their requests.
 module _ (raw : List (ℕ × Wait)) {u : Request → Option ℕ} (numbered : IsNumbered u (requests_of (wait_at raw))) where
@@ -150,7 +160,8 @@ module _ (raw : List (ℕ × Wait)) {u : Request → Option ℕ} (numbered : IsN
   each : AllByRecursion Known es
   each =
       weaker (λ e. lookup (is_at (nat_cmp e.0)) es ≡ Some e.1) Known
-      (λ e there. let at : requests_of (wait_at raw) e.0 ≡ Some e.1.0 = ap (option_map (λ w. w.0)) (found raw e.0 ∙ there) in record { at = at; named = numbered.there e.0 e.1.0 at })
+      (λ e there. let at : requests_of (wait_at raw) e.0 ≡ Some e.1.0 = ap (option_map (λ w. w.0)) (found raw e.0 ∙ there) in
+      record { at = at; named = numbered.there e.0 e.1.0 at })
       es (each_found es (ordered raw))
 
   -- A request that is not found is in no entry.
@@ -181,7 +192,8 @@ module _ (raw : List (ℕ × Wait)) {u : Request → Option ℕ} (numbered : IsN
   -- One that is not found has no wait to take out.
   pub without_absent : (request : Request) → u request ≡ None → values_of es ≡ without request (values_of es)
   without_absent request none =
-      sym (kept_values (λ w. not (same_request request w.0)) es (weaker (λ e. same_request request e.1.0 ≡ false) (λ e. not (same_request request e.1.0) ≡ true) (λ e off. ap not off) es (absent request none)))
+      sym (kept_values (λ w. not (same_request request w.0)) es
+      (weaker (λ e. same_request request e.1.0 ≡ false) (λ e. not (same_request request e.1.0) ≡ true) (λ e off. ap not off) es (absent request none)))
 
   -- Its entry is there.
   pub entry_found : (request : Request) (k : ℕ) → u request ≡ Some k → wait_at raw k ≡ None → ⊥
@@ -206,7 +218,8 @@ module _ (raw : List (ℕ × Wait)) {u : Request → Option ℕ} (numbered : IsN
   unfolding IsDistinct IsStrictlySortedBy
   distinct = all es (ordered raw) each
     where
-      later : (e : ℕ × Wait) → Known e → (es : List (ℕ × Wait)) → AllByRecursion (λ y. nat_cmp e.0 y ≡ Less) (keys_of es) → AllByRecursion Known es → AllByRecursion (λ q. same_request e.1.0 q ≡ false) (keys_of (values_of es))
+      later : (e : ℕ × Wait) → Known e → (es : List (ℕ × Wait)) → AllByRecursion (λ y. nat_cmp e.0 y ≡ Less) (keys_of es)
+          → AllByRecursion Known es → AllByRecursion (λ q. same_request e.1.0 q ≡ false) (keys_of (values_of es))
       later e first [] above known = tt
       later e first (f ∷ fs) above known =
           let differ : same_request e.1.0 f.1.0 ≡ false = false_from_ne_true _ (λ is.

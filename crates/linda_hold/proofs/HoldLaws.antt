@@ -1,5 +1,5 @@
 -- The holds of a client: the ids under its requests are those that contracts count.
-use Rattle.std.proofs.Common.{◌≡◌, ℕ, ◌==◌, cond, Option, None, Some, is_some, length, refl, sym, ap, ◌∙◌, nat_cmp}
+use Rattle.std.proofs.Common.{◌≡◌, ℕ, ◌==◌, cond, Option, None, Some, is_some, length, refl, ap, ◌∙◌, nat_cmp}
 use Rattle.std.specs.BTreeSet.{BTreeSet}
 use Rattle.std.specs.BTreeSet as sets
 use Rattle.std.specs.BTreeMap.{is_at}
@@ -10,7 +10,7 @@ use Rattle.std.proofs.lemmas.Map.Entries.{option_filter}
 use Rattle.linda_bag.specs.Filing.{HasIds, row_at, placed, rows_at}
 use Rattle.linda_hold.specs.declared.request.Request.{Request}
 use Rattle.linda_hold.specs.Holds.{HeldFor, held_in}
-use Rattle.linda_hold.specs.Named.{Requests, IsCount, client_of}
+use Rattle.linda_hold.specs.TicketIndex.{Requests, IsCount, client_of}
 use Rattle.linda_hold.proofs.RowLaws.{rows_ordered, row_found}
 use Rattle.linda_hold.proofs.PartLaws.{found_some, counted_part}
 

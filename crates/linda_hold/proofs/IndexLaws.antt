@@ -21,7 +21,8 @@ module _ {T A : Type 0} (part : T → A) where
             | false ↦ refl
           ]
 
-  pub renamed : (Old New : Rows A → Type 0) (k : ℕ) (old new : Option T) → Refiles Old New k (option_map part old) (option_map part new) → Refiles (λ (rows : Rows T). Old (part_of rows)) (λ (rows : Rows T). New (part_of rows)) k old new
+  pub renamed : (Old New : Rows A → Type 0) (k : ℕ) (old new : Option T) → Refiles Old New k (option_map part old) (option_map part new)
+      → Refiles (λ (rows : Rows T). Old (part_of rows)) (λ (rows : Rows T). New (part_of rows)) k old new
   renamed Old New k old new refiles rows there has =
       subst New (part_with rows k new) (refiles (part_of rows) (ap (option_map part) there) has)
 

@@ -1,5 +1,6 @@
 -- What is said of lists, in the words of `specs/Waits`.
-use Rattle.std.proofs.Common.{◌≡◌, ℕ, ◌+◌, ◌<◌, arith, Bool, true, false, not, ◌&&◌, ◌||◌, ◌==◌, List, [], ◌∷◌, ◌++◌, Option, Some, length, map, filter, find, cond, refl, sym, ap, ◌∙◌}
+use Rattle.std.proofs.Common.{◌≡◌, ℕ, ◌+◌, ◌<◌, arith, Bool, true, false, not, ◌&&◌, ◌||◌, ◌==◌, List, [], ◌∷◌, ◌++◌}
+use Rattle.std.proofs.Common.{Option, Some, length, map, filter, find, cond, refl, sym, ap, ◌∙◌}
 use Rattle.std.specs.Option.{is_some}
 use Rattle.std.specs.List.{list_any, AllByRecursion, IsDistinct}
 use Rattle.std.specs.Map.{lookup, keys_of}
@@ -49,11 +50,14 @@ module _ {X : Type 0} (p : X → Bool) where
       at_most [] = omega arith
       at_most (y ∷ ys) = at (p y) (at_most ys)
         where
-          at : (b : Bool) → length (filter (λ z. not (p z)) ys) < length ys + 1 → length (cond (not b) (y ∷ filter (λ z. not (p z)) ys) (filter (λ z. not (p z)) ys)) < length (y ∷ ys) + 1
+          at : (b : Bool) → length (filter (λ z. not (p z)) ys) < length ys + 1
+              → length (cond (not b) (y ∷ filter (λ z. not (p z)) ys) (filter (λ z. not (p z)) ys)) < length (y ∷ ys) + 1
           at true rest = omega arith
           at false rest = omega arith
 
-      by : (b : Bool) → (b || list_any p xs) ≡ true → length (filter (λ y. not (p y)) xs) < length xs + 1 → (list_any p xs ≡ true → length (filter (λ y. not (p y)) xs) < length xs) → length (cond (not b) (x ∷ filter (λ y. not (p y)) xs) (filter (λ y. not (p y)) xs)) < length (x ∷ xs)
+      by : (b : Bool) → (b || list_any p xs) ≡ true → length (filter (λ y. not (p y)) xs) < length xs + 1
+          → (list_any p xs ≡ true → length (filter (λ y. not (p y)) xs) < length xs)
+          → length (cond (not b) (x ∷ filter (λ y. not (p y)) xs) (filter (λ y. not (p y)) xs)) < length (x ∷ xs)
       by true e most later = omega arith
       by false e most later = let less = later e in omega arith
 
@@ -71,7 +75,8 @@ module _ {X : Type 0} (p q : X → Bool) (also : (x : X) → p x ≡ true → q 
   filter_within [] = refl
   filter_within (x ∷ xs) = by (q x) refl (filter_within xs)
     where
-      by : (b : Bool) → q x ≡ b → filter p (filter q xs) ≡ filter p xs → filter p (cond b (x ∷ filter q xs) (filter q xs)) ≡ cond (p x) (x ∷ filter p xs) (filter p xs)
+      by : (b : Bool) → q x ≡ b → filter p (filter q xs) ≡ filter p xs
+          → filter p (cond b (x ∷ filter q xs) (filter q xs)) ≡ cond (p x) (x ∷ filter p xs) (filter p xs)
       by true e rest = ap (λ l. cond (p x) (x ∷ l) l) rest
       by false e rest = rest ∙ ap (λ b. cond b (x ∷ filter p xs) (filter p xs)) (sym (false_from_ne_true (p x) (λ is. true≢false (sym (also x is) ∙ e))))
 
@@ -96,7 +101,9 @@ passed_twice : {X : Type 0} (p q : X → Bool) (xs : List X) → filter q (filte
 passed_twice p q [] = refl
 passed_twice p q (x ∷ xs) = by (p x) (passed_twice p q xs)
   where
-    by : (b : Bool) → filter q (filter (λ y. not (p y)) xs) ≡ filter (λ y. not (p y) && q y) xs → filter q (cond (not b) (x ∷ filter (λ y. not (p y)) xs) (filter (λ y. not (p y)) xs)) ≡ cond (not b && q x) (x ∷ filter (λ y. not (p y) && q y) xs) (filter (λ y. not (p y) && q y) xs)
+    by : (b : Bool) → filter q (filter (λ y. not (p y)) xs) ≡ filter (λ y. not (p y) && q y) xs
+        → filter q (cond (not b) (x ∷ filter (λ y. not (p y)) xs) (filter (λ y. not (p y)) xs))
+        ≡ cond (not b && q x) (x ∷ filter (λ y. not (p y) && q y) xs) (filter (λ y. not (p y) && q y) xs)
     by true rest = rest
     by false rest = ap (λ l. cond (q x) (x ∷ l) l) rest
 
@@ -116,14 +123,16 @@ at_once [] waits = sym (all_kept (λ w. not (among [] w)) waits (all_true waits)
 at_once (request ∷ requests) waits =
     at_once requests (without request waits)
     ∙ passed_twice (λ w. same_request request w.0) (λ w. not (among requests w)) waits
-    ∙ filter_agree (λ w. not (same_request request w.0) && not (among requests w)) (λ w. not (among (request ∷ requests) w)) (λ w. not_either (same_request request w.0) (among requests w)) waits
+    ∙ filter_agree (λ w. not (same_request request w.0) && not (among requests w))
+    (λ w. not (among (request ∷ requests) w)) (λ w. not_either (same_request request w.0) (among requests w)) waits
 
 module _ (p : Wait → Bool) where
   -- the requests of those that pass
   abbrev passing : List Wait → List Request
   passing waits = map (λ w. w.0) (filter p waits)
 
-  not_among : (request : Request) (w : Wait) (waits : List Wait) → AllByRecursion (λ q. same_request request q ≡ false) (keys_of waits) → w.0 ≡ request → among (passing waits) w ≡ false
+  not_among : (request : Request) (w : Wait) (waits : List Wait) → AllByRecursion (λ q. same_request request q ≡ false) (keys_of waits)
+      → w.0 ≡ request → among (passing waits) w ≡ false
   unfolding among
   not_among request w [] apart same = refl
   not_among request w (v ∷ waits) apart same = by (p v) (not_among request w waits apart.1 same)
@@ -131,16 +140,19 @@ module _ (p : Wait → Bool) where
       off : same_request v.0 w.0 ≡ false
       off = false_from_ne_true _ (λ is. true≢false (sym ((request_told request v.0).1 (sym ((request_told v.0 w.0).0 is ∙ same))) ∙ apart.0))
 
-      by : (b : Bool) → list_any (λ q. same_request q w.0) (passing waits) ≡ false → list_any (λ q. same_request q w.0) (map (λ x. x.0) (cond b (v ∷ filter p waits) (filter p waits))) ≡ false
+      by : (b : Bool) → list_any (λ q. same_request q w.0) (passing waits) ≡ false
+          → list_any (λ q. same_request q w.0) (map (λ x. x.0) (cond b (v ∷ filter p waits) (filter p waits))) ≡ false
       by true rest = ap (λ b. b || list_any (λ q. same_request q w.0) (passing waits)) off ∙ rest
       by false rest = rest
 
   -- Those whose request is not that of w are treated alike with it and without it.
-  rest_alike : (request : Request) (requests : List Request) (waits : List Wait) → AllByRecursion (λ q. same_request request q ≡ false) (keys_of waits) → filter (λ w. not (among (request ∷ requests) w)) waits ≡ filter (λ w. not (among requests w)) waits
+  rest_alike : (request : Request) (requests : List Request) (waits : List Wait) → AllByRecursion (λ q. same_request request q ≡ false) (keys_of waits)
+      → filter (λ w. not (among (request ∷ requests) w)) waits ≡ filter (λ w. not (among requests w)) waits
   unfolding among
   rest_alike request requests [] apart = refl
   rest_alike request requests (w ∷ waits) apart =
-      ap (λ b. cond (not (b || among requests w)) (w ∷ filter (λ v. not (among (request ∷ requests) v)) waits) (filter (λ v. not (among (request ∷ requests) v)) waits)) apart.0
+      ap (λ b. cond (not (b || among requests w)) (w ∷ filter (λ v. not (among (request ∷ requests) v)) waits)
+      (filter (λ v. not (among (request ∷ requests) v)) waits)) apart.0
       ∙ ap (λ l. cond (not (among requests w)) (w ∷ l) l) (rest_alike request requests waits apart.1)
 
   others : (waits : List Wait) → AreDistinct waits → filter (λ w. not (among (passing waits) w)) waits ≡ filter (λ w. not (p w)) waits
@@ -148,13 +160,17 @@ module _ (p : Wait → Bool) where
   others [] distinct = refl
   others (w ∷ waits) distinct = by (p w) (others waits distinct.1)
     where
-      by : (b : Bool) → filter (λ v. not (among (passing waits) v)) waits ≡ filter (λ v. not (p v)) waits → filter (λ v. not (among (map (λ x. x.0) (cond b (w ∷ filter p waits) (filter p waits))) v)) (w ∷ waits) ≡ cond (not b) (w ∷ filter (λ v. not (p v)) waits) (filter (λ v. not (p v)) waits)
+      by : (b : Bool) → filter (λ v. not (among (passing waits) v)) waits ≡ filter (λ v. not (p v)) waits
+          → filter (λ v. not (among (map (λ x. x.0) (cond b (w ∷ filter p waits) (filter p waits))) v)) (w ∷ waits)
+          ≡ cond (not b) (w ∷ filter (λ v. not (p v)) waits) (filter (λ v. not (p v)) waits)
       by true rest =
-          ap (λ b. cond (not (b || among (passing waits) w)) (w ∷ filter (λ v. not (among (w.0 ∷ passing waits) v)) waits) (filter (λ v. not (among (w.0 ∷ passing waits) v)) waits)) ((request_told w.0 w.0).1 refl)
+          ap (λ b. cond (not (b || among (passing waits) w)) (w ∷ filter (λ v. not (among (w.0 ∷ passing waits) v)) waits)
+          (filter (λ v. not (among (w.0 ∷ passing waits) v)) waits)) ((request_told w.0 w.0).1 refl)
           ∙ rest_alike w.0 (passing waits) waits distinct.0
           ∙ rest
       by false rest =
-          ap (λ b. cond (not b) (w ∷ filter (λ v. not (among (passing waits) v)) waits) (filter (λ v. not (among (passing waits) v)) waits)) (not_among w.0 w waits distinct.0 refl)
+          ap (λ b. cond (not b) (w ∷ filter (λ v. not (among (passing waits) v)) waits) (filter (λ v. not (among (passing waits) v)) waits))
+          (not_among w.0 w waits distinct.0 refl)
           ∙ ap (λ l. w ∷ l) rest
 
   -- Where the requests of those that pass are taken out, one after another, the others are left.
@@ -162,7 +178,8 @@ module _ (p : Wait → Bool) where
   without_passing waits distinct = at_once (passing waits) waits ∙ others waits distinct
 
 -- Several requests and then one more.
-pub without_more : (requests : List Request) (request : Request) (waits : List Wait) → without_all (requests ++ request ∷ []) waits ≡ without request (without_all requests waits)
+pub without_more : (requests : List Request) (request : Request) (waits : List Wait)
+    → without_all (requests ++ request ∷ []) waits ≡ without request (without_all requests waits)
 without_more [] request waits = refl
 without_more (q ∷ requests) request waits = without_more requests request (without q waits)
 
@@ -171,7 +188,8 @@ pub all_left : {X : Type 0} (p : X → Bool) (xs : List X) → filter p xs ≡ [
 all_left p [] none = refl
 all_left p (x ∷ xs) none = by (p x) none (all_left p xs)
   where
-    by : (b : Bool) → cond b (x ∷ filter p xs) (filter p xs) ≡ [] → (filter p xs ≡ [] → filter (λ y. not (p y)) xs ≡ xs) → cond (not b) (x ∷ filter (λ y. not (p y)) xs) (filter (λ y. not (p y)) xs) ≡ x ∷ xs
+    by : (b : Bool) → cond b (x ∷ filter p xs) (filter p xs) ≡ [] → (filter p xs ≡ [] → filter (λ y. not (p y)) xs ≡ xs)
+        → cond (not b) (x ∷ filter (λ y. not (p y)) xs) (filter (λ y. not (p y)) xs) ≡ x ∷ xs
     by true is rest = absurd (omega (arith, ap length is))
     by false is rest = ap (λ l. x ∷ l) (rest is)
 

@@ -1,5 +1,6 @@
 -- The waits that a tuple may answer, from a number on: what becomes of them as the walk goes on.
-use Rattle.std.proofs.Common.{◌≡◌, ℕ, ◌≤◌, ◌<◌, ◌+◌, arith, Bool, true, false, cond, nat_le, List, [], ◌∷◌, Option, None, Some, filter, refl, sym, ap, subst, ◌∙◌, nat_cmp, Less}
+use Rattle.std.proofs.Common.{◌≡◌, ℕ, ◌≤◌, ◌<◌, ◌+◌, arith, Bool, true, false, cond, nat_le, List, [], ◌∷◌, Option}
+use Rattle.std.proofs.Common.{None, Some, filter, refl, sym, ap, subst, ◌∙◌, nat_cmp, Less}
 use Rattle.std.specs.Ordering.{is_eq}
 use Rattle.std.specs.Option.{is_some, option_map}
 use Rattle.std.specs.BTreeMap.{is_at}
@@ -13,7 +14,7 @@ use Rattle.linda_tuple.specs.Tuple.{Tuple}
 use Rattle.linda_bag.proofs.FilingLaws.{id_told}
 use Rattle.linda_hold.specs.Waits.{Wait}
 use Rattle.linda_hold.specs.Arrivals.{IsNext, may_meet, met_from}
-use Rattle.linda_hold.specs.Heads.{may_answer}
+use Rattle.linda_hold.specs.TagIndex.{may_answer}
 use Rattle.linda_hold.specs.Index.{asked_of}
 use Rattle.linda_hold.specs.Numbered.{in_order, wait_at}
 use Rattle.linda_hold.proofs.ListLaws.{weaker}
@@ -31,7 +32,8 @@ module _ (p : Wait → Bool) where
       at_least : nat_le from e.0 ≡ true → from ≤ e.0
       at_least is = grind (arith, nat_tests)
 
-      by : (b : Bool) → nat_le from e.0 ≡ b → filter p (values_of (cond b (e ∷ filter (λ f. nat_le from f.0) es) (filter (λ f. nat_le from f.0) es))) ≡ passed_from from es
+      by : (b : Bool) → nat_le from e.0 ≡ b
+          → filter p (values_of (cond b (e ∷ filter (λ f. nat_le from f.0) es) (filter (λ f. nat_le from f.0) es))) ≡ passed_from from es
       by false is = refl
       by true is = ap (λ b. cond b (e.1 ∷ passed_from from es) (passed_from from es)) (off (at_least is))
 
@@ -45,7 +47,8 @@ module _ (p : Wait → Bool) where
       is above = grind (arith, nat_tests)
 
   -- All that is above two numbers passes from the one on as from the other.
-  all_above : (low from : ℕ) (es : List (ℕ × Wait)) → from ≤ low + 1 → AllByRecursion (λ y. nat_cmp low y ≡ Less) (keys_of es) → filter (λ e. nat_le from e.0) es ≡ es
+  all_above : (low from : ℕ) (es : List (ℕ × Wait)) → from ≤ low + 1 → AllByRecursion (λ y. nat_cmp low y ≡ Less) (keys_of es)
+      → filter (λ e. nat_le from e.0) es ≡ es
   all_above low from [] below above = refl
   all_above low from (e ∷ es) below above =
       ap (λ b. cond b (e ∷ filter (λ f. nat_le from f.0) es) (filter (λ f. nat_le from f.0) es)) (is (ranked low e.0 Less (sym above.0)))
@@ -64,14 +67,16 @@ module _ (p : Wait → Bool) where
       is k = grind (arith, nat_tests)
 
   -- What is found among entries above a number is above it.
-  found_above : (low n : ℕ) (w : Wait) (es : List (ℕ × Wait)) → AllByRecursion (λ y. nat_cmp low y ≡ Less) (keys_of es) → lookup (is_at (nat_cmp n)) es ≡ Some w → low < n
+  found_above : (low n : ℕ) (w : Wait) (es : List (ℕ × Wait)) → AllByRecursion (λ y. nat_cmp low y ≡ Less) (keys_of es)
+      → lookup (is_at (nat_cmp n)) es ≡ Some w → low < n
   found_above low n w [] above there = absurd (none there)
     where
       none : None ≡ Some w → ⊥
       none e = cc
   found_above low n w (e ∷ es) above there = by (is_eq (nat_cmp n e.0)) refl there (found_above low n w es above.1)
     where
-      by : (b : Bool) → is_eq (nat_cmp n e.0) ≡ b → cond b (Some e.1) (lookup (is_at (nat_cmp n)) es) ≡ Some w → (lookup (is_at (nat_cmp n)) es ≡ Some w → low < n) → low < n
+      by : (b : Bool) → is_eq (nat_cmp n e.0) ≡ b → cond b (Some e.1) (lookup (is_at (nat_cmp n)) es) ≡ Some w
+          → (lookup (is_at (nat_cmp n)) es ≡ Some w → low < n) → low < n
       by true is there later = subst (λ x. low < x) (sym ((id_told n e.0).0 is)) (ranked low e.0 Less (sym above.0))
       by false off there later = later there
 
@@ -85,7 +90,8 @@ module _ (p : Wait → Bool) where
     none_left from (e ∷ es) says none =
         passed_over from e es (λ above. sym says.0 ∙ none e.0 above) ∙ none_left from es says.1 none
 
-    one_next : (from n : ℕ) (w : Wait) (es : List (ℕ × Wait)) → IsStrictlySortedBy nat_cmp (keys_of es) → Says es → from ≤ n → p w ≡ true → ((k : ℕ) → from ≤ k → k < n → has k ≡ false) → lookup (is_at (nat_cmp n)) es ≡ Some w → passed_from from es ≡ w ∷ passed_from (n + 1) es
+    one_next : (from n : ℕ) (w : Wait) (es : List (ℕ × Wait)) → IsStrictlySortedBy nat_cmp (keys_of es) → Says es → from ≤ n → p w ≡ true
+        → ((k : ℕ) → from ≤ k → k < n → has k ≡ false) → lookup (is_at (nat_cmp n)) es ≡ Some w → passed_from from es ≡ w ∷ passed_from (n + 1) es
     unfolding IsStrictlySortedBy
     one_next from n w [] sorted says above passes below there = absurd (none there)
       where
@@ -100,7 +106,9 @@ module _ (p : Wait → Bool) where
         after : e.0 < n → n + 1 ≤ e.0 → ⊥
         after before less = omega arith
 
-        by : (b : Bool) → is_eq (nat_cmp n e.0) ≡ b → cond b (Some e.1) (lookup (is_at (nat_cmp n)) es) ≡ Some w → (lookup (is_at (nat_cmp n)) es ≡ Some w → passed_from from es ≡ w ∷ passed_from (n + 1) es) → passed_from from (e ∷ es) ≡ w ∷ passed_from (n + 1) (e ∷ es)
+        by : (b : Bool) → is_eq (nat_cmp n e.0) ≡ b → cond b (Some e.1) (lookup (is_at (nat_cmp n)) es) ≡ Some w
+            → (lookup (is_at (nat_cmp n)) es ≡ Some w → passed_from from es ≡ w ∷ passed_from (n + 1) es)
+            → passed_from from (e ∷ es) ≡ w ∷ passed_from (n + 1) (e ∷ es)
         by true is there rest =
             let same : n ≡ e.0 = (id_told n e.0).0 is in
             let own : e.1 ≡ w = value there in
@@ -143,7 +151,8 @@ module _ (entries : List (ℕ × Wait)) (row : Tuple) where
   none_met from none = none_left (may_meet row) reach from (in_order entries) says none
 
   -- The wait under the next number is the first that is left.
-  pub next_met : (from n : ℕ) (w : Wait) → IsNext reach from (Some n) → wait_at entries n ≡ Some w → met_from row from entries ≡ w ∷ met_from row (n + 1) entries
+  pub next_met : (from n : ℕ) (w : Wait) → IsNext reach from (Some n) → wait_at entries n ≡ Some w
+      → met_from row from entries ≡ w ∷ met_from row (n + 1) entries
   next_met from n w next there =
       one_next (may_meet row) reach from n w (in_order entries) (ordered entries) says next.0
       (sym (ap (λ o. may_answer row (option_map (λ x. x.1) o)) there) ∙ next.1)

@@ -7,7 +7,7 @@ use Rattle.std.proofs.lemmas.Bool.{true≢false}
 use Rattle.std.proofs.lemmas.Bool.Decides.{Decides-at}
 use Rattle.linda_bag.specs.Filing.{with_row}
 use Rattle.linda_hold.specs.declared.request.Request.{Request}
-use Rattle.linda_hold.specs.Named.{Requests, IsNumbered, Sets}
+use Rattle.linda_hold.specs.TicketIndex.{Requests, IsNumbered, Sets}
 use Rattle.linda_hold.proofs.ListLaws.{request_told}
 
 -- The order tells numbers apart.

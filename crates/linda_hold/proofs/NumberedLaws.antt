@@ -1,5 +1,6 @@
 -- Waits under their numbers, in order: a look-up finds there what it finds in the map that keeps them.
-use Rattle.std.proofs.Common.{◌≡◌, ℕ, arith, Bool, true, false, ◌&&◌, T, cond, List, [], ◌∷◌, None, Some, length, refl, sym, ap, subst, ◌∙◌, nat_cmp, nat_eq, is_lt, Less}
+use Rattle.std.proofs.Common.{◌≡◌, ℕ, arith, Bool, true, false, ◌&&◌, T, cond, List, [], ◌∷◌, None, Some, length, refl}
+use Rattle.std.proofs.Common.{sym, ap, subst, ◌∙◌, nat_cmp, nat_eq, is_lt, Less}
 use Rattle.std.specs.declared.cmp.Ordering.{Ordering}
 use Rattle.std.specs.declared.cmp.Ordering.TheVariants as orderings
 use Rattle.std.specs.Ordering.{is_eq, eq_by_cmp, ordering_reverse}
@@ -11,7 +12,7 @@ use Rattle.std.specs.BTreeMap.{is_at}
 use Rattle.std.specs.FinMap.{len-empty, find, from_entries, is_sorted, entries_sorted, get-entries, get-from_entries, len-entries, nat_cmp-IsAntisymmetric}
 use Rattle.std.specs.FinMap.Entries.{below_all}
 use Rattle.std.specs.FinMap.Entries as ordering
-use Rattle.linda_maps.proofs.MapLaws.{find_is_lookup, len_new}
+use Rattle.linda_map_laws.proofs.MapLaws.{find_is_lookup, len_new}
 use Rattle.linda_bag.proofs.OrderLaws.{number_itself}
 use Rattle.linda_hold.specs.Waits.{Wait}
 use Rattle.linda_hold.specs.Numbered.{in_order, wait_at}
@@ -52,10 +53,14 @@ sorted_tested [] sorted = tt
 sorted_tested (e ∷ es) sorted = and _ _ (below_tested e.0 es sorted.0) (sorted_tested es sorted.1)
 
 -- Each wait is found under its number.
-past : (e : ℕ × Wait) (all es : List (ℕ × Wait)) → AllByRecursion (λ y. nat_cmp e.0 y ≡ Less) (keys_of es) → AllByRecursion (λ f. lookup (is_at (nat_cmp f.0)) all ≡ Some f.1) es → AllByRecursion (λ f. lookup (is_at (nat_cmp f.0)) (e ∷ all) ≡ Some f.1) es
+past : (e : ℕ × Wait) (all es : List (ℕ × Wait)) → AllByRecursion (λ y. nat_cmp e.0 y ≡ Less) (keys_of es)
+    → AllByRecursion (λ f. lookup (is_at (nat_cmp f.0)) all ≡ Some f.1) es → AllByRecursion (λ f. lookup (is_at (nat_cmp f.0)) (e ∷ all) ≡ Some f.1) es
 past e all [] above there = tt
-past e all (f ∷ fs) above there =
-    (ap (λ o. cond (is_eq o) (Some e.1) (lookup (is_at (nat_cmp f.0)) all)) (nat_cmp_total.antisymm f.0 e.0 ∙ ap ordering_reverse above.0) ∙ there.0, past e all fs above.1 there.1)
+past e all (f ∷ fs) above there = (
+  ap (λ o. cond (is_eq o) (Some e.1) (lookup (is_at (nat_cmp f.0)) all)) (nat_cmp_total.antisymm f.0 e.0 ∙ ap ordering_reverse above.0)
+      ∙ there.0,
+  past e all fs above.1 there.1,
+)
 
 pub each_found : (es : List (ℕ × Wait)) → IsStrictlySortedBy nat_cmp (keys_of es) → AllByRecursion (λ e. lookup (is_at (nat_cmp e.0)) es ≡ Some e.1) es
 unfolding IsStrictlySortedBy
@@ -64,9 +69,11 @@ each_found (e ∷ es) sorted =
     (ap (λ b. cond b (Some e.1) (lookup (is_at (nat_cmp e.0)) es)) (number_itself e.0), past e es es sorted.0 (each_found es sorted.1))
 
 -- Lists in order in which look-ups find the same are the same.
-pub same_list : (es fs : List (ℕ × Wait)) → IsStrictlySortedBy nat_cmp (keys_of es) → IsStrictlySortedBy nat_cmp (keys_of fs) → ((q : ℕ) → lookup (is_at (nat_cmp q)) es ≡ lookup (is_at (nat_cmp q)) fs) → es ≡ fs
+pub same_list : (es fs : List (ℕ × Wait)) → IsStrictlySortedBy nat_cmp (keys_of es) → IsStrictlySortedBy nat_cmp (keys_of fs)
+    → ((q : ℕ) → lookup (is_at (nat_cmp q)) es ≡ lookup (is_at (nat_cmp q)) fs) → es ≡ fs
 same_list es fs first second alike =
-    ordering.same_entries nat_cmp nat_cmp_total nat_cmp-IsAntisymmetric es fs (sorted_tested es first) (sorted_tested fs second) (λ q. find_is_lookup q es ∙ alike q ∙ sym (find_is_lookup q fs))
+    ordering.same_entries nat_cmp nat_cmp_total nat_cmp-IsAntisymmetric es fs (sorted_tested es first)
+    (sorted_tested fs second) (λ q. find_is_lookup q es ∙ alike q ∙ sym (find_is_lookup q fs))
 
 -- A look-up of the map is one of a finite map.
 pub alike : (es : List (ℕ × Wait)) (q : ℕ) → wait_at es q ≡ find nat_cmp q es

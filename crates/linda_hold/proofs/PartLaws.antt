@@ -35,7 +35,8 @@ module _ {X : Type 0} (p : X → Bool) where
   part_sorted [] sorted = tt
   part_sorted (e ∷ es) sorted = by (p e.1) (kept _ es sorted.0) (part_sorted es sorted.1)
     where
-      by : (b : Bool) → AllByRecursion (λ y. nat_cmp e.0 y ≡ Less) (keys_of (part es)) → IsStrictlySortedBy nat_cmp (keys_of (part es)) → IsStrictlySortedBy nat_cmp (keys_of (cond b (e ∷ part es) (part es)))
+      by : (b : Bool) → AllByRecursion (λ y. nat_cmp e.0 y ≡ Less) (keys_of (part es))
+          → IsStrictlySortedBy nat_cmp (keys_of (part es)) → IsStrictlySortedBy nat_cmp (keys_of (cond b (e ∷ part es) (part es)))
       by true above rest = (above, rest)
       by false above rest = rest
 
@@ -43,13 +44,15 @@ module _ {X : Type 0} (p : X → Bool) where
   any_keys test [] = refl
   any_keys test (e ∷ es) = ap (λ b. test e.0 || b) (any_keys test es)
 
-  part_has : (es : List (ℕ × X)) → IsStrictlySortedBy nat_cmp (keys_of es) → (q : ℕ) → list_any (is_at (nat_cmp q)) (keys_of (part es)) ≡ is_some (option_filter p (lookup (is_at (nat_cmp q)) es))
+  part_has : (es : List (ℕ × X)) → IsStrictlySortedBy nat_cmp (keys_of es) → (q : ℕ)
+      → list_any (is_at (nat_cmp q)) (keys_of (part es)) ≡ is_some (option_filter p (lookup (is_at (nat_cmp q)) es))
   part_has es sorted q =
       any_keys (is_at (nat_cmp q)) (part es)
       ∙ sym (lookup_any (is_at (nat_cmp q)) (part es))
       ∙ ap is_some (lookup-filter-values (eq_by_cmp_equiv nat_cmp_total) p q es (IsDistinct-from_sorted nat_cmp (keys_of es) sorted))
 
-  module _ (es : List (ℕ × X)) (ordered : IsStrictlySortedBy nat_cmp (keys_of es)) {T : Type 0} (rows : Rows T) (same : (q : ℕ) → is_some (rows q) ≡ is_some (option_filter p (lookup (is_at (nat_cmp q)) es))) where
+  module _ (es : List (ℕ × X)) (ordered : IsStrictlySortedBy nat_cmp (keys_of es)) {T : Type 0} (rows : Rows T)
+      (same : (q : ℕ) → is_some (rows q) ≡ is_some (option_filter p (lookup (is_at (nat_cmp q)) es))) where
     -- A set that has the numbers of what passes has the keys of that part, in their order.
     pub found_some : (ids : BTreeSet ℕ) → sets.IsOrdered nat_cmp ids → HasIds ids rows → ids.keys ≡ keys_of (part es)
     found_some ids sorted has =
@@ -57,6 +60,7 @@ module _ {X : Type 0} (p : X → Bool) where
         (λ q. has q ∙ same q ∙ sym (part_has es ordered q)) exact_unsigned
 
     -- What counts the numbers in any such set counts that part.
-    pub counted_part : (count : ℕ) → ((ids : BTreeSet ℕ) → sets.IsOrdered nat_cmp ids → HasIds ids rows → count ≡ length ids.keys) → count ≡ length (keys_of (part es))
+    pub counted_part : (count : ℕ) → ((ids : BTreeSet ℕ) → sets.IsOrdered nat_cmp ids → HasIds ids rows → count ≡ length ids.keys)
+        → count ≡ length (keys_of (part es))
     counted_part count counts =
         counts (record { keys = keys_of (part es) }) (part_sorted es ordered) (λ q. part_has es ordered q ∙ sym (same q))

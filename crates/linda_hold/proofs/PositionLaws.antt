@@ -1,5 +1,6 @@
 -- Requests by the position of their first value.
-use Rattle.std.proofs.Common.{◌≡◌, ℕ, ◌+◌, arith, Bool, true, false, cond, ◌||◌, ◌&&◌, nat_lt, List, Option, None, Some, is_some, slice_get, refl, sym, ap, subst, ◌∙◌, nat_cmp}
+use Rattle.std.proofs.Common.{◌≡◌, ℕ, ◌+◌, arith, Bool, true, false, cond, ◌||◌, ◌&&◌, nat_lt, List, Option, None, Some}
+use Rattle.std.proofs.Common.{is_some, slice_get, refl, sym, ap, subst, ◌∙◌, nat_cmp}
 use Rattle.std.specs.Ordering.{is_eq}
 use Rattle.std.proofs.lemmas.Bool.{true≢false}
 use Rattle.std.proofs.lemmas.Bool.Decides.{nat_tests}
@@ -9,7 +10,7 @@ use Rattle.linda_bag.specs.Filing.{with_row, Refiles, row_at, placed, keyed}
 use Rattle.linda_bag.proofs.FilingLaws.{id_told}
 use Rattle.linda_hold.specs.declared.asked.Asked.{Asked}
 use Rattle.linda_hold.specs.declared.group.Group.{Group}
-use Rattle.linda_hold.specs.Firsts.{later_of}
+use Rattle.linda_hold.specs.FirstValue.{later_of}
 use Rattle.linda_hold.specs.Group.{HasGroup, is_reached}
 use Rattle.linda_hold.specs.Positions.{HasEarly, if_early, early_at, early_of, is_met_by, is_met_below}
 
@@ -36,18 +37,21 @@ met_early fields (Some asked) = by (later_of asked)
         below k = grind (arith, nat_tests)
 
 -- One position more has those whose first value is there.
-pub met_more : (k : ℕ) (fields : List Atom) (o : Option Asked) → is_met_below (k + 1) fields o ≡ (is_met_below k fields o || is_reached (slice_get fields k) (row_at nat_cmp k (placed later_of o)))
+pub met_more : (k : ℕ) (fields : List Atom) (o : Option Asked)
+    → is_met_below (k + 1) fields o ≡ (is_met_below k fields o || is_reached (slice_get fields k) (row_at nat_cmp k (placed later_of o)))
 met_more k fields None = sym (none_reached (slice_get fields k))
 met_more k fields (Some asked) = by (later_of asked)
   where
     R : ℕ → Bool
     R p = is_reached (slice_get fields p) (Some asked)
 
-    by : (later : Option ℕ) → is_met_by (k + 1) fields later asked ≡ (is_met_by k fields later asked || is_reached (slice_get fields k) (row_at nat_cmp k (keyed later asked)))
+    by : (later : Option ℕ) → is_met_by (k + 1) fields later asked
+        ≡ (is_met_by k fields later asked || is_reached (slice_get fields k) (row_at nat_cmp k (keyed later asked)))
     by None = or_none (is_reached (first_among fields) (Some asked)) (is_reached (slice_get fields k) None) (none_reached (slice_get fields k))
     by (Some p) = at (is_eq (nat_cmp p k)) refl
       where
-        at : (b : Bool) → is_eq (nat_cmp p k) ≡ b → (nat_lt p (k + 1) && R p) ≡ ((nat_lt p k && R p) || is_reached (slice_get fields k) (cond b (Some asked) None))
+        at : (b : Bool) → is_eq (nat_cmp p k) ≡ b
+            → (nat_lt p (k + 1) && R p) ≡ ((nat_lt p k && R p) || is_reached (slice_get fields k) (cond b (Some asked) None))
         at true is =
             let same : p ≡ k = (id_told p k).0 is in
             ap (λ b. b && R p) (here same) ∙ ap R same ∙ ap (λ b. (b && R p) || R k) (sym (not_below same))
@@ -65,7 +69,8 @@ met_more k fields (Some asked) = by (later_of asked)
             alike differ = grind (arith, nat_tests)
 
 -- Where no first value is at the position, there are no more.
-pub met_no_more : (k : ℕ) (fields : List Atom) (o : Option Asked) → row_at nat_cmp k (placed later_of o) ≡ None → is_met_below (k + 1) fields o ≡ is_met_below k fields o
+pub met_no_more : (k : ℕ) (fields : List Atom) (o : Option Asked) → row_at nat_cmp k (placed later_of o) ≡ None
+    → is_met_below (k + 1) fields o ≡ is_met_below k fields o
 met_no_more k fields o none =
     met_more k fields o
     ∙ ap (λ r. is_met_below k fields o || is_reached (slice_get fields k) r) none
@@ -81,7 +86,8 @@ no_request (Some asked) early later = by (later_of asked) early later
     by (Some k) early later = absurd (true≢false (ap is_some later))
 
 -- The early ones change as all do.
-pub early_refiled : (old new : Group) (id : ℕ) (before after : Option Asked) → Refiles (HasGroup old) (HasGroup new) id (early_at before) (early_at after) → Refiles (HasEarly old) (HasEarly new) id before after
+pub early_refiled : (old new : Group) (id : ℕ) (before after : Option Asked)
+    → Refiles (HasGroup old) (HasGroup new) id (early_at before) (early_at after) → Refiles (HasEarly old) (HasEarly new) id before after
 early_refiled old new id before after change rows there known =
     subst (HasGroup new) (λ j. λ q. same q j) (change (early_of rows) (ap early_at there) known)
   where
@@ -92,7 +98,8 @@ early_refiled old new id before after change rows there known =
           | false ↦ refl
         ]
 
-pub early_refiled_as : (old new : Group) (id : ℕ) (before after b a : Option Asked) → b ≡ early_at before → a ≡ early_at after → Refiles (HasGroup old) (HasGroup new) id b a → Refiles (HasEarly old) (HasEarly new) id before after
+pub early_refiled_as : (old new : Group) (id : ℕ) (before after b a : Option Asked) → b ≡ early_at before
+    → a ≡ early_at after → Refiles (HasGroup old) (HasGroup new) id b a → Refiles (HasEarly old) (HasEarly new) id before after
 early_refiled_as old new id before after b a was is change =
     early_refiled old new id before after
     (subst (λ x. Refiles (HasGroup old) (HasGroup new) id x (early_at after)) was (subst (λ x. Refiles (HasGroup old) (HasGroup new) id b x) is change))

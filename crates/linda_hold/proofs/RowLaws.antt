@@ -1,11 +1,11 @@
 -- Rows of a finite map by numbers: in order, by their look-ups, and what a change of the map is to these.
-use Rattle.std.proofs.Common.{◌≡◌, ℕ, Bool, cond, Option, None, Some, sym, ap, ◌∙◌, nat_cmp}
+use Rattle.std.proofs.Common.{◌≡◌, ℕ, cond, None, Some, sym, ap, ◌∙◌, nat_cmp}
 use Rattle.std.specs.Ordering.{is_eq}
 use Rattle.std.specs.List.Sorted.{IsStrictlySortedBy}
 use Rattle.std.specs.Map.{lookup, keys_of}
 use Rattle.std.specs.BTreeMap.{is_at}
 use Rattle.std.specs.FinMap.{FinMap, entries, get, insert, remove, entries_sorted, get-entries}
-use Rattle.linda_maps.proofs.MapLaws.{find_is_lookup, get_inserted, get_removed}
+use Rattle.linda_map_laws.proofs.MapLaws.{find_is_lookup, get_inserted, get_removed}
 use Rattle.linda_bag.proofs.TuplesLaws.{told}
 use Rattle.linda_hold.proofs.NumberedLaws.{sorted_told}
 

@@ -4,7 +4,7 @@ use Rattle.std.specs.Ordering.{is_eq}
 use Rattle.std.specs.BTreeMap as tree
 use Rattle.std.proofs.lemmas.Grind.{common_steps}
 use Rattle.linda_hold.specs.declared.request.Request.{Request}
-use Rattle.linda_hold.specs.Named.{Tickets, Clients, number_in, number_at, AreUsed, Sets}
+use Rattle.linda_hold.specs.TicketIndex.{Tickets, Clients, number_in, number_at, AreUsed, Sets}
 use Rattle.linda_hold.proofs.NameLaws.{same_number, sets_number}
 
 -- A change after another at the same place is the last alone.
@@ -22,7 +22,8 @@ module _ (old new : Clients) (request : Request) (was : Tickets) (now : Option T
   clients = sets_number (tree.get nat_cmp old) (tree.get nat_cmp new) request.client now changed
 
   -- Where the tickets of the client change at the ticket, the numbers change at the request.
-  pub sets_request : (number : Option ℕ) → Some was ≡ tree.get nat_cmp old request.client → ((t : ℕ) → number_in now t ≡ cond (is_eq (nat_cmp request.ticket t)) number (tree.get nat_cmp was t))
+  pub sets_request : (number : Option ℕ) → Some was ≡ tree.get nat_cmp old request.client
+      → ((t : ℕ) → number_in now t ≡ cond (is_eq (nat_cmp request.ticket t)) number (tree.get nat_cmp was t))
       → Sets (number_at old) (number_at new) request number
   sets_request number there inside = record {
     here = ap (λ o. number_in o request.ticket) clients.here ∙ tickets.here;

@@ -3,7 +3,7 @@ use Rattle.std.proofs.Common.{◌≡◌, ℕ, Option, None, Some, refl, sym, ap,
 use Rattle.std.specs.FinMap as map
 use Rattle.linda_hold.specs.declared.request.Request.{Request}
 use Rattle.linda_hold.specs.Holds.{HeldFor, IsHeldAt, IsOneEach}
-use Rattle.linda_hold.specs.Named.{IsNumbered}
+use Rattle.linda_hold.specs.TicketIndex.{IsNumbered}
 
 module _ (by_id holds : HeldFor) (view_is : by_id ≡ holds) where
   -- A look-up in the holds is one in the map by id.

@@ -1,6 +1,8 @@
 -- The waits of a client, and those that a tuple may answer: the numbers that are filed under these are those of the waits that
 -- contracts speak of.
-use Rattle.std.proofs.Common.{◌≡◌, ℕ, ◌+◌, ◌<◌, arith, zero, suc, nat_lt, slice_get, Bool, true, false, ◌||◌, ◌&&◌, ◌==◌, cond, List, [], ◌∷◌, Option, None, Some, length, filter, refl, sym, ap, subst, ◌∙◌, nat_cmp}
+use Rattle.std.proofs.Common.{◌≡◌, ℕ, ◌+◌, ◌<◌, arith, zero, suc, nat_lt, slice_get, Bool, true, false, ◌||◌, ◌&&◌}
+use Rattle.std.proofs.Common.{◌==◌, cond, List, [], ◌∷◌, Option, None, Some, length, filter, refl, sym, ap, subst, ◌∙◌}
+use Rattle.std.proofs.Common.{nat_cmp}
 use Rattle.std.specs.BTreeMap.{is_at}
 use Rattle.std.specs.Ordering.{is_eq}
 use Rattle.std.specs.Option.{is_some, option_map}
@@ -25,11 +27,11 @@ use Rattle.linda_bag.proofs.OrderLaws.{atom_itself, number_itself}
 use Rattle.linda_hold.specs.declared.asked.Asked.{Asked}
 use Rattle.linda_hold.specs.Waits.{Wait, waits_of}
 use Rattle.linda_hold.specs.Arrivals.{may_meet}
-use Rattle.linda_hold.specs.Firsts.{first_of, if_later, value_from}
+use Rattle.linda_hold.specs.FirstValue.{first_of, if_later, value_from}
 use Rattle.linda_hold.specs.Group.{if_unkeyed, is_reached, keyed_at}
 use Rattle.linda_hold.specs.Positions.{is_met, is_met_by}
-use Rattle.linda_hold.specs.Named.{Requests, IsCount, client_of}
-use Rattle.linda_hold.specs.Heads.{Waiting, count_of, alike}
+use Rattle.linda_hold.specs.TicketIndex.{Requests, IsCount, client_of}
+use Rattle.linda_hold.specs.TagIndex.{Waiting, count_of, alike}
 use Rattle.linda_hold.specs.Index.{requests_of}
 use Rattle.linda_hold.proofs.PartLaws.{part, counted_part}
 
@@ -37,7 +39,8 @@ pub part_values : (p : Wait → Bool) (es : List (ℕ × Wait)) → values_of (p
 part_values p [] = refl
 part_values p (e ∷ es) = by (p e.1) (part_values p es)
   where
-    by : (b : Bool) → values_of (part p es) ≡ filter p (values_of es) → values_of (cond b (e ∷ part p es) (part p es)) ≡ cond b (e.1 ∷ filter p (values_of es)) (filter p (values_of es))
+    by : (b : Bool) → values_of (part p es) ≡ filter p (values_of es)
+        → values_of (cond b (e ∷ part p es) (part p es)) ≡ cond b (e.1 ∷ filter p (values_of es)) (filter p (values_of es))
     by true rest = ap (λ l. e.1 ∷ l) rest
     by false rest = rest
 
@@ -49,7 +52,8 @@ told true x = refl
 told false x = refl
 
 -- A request is filed where a tuple of its tag and its number of fields is looked for.
-same_head : (row : Tuple) (asked : Asked) → is_eq (atom_ord.ghosts.cmp asked.template.tag row.tag) ≡ true → is_eq (nat_cmp (length asked.template.fields) (length row.fields)) ≡ true → alike row (λ _. Some asked) 0 ≡ Some asked
+same_head : (row : Tuple) (asked : Asked) → is_eq (atom_ord.ghosts.cmp asked.template.tag row.tag) ≡ true
+    → is_eq (nat_cmp (length asked.template.fields) (length row.fields)) ≡ true → alike row (λ _. Some asked) 0 ≡ Some asked
 same_head row asked tag count =
     ap (λ b. row_at nat_cmp (length row.fields) (placed (λ r. Some (count_of r)) (cond b (Some asked) None))) tag
     ∙ ap (λ b. cond b (Some asked) None) count
@@ -64,7 +68,8 @@ unkeyed_reached field asked is = or_right (is_some (keyed_at field (Some asked))
 
 -- Where the patterns fit the fields, the field at the position of the first value is that value.
 module _ (whole : List Atom) where
-  value_there : (before : ℕ) (patterns : List Pattern) (fields : List Atom) (p : ℕ × Atom) → ((i : ℕ) → slice_get whole (before + i) ≡ slice_get fields i) → AllZip Fits patterns fields → value_from before patterns ≡ Some p → slice_get whole p.0 ≡ Some p.1
+  value_there : (before : ℕ) (patterns : List Pattern) (fields : List Atom) (p : ℕ × Atom) → ((i : ℕ) → slice_get whole (before + i) ≡ slice_get fields i)
+      → AllZip Fits patterns fields → value_from before patterns ≡ Some p → slice_get whole p.0 ≡ Some p.1
   value_there before [] fields p same fits is = absurd (none is)
     where
       none : None ≡ Some p → ⊥
@@ -81,7 +86,8 @@ module _ (whole : List Atom) where
       here : before ≡ before + 0
       here = omega arith
 
-      at : (q : Pattern) → Fits q x → value_from before (q ∷ qs) ≡ Some p → (value_from (before + 1) qs ≡ Some p → slice_get whole p.0 ≡ Some p.1) → slice_get whole p.0 ≡ Some p.1
+      at : (q : Pattern) → Fits q x → value_from before (q ∷ qs) ≡ Some p
+          → (value_from (before + 1) qs ≡ Some p → slice_get whole p.0 ≡ Some p.1) → slice_get whole p.0 ≡ Some p.1
       at (patterns.Value v) fit is rest =
           subst (λ (r : ℕ × Atom). slice_get whole r.0 ≡ Some r.1) (own is)
           (ap (slice_get whole) here ∙ same 0 ∙ ap (λ (a : Atom). Some a) (sym (fits_itself v x fit)))
@@ -152,12 +158,14 @@ met_where_matched row w is =
     ∙ reached row.fields w.1 match.fields
 
 -- The waits es in order, and the wait under each number.
-module _ (es : List (ℕ × Wait)) (ordered : IsStrictlySortedBy nat_cmp (keys_of es)) (waiting : Waiting) (found : (q : ℕ) → waiting q ≡ lookup (is_at (nat_cmp q)) es) where
+module _ (es : List (ℕ × Wait)) (ordered : IsStrictlySortedBy nat_cmp (keys_of es)) (waiting : Waiting)
+    (found : (q : ℕ) → waiting q ≡ lookup (is_at (nat_cmp q)) es) where
   module _ (client : ℕ) where
     abbrev pub own : Requests
     own = rows_at nat_cmp client_of client (requests_of waiting)
 
-    own_at : (o : Option Wait) → is_some (row_at nat_cmp client (placed client_of (option_map (λ w. w.0) o))) ≡ is_some (option_filter (λ w. client == w.0.client) o)
+    own_at : (o : Option Wait) → is_some (row_at nat_cmp client (placed client_of (option_map (λ w. w.0) o)))
+        ≡ is_some (option_filter (λ w. client == w.0.client) o)
     own_at None = refl
     own_at (Some w) =
         told (is_eq (nat_cmp w.0.client client)) w.0
@@ -168,5 +176,6 @@ module _ (es : List (ℕ × Wait)) (ordered : IsStrictlySortedBy nat_cmp (keys_o
     -- The client has as many requests as waits.
     pub own_count : (count : ℕ) → IsCount client (requests_of waiting) count → count ≡ length (waits_of client (values_of es))
     own_count count counts =
-        counted_part (λ w. client == w.0.client) es ordered own (λ q. own_at (waiting q) ∙ ap (λ o. is_some (option_filter (λ w. client == w.0.client) o)) (found q)) count counts
+        counted_part (λ w. client == w.0.client) es ordered own (λ q. own_at (waiting q)
+        ∙ ap (λ o. is_some (option_filter (λ w. client == w.0.client) o)) (found q)) count counts
         ∙ part_length (λ w. client == w.0.client) es

@@ -1,5 +1,7 @@
 -- A walk over a map, one run of rows after another: what was put into a set so far.
-use Rattle.std.proofs.Common.{◌≡◌, ℕ, zero, suc, ◌<◌, ◌≤◌, arith, Bool, true, false, cond, ◌||◌, ◌==◌, if◌then◌else◌, List, [], ◌∷◌, Option, None, Some, is_some, length, get_or, take, refl, sym, ap, subst, ◌∙◌, inl, inr}
+use Rattle.std.proofs.Common.{◌≡◌, ℕ, zero, suc, ◌<◌, ◌≤◌, arith, Bool, true, false, cond, ◌||◌, ◌==◌, if◌then◌else◌}
+use Rattle.std.proofs.Common.{List, [], ◌∷◌, Option, None, Some, is_some, length, get_or, take, refl, sym, ap, subst}
+use Rattle.std.proofs.Common.{◌∙◌, inl, inr}
 use Rattle.std.proofs.lemmas.Bool.{cases_lt}
 use Rattle.linda_rising.specs.Rows.{at, IsUnder, Begins}
 use Rattle.linda_rising.proofs.RunLaws.{place_there}
@@ -20,15 +22,18 @@ module _ {T : Type 0} where
   first_there true x later = refl
   first_there false x later = refl
 
-  behind : (b : Bool) (x : T) (some more : Option T) (here : Bool) → is_some more ≡ (is_some some || here) → is_some (if b then Some x else more) ≡ (is_some (if b then Some x else some) || here)
+  behind : (b : Bool) (x : T) (some more : Option T) (here : Bool) → is_some more ≡ (is_some some || here)
+      → is_some (if b then Some x else more) ≡ (is_some (if b then Some x else some) || here)
   behind true x some more here is = refl
   behind false x some more here is = is
 
   -- One row more is among the first ones.
-  pub one_more : (rows : List (ℕ × T)) (i : ℕ) (none : ℕ × T) → i < length rows → (q : ℕ) → is_some (at (take (suc i) rows) q) ≡ (is_some (at (take i rows) q) || (q == (get_or rows i none).0))
+  pub one_more : (rows : List (ℕ × T)) (i : ℕ) (none : ℕ × T) → i < length rows → (q : ℕ)
+      → is_some (at (take (suc i) rows) q) ≡ (is_some (at (take i rows) q) || (q == (get_or rows i none).0))
   one_more [] i none within q = absurd (omega (arith, within))
   one_more (r ∷ rows) zero none within q = first_there (q == r.0) r.1 None ∙ or_false (q == r.0)
-  one_more (r ∷ rows) (suc i) none within q = behind (q == r.0) r.1 (at (take i rows) q) (at (take (suc i) rows) q) _ (one_more rows i none (omega (arith, within)) q)
+  one_more (r ∷ rows) (suc i) none within q =
+      behind (q == r.0) r.1 (at (take i rows) q) (at (take (suc i) rows) q) _ (one_more rows i none (omega (arith, within)) q)
 
   module _ (row_at : ℕ → Option T) (from : ℕ) (rows : List (ℕ × T)) (next : Option ℕ) (begins : Begins row_at from rows next) where
     none_lower : (q : ℕ) → q < from → at rows q ≡ None
@@ -49,7 +54,8 @@ module _ {T : Type 0} where
             absurd (omega (arith, more, under, p.2))
 
     -- The set had what is below the run, and now has its rows.
-    module _ (before after : ℕ → Bool) (had : (q : ℕ) → q < from → before q ≡ is_some (row_at q)) (free : (q : ℕ) → from ≤ q → before q ≡ false) (put : (q : ℕ) → after q ≡ (before q || is_some (at rows q))) where
+    module _ (before after : ℕ → Bool) (had : (q : ℕ) → q < from → before q ≡ is_some (row_at q)) (free : (q : ℕ)
+        → from ≤ q → before q ≡ false) (put : (q : ℕ) → after q ≡ (before q || is_some (at rows q))) where
       pub walked : (q : ℕ) → IsUnder q next → after q ≡ is_some (row_at q)
       walked q under =
           put q

@@ -39,8 +39,8 @@ Sets old new number second =
 abbrev pub IsForgotten : Ages → Ages → ℕ → Type 0
 IsForgotten old new number = Sets old new number None × (new.next ≡ old.next)
 
--- The number is noted in the present second, and is next in the order; or it is not noted, as memory
--- ran out.
+-- The number is noted in the present second, and is next in the order; or it is not noted, as
+-- memory ran out.
 abbrev pub IsNoted : Ages → Ages → ℕ → Type 0
 IsNoted old new number =
     (Sets old new number (Some old.second) × (tree.get nat_cmp new.order old.next ≡ Some number))

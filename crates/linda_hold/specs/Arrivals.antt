@@ -1,9 +1,10 @@
 -- Arrivals of requests: which number is the next one of those that are to be looked at, and which
 -- waits are still to be looked at.
-use Rattle.std.specs.Prelude.{◌≡◌, ℕ, ◌≤◌, ◌<◌, nat_le, Bool, true, false, List, Option, None, Some, filter}
+use Rattle.std.specs.Prelude.{◌≡◌, ℕ, ◌≤◌, ◌<◌, nat_le, Bool, true, false, List, Option, None, Some}
+use Rattle.std.specs.Prelude.{filter}
 use Rattle.std.specs.Map.{values_of}
 use Rattle.linda_tuple.specs.Tuple.{Tuple}
-use Rattle.linda_hold.specs.Heads.{may_answer}
+use Rattle.linda_hold.specs.TagIndex.{may_answer}
 use Rattle.linda_hold.specs.Waits.{Wait}
 use Rattle.linda_hold.specs.Numbered.{in_order}
 

@@ -9,8 +9,8 @@ use Rattle.linda_bag.specs.Filing.{Rows, row_at, placed}
 use Rattle.linda_bag.specs.Ids.{Many}
 use Rattle.linda_hold.specs.declared.asked.Asked.{Asked}
 use Rattle.linda_hold.specs.declared.group.Group.{Group}
-use Rattle.linda_bag.specs.Firsts.{HasFirsts}
-use Rattle.linda_hold.specs.Firsts.{first_of}
+use Rattle.linda_bag.specs.FirstFieldIndex.{HasFirstFields}
+use Rattle.linda_hold.specs.FirstValue.{first_of}
 
 -- the request, if its template has no value
 abbrev pub if_unkeyed : Option Atom → Asked → Option Asked
@@ -40,4 +40,4 @@ HasNumbers numbers asked = (q : ℕ) → contains_key numbers q ≡ is_some (ask
 -- Each number is filed under the first value of its request's template, or is with the others.
 abbrev pub HasGroup : Group → Rows Asked → Type 0
 HasGroup group asked =
-    HasFirsts first_of group.firsts asked × HasNumbers group.unkeyed (unkeyed_of asked)
+    HasFirstFields first_of group.firsts asked × HasNumbers group.unkeyed (unkeyed_of asked)

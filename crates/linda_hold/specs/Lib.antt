@@ -1,12 +1,12 @@
 pub mod Request
 pub mod Waits
 pub mod Holds
-pub mod Named
-pub mod Heads
+pub mod TicketIndex
+pub mod TagIndex
 pub mod Index
 pub mod Codes
 pub mod Arrivals
-pub mod Firsts
+pub mod FirstValue
 pub mod Group
 pub mod Positions
 pub mod Keys

@@ -5,7 +5,7 @@ use Rattle.std.specs.Ordering.{nat_cmp}
 use Rattle.std.specs.Map.{lookup}
 use Rattle.std.specs.FinMap as map
 use Rattle.linda_hold.specs.Waits.{Wait}
-use Rattle.linda_hold.specs.Heads.{Waiting}
+use Rattle.linda_hold.specs.TagIndex.{Waiting}
 
 -- the waits with their numbers, in order of the numbers
 abbrev pub in_order : List (ℕ × Wait) → List (ℕ × Wait)

@@ -1,6 +1,7 @@
 -- Requests that ask for tuples of one tag and one number of fields, by the position of the first
 -- value of their template.
-use Rattle.std.specs.Prelude.{ℕ, nat_lt, Bool, false, ◌&&◌, List, length, Option, None, Some, slice_get}
+use Rattle.std.specs.Prelude.{ℕ, nat_lt, Bool, false, ◌&&◌, List, length, Option, None, Some}
+use Rattle.std.specs.Prelude.{slice_get}
 use Rattle.std.specs.Ordering.{nat_cmp}
 use Rattle.linda_tuple.specs.declared.atom.Atom.{Atom}
 use Rattle.linda_bag.specs.Candidates.{first_among}
@@ -8,7 +9,7 @@ use Rattle.linda_bag.specs.Filing.{Rows, IsFiled}
 use Rattle.linda_hold.specs.declared.asked.Asked.{Asked}
 use Rattle.linda_hold.specs.declared.group.Group.{Group}
 use Rattle.linda_hold.specs.declared.positions.Positions.{Positions}
-use Rattle.linda_hold.specs.Firsts.{later_of}
+use Rattle.linda_hold.specs.FirstValue.{later_of}
 use Rattle.linda_hold.specs.Group.{HasGroup, is_reached}
 
 -- the request, if its template begins with its first value, or has none

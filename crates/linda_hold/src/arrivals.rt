@@ -1,22 +1,22 @@
 //! The waits that a tuple may answer, in order of arrival.
 
-ghost use Rattle.std.specs.Prelude.{◌≡◌, ◌+◌, ◌<◌, ℕ, true, filter, [], IfNone};
-ghost use Rattle.std.specs.Option.{is_some, option_copied};
+ghost use Rattle.std.specs.Prelude.{◌≡◌, ◌+◌, ◌<◌, filter, [], IfNone};
+ghost use Rattle.std.specs.Option.{option_copied};
 ghost use Rattle.std.specs.List.{cons_option};
 ghost use Rattle.std.specs.Map.{values_of};
-ghost use Rattle.linda_bag.specs.Filing.{Rows, IsShelved};
+ghost use Rattle.linda_bag.specs.Filing.{Rows, IsIndexed};
 ghost use Rattle.linda_hold.specs.declared.asked.Asked as asks;
 ghost use Rattle.linda_hold.specs.Arrivals.{IsNext, may_meet};
-ghost use Rattle.linda_hold.specs.Heads as heads;
-ghost use Rattle.linda_hold.specs.Heads.{HasAsked, may_answer};
+ghost use Rattle.linda_hold.specs.TagIndex as tag_index;
+ghost use Rattle.linda_hold.specs.TagIndex.{HasAsked, may_answer};
 ghost use Rattle.linda_hold.specs.Index.{asked_of};
 ghost use Rattle.linda_hold.specs.Numbered.{AreBelow, in_order, wait_at};
 ghost use Rattle.linda_hold.specs.Positions.{HasPositions};
 
 use crate::asked::Asked;
-use crate::heads::{Heads, Wait};
 use crate::keys::Keys;
 use crate::positions::Positions;
+use crate::tag_index::{TagIndex, Wait};
 use indexmap::IndexMap;
 use linda_bag::alike;
 use linda_tuple::Tuple;
@@ -41,9 +41,9 @@ impl<'a> Model for Arrivals<'a> {
     ghost use Rattle.linda_hold.specs.Waits as seen;
     ghost use Rattle.linda_hold.specs.Arrivals.{met_from};
     ghost use Rattle.std.specs.Option.{option_copied};
-    ghost use Rattle.linda_bag.specs.Filing.{IsShelved};
+    ghost use Rattle.linda_bag.specs.Filing.{IsIndexed};
     ghost use Rattle.linda_hold.specs.Positions.{HasPositions};
-    ghost use Rattle.linda_hold.specs.Heads as heads;
+    ghost use Rattle.linda_hold.specs.TagIndex as tag_index;
     ghost use Rattle.linda_hold.specs.Index.{asked_of};
     ghost use Rattle.linda_hold.specs.Numbered.{AreBelow, wait_at};
 
@@ -52,8 +52,8 @@ impl<'a> Model for Arrivals<'a> {
     ghost view = { λ a. met_from a.tuple.now a.from a.by_arrival.now.entries };
 
     ghost invariant = { λ a. AreBelow a.end (wait_at a.by_arrival.now.entries)
-        × IsShelved HasPositions (option_copied a.positions)
-        (heads.alike a.tuple.now (asked_of (wait_at a.by_arrival.now.entries)))
+        × IsIndexed HasPositions (option_copied a.positions)
+        (tag_index.alike a.tuple.now (asked_of (wait_at a.by_arrival.now.entries)))
         × (a.end < 2 ^ 64) };
 }
 
@@ -61,18 +61,18 @@ impl<'a> Arrivals<'a> {
     /// All waits that the tuple may answer.
     pub(crate) fn new(
         by_arrival: &'a IndexMap<u64, Wait, Keys>,
-        heads: &'a Heads,
+        tag_index: &'a TagIndex,
         tuple: &'a Tuple,
         end: u64,
     ) -> Arrivals<'a>
         requires below { AreBelow end (wait_at by_arrival.now.entries) }
-        requires filed { HasAsked heads.now (asked_of (wait_at by_arrival.now.entries)) }
+        requires filed { HasAsked tag_index.now (asked_of (wait_at by_arrival.now.entries)) }
         ensures { result
             ≡ filter (may_meet tuple.now) (values_of (in_order by_arrival.now.entries)) }
     {
         Arrivals {
             by_arrival,
-            positions: alike::<Asked, Positions>(heads, tuple.tag(), tuple.fields().len()),
+            positions: alike::<Asked, Positions>(tag_index, tuple.tag(), tuple.fields().len()),
             tuple,
             from: 0,
             end,
@@ -95,7 +95,7 @@ impl<'a> Arrivals<'a> {
 // its number of fields.
 fn next_from(positions: Option<&Positions>, tuple: &Tuple, from: u64) -> Option<u64>
     ensures { (asked : Rows asks.Asked)
-        → IsShelved HasPositions (option_copied positions.entry) (heads.alike tuple.now asked)
+        → IsIndexed HasPositions (option_copied positions.entry) (tag_index.alike tuple.now asked)
         → IsNext (λ q. may_answer tuple.now (asked q)) from result }
 {
     match positions {

@@ -3,7 +3,7 @@
 ghost use Rattle.std.specs.Prelude.{◌≡◌, ◌&&◌, not};
 ghost use Rattle.std.specs.Option.{option_copied, option_map};
 ghost use Rattle.linda_tuple.specs.Matching.{is_match};
-ghost use Rattle.linda_hold.specs.Firsts.{first_of, later_of, value_from};
+ghost use Rattle.linda_hold.specs.FirstValue.{first_of, later_of, value_from};
 
 use linda_tuple::{Atom, Pattern, Template, Tuple, matches};
 

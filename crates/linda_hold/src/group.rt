@@ -1,7 +1,6 @@
 //! Requests whose templates have their first value at one position, or have none: the first ones by
 //! that value, and the others together.
 
-ghost use Rattle.std.specs.Prelude.{◌≡◌, ℕ};
 ghost use Rattle.std.specs.Option.{option_copied};
 ghost use Rattle.linda_bag.specs.Filing.{Rows};
 ghost use Rattle.linda_hold.specs.declared.asked.Asked as asks;
@@ -10,7 +9,7 @@ ghost use Rattle.linda_hold.specs.Group.{HasGroup, is_reached};
 
 use crate::asked::Asked;
 use crate::numbers::{next_in, next_of, sooner};
-use linda_bag::{Firsts, Shelf, put_id, take_id};
+use linda_bag::{FirstFieldIndex, IdIndex, put_id, take_id};
 use linda_rising::RisingMap;
 use linda_tuple::Atom;
 use std::alloc::{AllocError, Global};
@@ -18,7 +17,7 @@ use std::alloc::{AllocError, Global};
 /// The numbers of the requests.
 #[derive(Drop)]
 pub(crate) struct Group {
-    firsts: Firsts,
+    firsts: FirstFieldIndex,
     unkeyed: RisingMap<()>,
 }
 
@@ -40,14 +39,14 @@ impl Group {
     }
 }
 
-impl Shelf<Asked> for Group {
+impl IdIndex<Asked> for Group {
     ghost use Rattle.linda_hold.specs.Group.{HasGroup};
 
     ghost has = { HasGroup };
 
     fn empty(alloc: Global) -> Group {
         Group {
-            firsts: Firsts::empty::<Asked>(alloc),
+            firsts: FirstFieldIndex::empty::<Asked>(alloc),
             unkeyed: RisingMap::new(alloc),
         }
     }

@@ -11,8 +11,8 @@ ghost use Rattle.linda_hold.specs.Holds.{IsHeldAt, IsHold, IsOneEach, held_in};
 
 use crate::ages::{Age, Ages};
 use crate::long::LongHold;
-use crate::names::Names;
 use crate::request::Request;
+use crate::ticket_index::TicketIndex;
 use linda_bag::IdSet;
 use linda_rising::RisingMap;
 use std::alloc::{AllocError, Global};
@@ -24,7 +24,7 @@ use std::marker::Model;
 pub struct Holds {
     alloc: Global,
     by_id: RisingMap<Request>,
-    names: Names,
+    ticket_index: TicketIndex,
     // Since when tuples are held, by their ids.
     ages: Ages,
 }
@@ -34,7 +34,7 @@ impl Drop for Holds {
         let Holds {
             alloc: _,
             by_id: _,
-            names: _,
+            ticket_index: _,
             ages: _,
         } = self;
     }
@@ -46,7 +46,7 @@ impl Model for Holds {
     ghost use Rattle.std.specs.FinMap as map;
     ghost use Rattle.linda_hold.specs.Request.{request_code};
     ghost use Rattle.linda_hold.specs.Holds.{HeldFor};
-    ghost use Rattle.linda_hold.specs.Named.{HasNames};
+    ghost use Rattle.linda_hold.specs.TicketIndex.{HasNames};
 
     ghost Value = { HeldFor };
 
@@ -54,7 +54,7 @@ impl Model for Holds {
 
     ghost view = { λ h. h.by_id };
 
-    ghost invariant = { λ h. HasNames h.names (map.get h.by_id) };
+    ghost invariant = { λ h. HasNames h.ticket_index (map.get h.by_id) };
 }
 
 impl Holds {
@@ -65,7 +65,7 @@ impl Holds {
         Holds {
             alloc,
             by_id: RisingMap::new(alloc),
-            names: Names::empty(alloc),
+            ticket_index: TicketIndex::empty(alloc),
             ages: Ages::none(alloc),
         }
     }
@@ -136,7 +136,7 @@ impl Holds {
         ensures value { IsHeldAt self.now request result }
         ensures one_each { IsOneEach self.now }
     {
-        self.names.number_of(request)
+        self.ticket_index.number_of(request)
     }
 
     /// How many tuples are held.
@@ -166,7 +166,7 @@ impl Holds {
     pub fn of_client(&self, alloc: Global, client: u32) -> Result<Vec<u64>, AllocError>
         ensures { IfOk result (λ v. v.items ≡ held_in client (map.entries self.now)) }
     {
-        let ids = self.names.of_client(alloc, client)?;
+        let ids = self.ticket_index.of_client(alloc, client)?;
         copied(alloc, &ids)
     }
 
@@ -174,7 +174,7 @@ impl Holds {
     pub fn count_of(&self, client: u32) -> usize
         ensures { result ≡ length (held_in client (map.entries self.now)) }
     {
-        self.names.count_of(client)
+        self.ticket_index.count_of(client)
     }
 
     /// Lets the tuple be held for the request. If it was held for another, it is held for that no
@@ -188,10 +188,10 @@ impl Holds {
         ensures ok { OnOk result (self.new ≡ map.insert self.old id request) }
         ensures err { OnErr result (self.new ≡ self.old) }
     {
-        self.names.put(self.alloc, id, request)?;
+        self.ticket_index.put(self.alloc, id, request)?;
         if self.by_id.contains(id) {
             let old = self.by_id.replace(id, request);
-            self.names.remove(old);
+            self.ticket_index.remove(old);
             self.ages.note(id);
             return Ok(());
         }
@@ -202,7 +202,7 @@ impl Holds {
             }
             Err(_) => {
                 // Only a new id can be refused: it was held for no other request.
-                self.names.remove(request);
+                self.ticket_index.remove(request);
                 Err(AllocError)
             }
         }
@@ -213,7 +213,7 @@ impl Holds {
         ensures { self.new ≡ map.remove self.old id }
     {
         if let Some(request) = self.by_id.remove(id) {
-            self.names.remove(request);
+            self.ticket_index.remove(request);
             self.ages.forget(id);
         }
     }

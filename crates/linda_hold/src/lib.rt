@@ -15,15 +15,15 @@ mod arrivals;
 mod asked;
 mod awaiting;
 mod group;
-mod heads;
 mod holds;
 mod index;
 mod keys;
 mod long;
-mod names;
 mod numbers;
 mod positions;
 mod request;
+mod tag_index;
+mod ticket_index;
 mod waits;
 
 pub use asked::Asked;

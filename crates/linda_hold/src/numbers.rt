@@ -1,6 +1,6 @@
 //! The least number of a set from one on: what comes next in order of arrival.
 
-ghost use Rattle.std.specs.Prelude.{◌≡◌, ℕ, Bool, ◌||◌};
+ghost use Rattle.std.specs.Prelude.{ℕ, Bool, ◌||◌};
 ghost use Rattle.std.specs.FinMap.{contains_key};
 ghost use Rattle.linda_bag.specs.Ids.{has_id};
 ghost use Rattle.linda_hold.specs.Arrivals.{IsNext};

@@ -1,20 +1,20 @@
 //! Requests that ask for tuples of one tag and one number of fields, by the position of the first
 //! value of their template.
 
-ghost use Rattle.std.specs.Prelude.{◌≡◌, ℕ, Option, None, Some, OnOk, OnErr, slice_get};
+ghost use Rattle.std.specs.Prelude.{◌≡◌, Option, None, Some, OnOk, OnErr, slice_get};
 ghost use Rattle.std.specs.Option.{option_copied};
 ghost use Rattle.std.specs.Ordering.{nat_cmp};
 ghost use Rattle.linda_bag.specs.Filing.{Rows, IsFiled, Refiles, placed, row_at};
 ghost use Rattle.linda_hold.specs.declared.asked.Asked as asks;
 ghost use Rattle.linda_hold.specs.Arrivals.{IsNext};
-ghost use Rattle.linda_hold.specs.Firsts.{later_of};
+ghost use Rattle.linda_hold.specs.FirstValue.{later_of};
 ghost use Rattle.linda_hold.specs.Group.{HasGroup, is_reached};
 ghost use Rattle.linda_hold.specs.Positions.{HasEarly, HasPositions, early_at, is_met};
 
 use crate::asked::Asked;
 use crate::group::Group;
 use crate::numbers::sooner;
-use linda_bag::{Shelf, refile, unfile};
+use linda_bag::{IdIndex, refile, unfile};
 use linda_tuple::Atom;
 use std::alloc::{AllocError, Global};
 use std::collections::BTreeMap;
@@ -43,7 +43,7 @@ impl Positions {
     }
 }
 
-impl Shelf<Asked> for Positions {
+impl IdIndex<Asked> for Positions {
     ghost use Rattle.linda_hold.specs.Positions.{HasPositions};
 
     ghost has = { HasPositions };

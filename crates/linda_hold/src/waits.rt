@@ -8,17 +8,18 @@ ghost use Rattle.linda_hold.specs.Request.{request_of};
 ghost use Rattle.linda_hold.specs.Arrivals.{may_meet};
 ghost use Rattle.linda_hold.specs.Numbered.{wait_at};
 ghost use Rattle.linda_hold.specs.Waits.{AreDistinct, IsWait, is_awaited, is_waiting, longest};
-ghost use Rattle.linda_hold.specs.Waits.{readers, waits_of, without, without_client, without_readers};
+ghost use Rattle.linda_hold.specs.Waits.{readers, waits_of, without, without_client};
+ghost use Rattle.linda_hold.specs.Waits.{without_readers};
 
 use crate::ages::{Age, Ages};
 use crate::arrivals::Arrivals;
 use crate::asked::Asked;
 use crate::awaiting::{Awaiting, awaiting_among, first_input, is_answering_one};
-use crate::heads::Wait;
 use crate::index::Index;
 use crate::keys::Keys;
 use crate::long::LongWait;
 use crate::request::Request;
+use crate::tag_index::Wait;
 use indexmap::IndexMap;
 use linda_tuple::Tuple;
 use std::alloc::{AllocError, Global};
@@ -101,9 +102,9 @@ impl Waits {
         self.ages.oldest()
     }
 
-    /// The requests that wait for longest, the longest first, as many as are asked for at most, with
-    /// what they asked. It walks over those only. None that began to wait before a second was set is
-    /// among them.
+    /// The requests that wait for longest, the longest first, as many as are asked for at most,
+    /// with what they asked. It walks over those only. None that began to wait before a second was
+    /// set is among them.
     ///
     /// # Errors
     ///
@@ -178,7 +179,7 @@ impl Waits {
     pub fn contains(&self, request: Request) -> bool
         ensures { result ≡ is_waiting request self.now }
     {
-        self.index.names.number_of(request).is_some()
+        self.index.ticket_index.number_of(request).is_some()
     }
 
     /// Lets the request wait, last in order.
@@ -214,7 +215,7 @@ impl Waits {
     pub fn remove(&mut self, request: Request)
         ensures { self.new ≡ without request self.old }
     {
-        if let Some(number) = self.index.names.number_of(request) {
+        if let Some(number) = self.index.ticket_index.number_of(request) {
             if let Some(wait) = take_out(&mut self.by_arrival, number) {
                 self.index.remove(number, &wait);
                 self.ages.forget(number);
@@ -238,7 +239,7 @@ impl Waits {
             is_waiting (request_of client ticket) self.now ≡ true) }
         ensures none { IfNone result (waits_of client self.now ≡ []) }
     {
-        self.index.names.first_ticket(client)
+        self.index.ticket_index.first_ticket(client)
     }
 
     /// Takes out the reads that the tuple answers, and gives them in order of arrival. The others
@@ -295,7 +296,7 @@ impl Waits {
         ensures met { result ≡ filter (may_meet tuple.now) self.now }
         ensures distinct { AreDistinct self.now }
     {
-        Arrivals::new(&self.by_arrival, &self.index.heads, tuple, self.next)
+        Arrivals::new(&self.by_arrival, &self.index.tag_index, tuple, self.next)
     }
 
     /// Whether some request waits that the tuple answers. It looks only at those that ask for its
@@ -319,7 +320,7 @@ impl Waits {
     pub fn count_of(&self, client: u32) -> usize
         ensures { result ≡ length (waits_of client self.now) }
     {
-        self.index.names.count_of(client)
+        self.index.ticket_index.count_of(client)
     }
 }
 

@@ -30,7 +30,8 @@ pub record IsSoFar (start now : Option (List ℕ)) (rest all : List ℕ) : Type 
 pub none_yet : (start : Option (List ℕ)) (rest all : List ℕ) → rest ≡ all → IsSoFar start start rest all
 none_yet start rest all same = record { so_far = []; sent = none_sent start; parts = same }
 
-pub one_more : (start now new : Option (List ℕ)) (rest piece later all : List ℕ) → IsSoFar start now rest all → rest ≡ piece ++ later → Appends now new piece → IsSoFar start new later all
+pub one_more : (start now new : Option (List ℕ)) (rest piece later all : List ℕ) → IsSoFar start now rest all
+    → rest ≡ piece ++ later → Appends now new piece → IsSoFar start new later all
 one_more start now new rest piece later all h same sent = record {
   so_far = h.so_far ++ piece;
   sent = sent_twice start now new h.so_far piece h.sent sent;
@@ -43,6 +44,8 @@ all_sent start now rest all h none =
 
 -- One row more was written.
 pub one_row : {A : Type 0} (row : A → List ℕ) (start now new : Option (List ℕ)) (mark : List ℕ) (xs : List A) (x : A) (later : List A) (all written : List ℕ)
-    → IsSoFar start now (json_rows row mark xs) all → xs ≡ x ∷ later → written ≡ mark ++ row x → Appends now new written → IsSoFar start new (json_rows row (codes ",\n") later) all
+    → IsSoFar start now (json_rows row mark xs) all → xs ≡ x ∷ later → written ≡ mark ++ row x
+    → Appends now new written → IsSoFar start new (json_rows row (codes ",\n") later) all
 one_row row start now new mark xs x later all written h first same sent =
-    one_more start now new (json_rows row mark xs) (mark ++ row x) (json_rows row (codes ",\n") later) all h (ap (json_rows row mark) first) (sent_as now new written (mark ++ row x) same sent)
+    one_more start now new (json_rows row mark xs) (mark ++ row x) (json_rows row (codes ",\n") later) all h
+    (ap (json_rows row mark) first) (sent_as now new written (mark ++ row x) same sent)

@@ -8,7 +8,8 @@ use Rattle.linda_snap.specs.Snapshot.{spell_state}
 use Rattle.linda_snap.specs.Stands.{IsStored}
 use Rattle.linda_inspect.specs.Object.{IsBankFor}
 
-abbrev pub bank_for : (file : List ℕ) (form : Form) (generation end : ℕ) (v : View) (st : State) → IsStored form generation end v st → v.seen ≡ file → IsBankFor file form generation end st
+abbrev pub bank_for : (file : List ℕ) (form : Form) (generation end : ℕ) (v : View) (st : State)
+    → IsStored form generation end v st → v.seen ≡ file → IsBankFor file form generation end st
 bank_for file form generation end v st stored seen = record {
   opening = stored.opening;
   records = stored.records;

@@ -1,14 +1,14 @@
 -- What is reported of the banks of two files is what is reported of two disks that hold them.
 use Rattle.std.proofs.Common.{◌≡◌, ◌⊎◌, ◌∙◌, ℕ, List, ap, subst, inl, inr}
 use Rattle.linda_store_state.specs.State.{State}
-use Rattle.linda_disk.specs.History.{History, view_of}
+use Rattle.linda_disk.specs.DiskHistory.{DiskHistory, view_of}
 use Rattle.linda_snap.specs.Stands.{Stands}
 use Rattle.linda_snap.specs.declared.choice.ChoiceFault.{ChoiceFault}
 use Rattle.linda_snap.specs.declared.choice.ChoiceFault.TheVariants as choices
 use Rattle.linda_inspect.specs.declared.fault.InspectFault.{InspectFault}
 use Rattle.linda_inspect.specs.Faults.{fault_of_choice, IsOfOutput}
 
-abbrev pub seen_of : History → List ℕ
+abbrev pub seen_of : DiskHistory → List ℕ
 seen_of h = (view_of h).seen
 
 pub stands_as : (left file right other : List ℕ) (st : State) → left ≡ file → right ≡ other → Stands left right st → Stands file other st

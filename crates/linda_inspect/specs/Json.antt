@@ -12,7 +12,7 @@ use Rattle.linda_book.specs.Entries.{Entry}
 use Rattle.linda_book.specs.declared.kept_reply.KeptReply.{KeptReply}
 use Rattle.linda_book.specs.declared.kept_reply.KeptReply.TheVariants as kept
 use Rattle.linda_store_state.specs.State.{State}
-use Rattle.linda_inspect.specs.declared.listing.Lists.{Lists}
+use Rattle.linda_inspect.specs.declared.lists.Lists.{Lists}
 use Rattle.linda_inspect.specs.declared.json.value.TheConstants as mark
 
 -- These bytes were written after what was there.

@@ -14,7 +14,7 @@ use Rattle.linda_journal.specs.Bank.{IsBank, head}
 use Rattle.linda_snap.specs.Snapshot.{spell_state}
 use Rattle.linda_snap.specs.Stands.{Stands, deeds_in}
 use Rattle.linda_snap.specs.Choice.{chosen}
-use Rattle.linda_inspect.specs.declared.listing.Lists.{Lists}
+use Rattle.linda_inspect.specs.declared.lists.Lists.{Lists}
 use Rattle.linda_inspect.specs.Json.{json_member, json_state}
 
 -- The letters that a bank in this form begins with.

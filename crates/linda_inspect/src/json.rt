@@ -5,7 +5,7 @@ mod listing;
 mod output;
 mod value;
 
-ghost use Rattle.std.specs.Prelude.{◌≡◌, ◌++◌, ◌⊎◌, [], ℕ, List, IfErr, IfOk, OnOk, length};
+ghost use Rattle.std.specs.Prelude.{◌≡◌, ◌++◌, ◌⊎◌, [], ℕ, List, IfErr, IfOk, OnOk};
 ghost use Rattle.std.specs.Io.KnownBytes.{Appends};
 ghost use Rattle.linda_store_state.specs.State.{IsState, State};
 ghost use Rattle.linda_snap.specs.Stands.{Stands};
@@ -15,7 +15,7 @@ ghost use Rattle.linda_inspect.specs.Object.{IsObject, json_bank, json_files, js
 ghost use Rattle.linda_inspect.specs.Object.{json_standing};
 
 use crate::fault::{InspectFault, OutputFault, of_choice};
-use crate::listing::Lists;
+use crate::lists::Lists;
 use crate::whole::whole_before;
 use head::{are_banks, push_bank, push_files, push_standing, side};
 use linda_bag::IndexBag;

@@ -10,7 +10,7 @@
 
 mod fault;
 mod json;
-mod listing;
+mod lists;
 mod output;
 mod report;
 mod side;
@@ -18,5 +18,5 @@ mod whole;
 
 pub use fault::{InspectFault, OutputFault};
 pub use json::{push_json_atom, push_json_member, push_json_string, push_json_tuple, write_json};
-pub use listing::Lists;
+pub use lists::Lists;
 pub use report::write_report;

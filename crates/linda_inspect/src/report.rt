@@ -6,7 +6,7 @@ ghost use Rattle.linda_snap.specs.Stands.{Stands};
 ghost use Rattle.linda_inspect.specs.Faults.{IsFaultOf, IsOfOutput, MayStand};
 
 use crate::fault::{InspectFault, OutputFault, of_choice};
-use crate::listing::{Lists, list_state};
+use crate::lists::{Lists, list_state};
 use crate::output::write_lines;
 use crate::side::{are_two, letters_of, side_line, side_name};
 use crate::whole::whole_before;

@@ -21,7 +21,8 @@ format_apart {A = A} {f = f} is a b x y fits_a fits_b same =
 
 module _ {A : Type 0} (spell : A → List ℕ) (Fits : A → Type 0) (apart : IsApart spell Fits) (some : (a : A) → 0 < length (spell a)) where
   -- Where the spelling of some values is the front of that of others, they are the first of these.
-  pub first_ones : (xs ys : List A) (rest : List ℕ) → AllByRecursion Fits xs → AllByRecursion Fits ys → flat_map spell ys ≡ flat_map spell xs ++ rest → (tail : List A) × (ys ≡ xs ++ tail) × (rest ≡ flat_map spell tail)
+  pub first_ones : (xs ys : List A) (rest : List ℕ) → AllByRecursion Fits xs → AllByRecursion Fits ys
+      → flat_map spell ys ≡ flat_map spell xs ++ rest → (tail : List A) × (ys ≡ xs ++ tail) × (rest ≡ flat_map spell tail)
   first_ones [] ys rest fits_x fits_y same = (ys, refl, sym same)
   first_ones (x ∷ xs) [] rest fits_x fits_y same =
       let n : 0 ≡ length ((spell x ++ flat_map spell xs) ++ rest) = ap length same in
@@ -59,7 +60,8 @@ module _ {A : Type 0} (spell : A → List ℕ) (Fits : A → Type 0) (apart : Is
   some_behind us rest some = omega (arith, some, length-append (flat_map spell us) rest)
 
   -- Bytes are values and what ends them in one way.
-  pub one_reading : (xs ys : List A) (u v : List ℕ) → AllByRecursion Fits xs → AllByRecursion Fits ys → Ends spell Fits u → Ends spell Fits v → flat_map spell xs ++ u ≡ flat_map spell ys ++ v → (xs ≡ ys) × (u ≡ v)
+  pub one_reading : (xs ys : List A) (u v : List ℕ) → AllByRecursion Fits xs → AllByRecursion Fits ys
+      → Ends spell Fits u → Ends spell Fits v → flat_map spell xs ++ u ≡ flat_map spell ys ++ v → (xs ≡ ys) × (u ≡ v)
   one_reading [] [] u v fits_x fits_y end_u end_v same = (refl, same)
   one_reading [] (y ∷ ys) u v fits_x fits_y end_u end_v same =
       absurd (end_u.stop y (flat_map spell ys ++ v) fits_y.0 (same ∙ append_assoc (spell y) (flat_map spell ys) v) (some_behind ys v end_v.some))

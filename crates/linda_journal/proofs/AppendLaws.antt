@@ -13,15 +13,18 @@ module _ (form : Form) (generation : ℕ) (body : List ℕ) (records : List (Lis
   old_or_one file (inl old) = inl old
   old_or_one file (inr new) = inr (subst (λ more. IsBank form file generation body (records ++ more)) (one_record ds new.0 new.1 some few) new.2)
 
-  pub settled_with_one : (end : ℕ) (v : View) → IsSettledWithAll form generation body records ds end v → IsSettled form generation body (records ++ ds ∷ []) end v
+  pub settled_with_one : (end : ℕ) (v : View) → IsSettledWithAll form generation body records ds end v
+      → IsSettled form generation body (records ++ ds ∷ []) end v
   settled_with_one end v s = subst (λ more. IsSettled form generation body (records ++ more) end v) (one_record ds s.more s.are some few) s.settled
 
 -- They are too much for a bank where their record is.
 module _ (form : Form) (ds : List Deed) (end limit : ℕ) (some : 1 ≤ length ds) (few : length ds ≤ MAX_DEEDS) where
-  pub past_one : IsUnspelled form ds ⊎ (limit ≤ end + bytes_for (length ds) (length (payload form ds))) → IsUnspelled form ds ⊎ (limit ≤ end + length (spell_record form ds))
+  pub past_one : IsUnspelled form ds ⊎ (limit ≤ end + bytes_for (length ds) (length (payload form ds)))
+      → IsUnspelled form ds ⊎ (limit ≤ end + length (spell_record form ds))
   past_one = subst (λ n. IsUnspelled form ds ⊎ (limit ≤ end + n)) (one_long form ds some few)
 
-  pub past_one_back : IsUnspelled form ds ⊎ (limit ≤ end + length (spell_record form ds)) → IsUnspelled form ds ⊎ (limit ≤ end + bytes_for (length ds) (length (payload form ds)))
+  pub past_one_back : IsUnspelled form ds ⊎ (limit ≤ end + length (spell_record form ds))
+      → IsUnspelled form ds ⊎ (limit ≤ end + bytes_for (length ds) (length (payload form ds)))
   past_one_back = subst (λ n. IsUnspelled form ds ⊎ (limit ≤ end + n)) (sym (one_long form ds some few))
 
 -- What follows from a fact at Ok is a fact at Ok.

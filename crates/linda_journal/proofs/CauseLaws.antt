@@ -16,7 +16,8 @@ fault_told Device old mid new same counts = record {
 }
 fault_told Memory old mid new same counts = record { cause = λ is. cc; others = λ _. counts.memory refl ∙ same }
 
-pub device_told : {T : Type 0} (fault : DiskFault) (old mid new : ℕ) → mid ≡ old → CountsFailure {T = T} (Err fault) mid new → TellsFailures banks.Disk (fault_of_disk fault) old new
+pub device_told : {T : Type 0} (fault : DiskFault) (old mid new : ℕ) → mid ≡ old
+    → CountsFailure {T = T} (Err fault) mid new → TellsFailures banks.Disk (fault_of_disk fault) old new
 device_told Device old mid new same counts = record {
   cause = λ _. let up = counts.device refl in omega (arith, up, same);
   others = λ not. absurd (not refl);

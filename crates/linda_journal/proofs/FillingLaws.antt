@@ -34,13 +34,16 @@ none_filled v closed durable =
 -- At no moment of the write a crash leaves a bank.
 pub step_run : (front : List ℕ) (at n : ℕ) (old new : View) → IsFilled front at old → LeavesOnly old new (TornWrite at n old.seen) → LeavesOnly old new IsNoBank
 step_run front at n old new filled run =
-    weaker old new (TornWrite at n old.seen) IsNoBank run (λ image torn. no_candidate image (torn_later at n old.seen image (omega (arith, filled.place)) (filled_closes front at old filled) torn))
+    weaker old new (TornWrite at n old.seen) IsNoBank run
+    (λ image torn. no_candidate image (torn_later at n old.seen image (omega (arith, filled.place)) (filled_closes front at old filled) torn))
 
 -- What was written is after what there was.
-pub step_filled : (front : List ℕ) (at : ℕ) (bytes : List ℕ) (old new : View) → IsFilled front at old → new.seen ≡ overlay at bytes old.seen → IsDurable new → IsFilled (front ++ bytes) (at + length bytes) new
+pub step_filled : (front : List ℕ) (at : ℕ) (bytes : List ℕ) (old new : View) → IsFilled front at old
+    → new.seen ≡ overlay at bytes old.seen → IsDurable new → IsFilled (front ++ bytes) (at + length bytes) new
 step_filled front at bytes old new filled written durable =
     let before : take at old.seen ≡ filled.gate ∷ front =
-    ap (take at) filled.parts ∙ ap (λ n. take n (filled.gate ∷ (front ++ filled.rest))) filled.place ∙ take_at (filled.gate ∷ front) filled.rest (1 + length front) (omega arith)
+    ap (take at) filled.parts ∙ ap (λ n. take n (filled.gate ∷ (front ++ filled.rest))) filled.place
+    ∙ take_at (filled.gate ∷ front) filled.rest (1 + length front) (omega arith)
     in record {
       gate = filled.gate;
       rest = drop (at + length bytes) old.seen;
@@ -63,7 +66,8 @@ filled_ready body at v filled = record {
 
 -- ---- the first gate opens
 
-module _ (form : Form) (generation : ℕ) (body : List ℕ) (rs : List (List Deed)) (end : ℕ) (old : View) (whole : IsWholeWith form generation body rs end old) where
+module _ (form : Form) (generation : ℕ) (body : List ℕ) (rs : List (List Deed)) (end : ℕ) (old : View)
+    (whole : IsWholeWith form generation body rs end old) where
   new_with : (file : List ℕ) → ClosesAfter (OPEN ∷ (behind_gate form generation body ++ spell_records form rs)) file → IsBank form file generation body rs
   new_with file closes = record {
     low = whole.low;
@@ -74,14 +78,18 @@ module _ (form : Form) (generation : ℕ) (body : List ℕ) (rs : List (List Dee
     journal = record { gate = closes.gate; rest = closes.rest; parts = refl; closed = closes.closed; good = whole.good };
   }
 
-  none_or_with : (file : List ℕ) → IsClosedOrOpened [] (behind_gate form generation body ++ spell_records form rs) file → IsNoneOrNewWith form generation body rs file
+  none_or_with : (file : List ℕ) → IsClosedOrOpened [] (behind_gate form generation body ++ spell_records form rs) file
+      → IsNoneOrNewWith form generation body rs file
   none_or_with file (inl closes) = inl (no_candidate file closes)
   none_or_with file (inr closes) = inr (new_with file closes)
 
-  pub unlocking_with : (new : View) → LeavesOnly old new (IsClosedOrOpened [] (behind_gate form generation body ++ spell_records form rs)) → LeavesOnly old new (IsNoneOrNewWith form generation body rs)
-  unlocking_with new run = weaker old new (IsClosedOrOpened [] (behind_gate form generation body ++ spell_records form rs)) (IsNoneOrNewWith form generation body rs) run none_or_with
+  pub unlocking_with : (new : View) → LeavesOnly old new (IsClosedOrOpened [] (behind_gate form generation body ++ spell_records form rs))
+      → LeavesOnly old new (IsNoneOrNewWith form generation body rs)
+  unlocking_with new run = weaker old new (IsClosedOrOpened [] (behind_gate form generation body ++ spell_records form rs))
+      (IsNoneOrNewWith form generation body rs) run none_or_with
 
-  pub unlocked_with : (new : View) → IsShut (OPEN ∷ (behind_gate form generation body ++ spell_records form rs)) (1 + length (behind_gate form generation body ++ spell_records form rs)) new → IsSettled form generation body rs end new
+  pub unlocked_with : (new : View) → IsShut (OPEN ∷ (behind_gate form generation body ++ spell_records form rs))
+      (1 + length (behind_gate form generation body ++ spell_records form rs)) new → IsSettled form generation body rs end new
   unlocked_with new shut = record {
     file = new_with new.seen shut.file;
     place = omega (arith, whole.place);
@@ -91,7 +99,8 @@ module _ (form : Form) (generation : ℕ) (body : List ℕ) (rs : List (List Dee
 -- ---- the last bytes
 
 -- With them the new bank has so many bytes behind its first gate.
-pub last_long : (generation : ℕ) (body : List ℕ) (rs : List (List Deed)) (front bytes : List ℕ) → IsLast generation body rs front bytes → length front + length bytes ≡ MIN_BYTES + length body + length (spell_records written rs)
+pub last_long : (generation : ℕ) (body : List ℕ) (rs : List (List Deed)) (front bytes : List ℕ)
+    → IsLast generation body rs front bytes → length front + length bytes ≡ MIN_BYTES + length body + length (spell_records written rs)
 last_long generation body rs front bytes last =
     let behind = behind_gate written generation body in
     let all = behind ++ spell_records written rs in
@@ -101,7 +110,8 @@ last_long generation body rs front bytes last =
     omega (arith, long, head, joined, length-append front bytes)
 
 -- Behind its closed first gate the new bank is whole then.
-pub last_whole : (generation : ℕ) (body : List ℕ) (rs : List (List Deed)) (front bytes : List ℕ) (at end : ℕ) (v : View) → IsLast generation body rs front bytes → IsFilled (front ++ bytes) at v → end + 1 ≡ at → IsWholeWith written generation body rs end v
+pub last_whole : (generation : ℕ) (body : List ℕ) (rs : List (List Deed)) (front bytes : List ℕ) (at end : ℕ) (v : View)
+    → IsLast generation body rs front bytes → IsFilled (front ++ bytes) at v → end + 1 ≡ at → IsWholeWith written generation body rs end v
 last_whole generation body rs front bytes at end v last filled end_is =
     let all = behind_gate written generation body ++ spell_records written rs in
     record {
@@ -113,9 +123,12 @@ last_whole generation body rs front bytes at end v last filled end_is =
       ready = filled_ready all at v (subst (λ l. IsFilled l at v) last.parts filled);
     }
 
-pub finishing : (generation : ℕ) (body : List ℕ) (rs : List (List Deed)) (old mid new : View) → LeavesOnly old mid IsNoBank → LeavesOnly mid new (IsNoneOrNewWith written generation body rs) → LeavesOnly old new (IsNoneOrNewWith written generation body rs)
+pub finishing : (generation : ℕ) (body : List ℕ) (rs : List (List Deed)) (old mid new : View) → LeavesOnly old mid IsNoBank
+    → LeavesOnly mid new (IsNoneOrNewWith written generation body rs) → LeavesOnly old new (IsNoneOrNewWith written generation body rs)
 finishing generation body rs old mid new first second =
-    joined old mid new IsNoBank (IsNoneOrNewWith written generation body rs) (IsNoneOrNewWith written generation body rs) first second (λ image none. inl none) (λ image is. is)
+    joined old mid new IsNoBank (IsNoneOrNewWith written generation body rs)
+    (IsNoneOrNewWith written generation body rs) first second (λ image none. inl none) (λ image is. is)
 
-pub filling_only : (generation : ℕ) (body : List ℕ) (rs : List (List Deed)) (old new : View) → LeavesOnly old new IsNoBank → LeavesOnly old new (IsNoneOrNewWith written generation body rs)
+pub filling_only : (generation : ℕ) (body : List ℕ) (rs : List (List Deed)) (old new : View)
+    → LeavesOnly old new IsNoBank → LeavesOnly old new (IsNoneOrNewWith written generation body rs)
 filling_only generation body rs old new run = weaker old new IsNoBank (IsNoneOrNewWith written generation body rs) run (λ image none. inl none)

@@ -1,5 +1,6 @@
 -- Banks as bytes: what they begin with, their parts, and that bytes are one bank.
-use Rattle.std.proofs.Common.{◌≡◌, ◌≢◌, ℕ, ◌+◌, ◌-◌, ◌^◌, ◌<◌, ◌≤◌, ◌⊎◌, inl, inr, List, [], ◌∷◌, ◌++◌, length, take, drop, Ok, refl, sym, ap, subst, ◌∙◌, arith}
+use Rattle.std.proofs.Common.{◌≡◌, ◌≢◌, ℕ, ◌+◌, ◌-◌, ◌^◌, ◌<◌, ◌≤◌, ◌⊎◌, inl, inr, List, [], ◌∷◌, ◌++◌, length, take}
+use Rattle.std.proofs.Common.{drop, Ok, refl, sym, ap, subst, ◌∙◌, arith}
 use Rattle.std.proofs.lemmas.List.{take-append-drop, length-take, length-drop, drop-drop, take_at, drop_at, length-append, length-map}
 use Rattle.linda_codec.specs.Formats.{short_number, number}
 use Rattle.linda_codec.specs.Lawful.{IsBytes}
@@ -28,7 +29,8 @@ abbrev generation_place : ℕ
 generation_place = 5
 
 -- A generation that was read behind the letters.
-pub bank_heading : (form : Form) (file behind rest : List ℕ) (g : ℕ) (after : List ℕ) → IsBytes file → file ≡ OPEN ∷ behind → behind ≡ magic form ++ rest → number.read rest ≡ Ok (g, after) → MIN_BYTES ≤ length file → (g ≡ 0 → ⊥) → IsHeading file (headings.Bank form g)
+pub bank_heading : (form : Form) (file behind rest : List ℕ) (g : ℕ) (after : List ℕ) → IsBytes file → file ≡ OPEN ∷ behind
+    → behind ≡ magic form ++ rest → number.read rest ≡ Ok (g, after) → MIN_BYTES ≤ length file → (g ≡ 0 → ⊥) → IsHeading file (headings.Bank form g)
 bank_heading form file behind rest g after fits one letters told long some =
     let whole : file ≡ OPEN ∷ magic form ++ rest = one ∙ ap (λ (l : List ℕ). OPEN ∷ l) letters in
     let back : drop generation_place file ≡ rest = ap (drop generation_place) whole in
@@ -45,7 +47,8 @@ pub record AreParts (form : Form) (file : List ℕ) (g len : ℕ) : Type 0 where
   pub place : length (head form g body) ≡ MIN_BYTES + len
   pub short : length body < 2 ^ 32
 
-pub parts_of : (form : Form) (file rest : List ℕ) (g len : ℕ) (behind : List ℕ) → IsBytes file → file ≡ headed form g rest → short_number.read (drop LENGTH_PLACE file) ≡ Ok (len, behind) → len < length behind → AreParts form file g len
+pub parts_of : (form : Form) (file rest : List ℕ) (g len : ℕ) (behind : List ℕ) → IsBytes file → file ≡ headed form g rest
+    → short_number.read (drop LENGTH_PLACE file) ≡ Ok (len, behind) → len < length behind → AreParts form file g len
 parts_of form file rest g len behind fits heading told room =
     let body : List ℕ = take len behind in
     let t = short_number_is.takes (drop LENGTH_PLACE file) (len, behind) (IsBytes-drop LENGTH_PLACE file fits) told in
@@ -73,13 +76,18 @@ parts_of form file rest g len behind fits heading told room =
     plain : (n : ℕ) → MIN_BYTES + n - MIN_BYTES ≡ n
     plain n = omega arith
 
-pub bank_there : (form : Form) (file rest : List ℕ) (g len : ℕ) (behind : List ℕ) (records : List (List Deed)) → IsBytes file → 1 ≤ g → g < 2 ^ 64 → file ≡ headed form g rest → short_number.read (drop LENGTH_PLACE file) ≡ Ok (len, behind) → len < length behind → IsJournal form (drop (MIN_BYTES + len) file) records
+pub bank_there : (form : Form) (file rest : List ℕ) (g len : ℕ) (behind : List ℕ) (records : List (List Deed)) → IsBytes file → 1 ≤ g → g < 2 ^ 64
+    → file ≡ headed form g rest → short_number.read (drop LENGTH_PLACE file) ≡ Ok (len, behind)
+    → len < length behind → IsJournal form (drop (MIN_BYTES + len) file) records
     → IsBank form file g (take (MIN_BYTES + len - MIN_BYTES) (drop MIN_BYTES file)) records
 bank_there form file rest g len behind records fits low high heading told room journal =
     let p = parts_of form file rest g len behind fits heading told room in
-    subst (λ b. IsBank form file g b records) (sym p.told) (record { low = low; fits = high; short = p.short; rest = p.rest; parts = p.parts; journal = subst (λ l. IsJournal form l records) p.journal journal })
+    subst (λ b. IsBank form file g b records) (sym p.told)
+    (record { low = low; fits = high; short = p.short; rest = p.rest; parts = p.parts; journal = subst (λ l. IsJournal form l records) p.journal journal })
 
-pub broken_there : (form : Form) (file rest : List ℕ) (g len : ℕ) (behind : List ℕ) (offset place : ℕ) → IsBytes file → 1 ≤ g → g < 2 ^ 64 → file ≡ headed form g rest → short_number.read (drop LENGTH_PLACE file) ≡ Ok (len, behind) → len < length behind → offset ≡ MIN_BYTES + len + place → IsDamaged form (drop (MIN_BYTES + len) file) place
+pub broken_there : (form : Form) (file rest : List ℕ) (g len : ℕ) (behind : List ℕ) (offset place : ℕ) → IsBytes file → 1 ≤ g → g < 2 ^ 64
+    → file ≡ headed form g rest → short_number.read (drop LENGTH_PLACE file) ≡ Ok (len, behind)
+    → len < length behind → offset ≡ MIN_BYTES + len + place → IsDamaged form (drop (MIN_BYTES + len) file) place
     → IsFaultOfBank file (faults.Damaged offset)
 broken_there form file rest g len behind offset place fits low high heading told room offset_is damaged =
     let p = parts_of form file rest g len behind fits heading told room in
@@ -110,7 +118,8 @@ digits_apart One Two x y e = let n : 49 ≡ 50 = firsts_same 49 50 x y e in absu
 digits_apart Two One x y e = let n : 50 ≡ 49 = firsts_same 50 49 x y e in absurd (omega (arith, n))
 
 -- No bank's head begins another's.
-pub heads_apart : (f k : Form) (g h : ℕ) (b c x y : List ℕ) → g < 2 ^ 64 → h < 2 ^ 64 → length b < 2 ^ 32 → length c < 2 ^ 32 → head f g b ++ x ≡ head k h c ++ y → (f ≡ k) × (g ≡ h) × (b ≡ c) × (x ≡ y)
+pub heads_apart : (f k : Form) (g h : ℕ) (b c x y : List ℕ) → g < 2 ^ 64 → h < 2 ^ 64 → length b < 2 ^ 32
+    → length c < 2 ^ 32 → head f g b ++ x ≡ head k h c ++ y → (f ≡ k) × (g ≡ h) × (b ≡ c) × (x ≡ y)
 heads_apart f k g h b c x y fits_g fits_h fits_b fits_c e =
     let behind_g : List ℕ = short_number.spell (length b) ++ (b ++ x) in
     let behind_h : List ℕ = short_number.spell (length c) ++ (c ++ y) in
@@ -129,7 +138,8 @@ same_journal : (f k : Form) (x y : List ℕ) (rs : List (List Deed)) → f ≡ k
 same_journal f k x y rs forms same journal = subst (λ z. IsJournal z y rs) forms (subst (λ l. IsJournal f l rs) same journal)
 
 -- Bytes are one bank,
-pub one_bank : (file : List ℕ) (f k : Form) (g h : ℕ) (b c : List ℕ) (rs qs : List (List Deed)) → IsBank f file g b rs → IsBank k file h c qs → (f ≡ k) × (g ≡ h) × (b ≡ c) × (rs ≡ qs)
+pub one_bank : (file : List ℕ) (f k : Form) (g h : ℕ) (b c : List ℕ) (rs qs : List (List Deed))
+    → IsBank f file g b rs → IsBank k file h c qs → (f ≡ k) × (g ≡ h) × (b ≡ c) × (rs ≡ qs)
 one_bank file f k g h b c rs qs one two =
     let same = heads_apart f k g h b c one.rest two.rest one.fits two.fits one.short two.short (sym one.parts ∙ two.parts) in
     (same.0, same.1, same.2, one_journal k two.rest rs qs (same_journal f k one.rest two.rest rs same.0 same.3 one.journal) two.journal)
@@ -147,7 +157,8 @@ is_candidate form file g b rs bank =
     (omega (arith, n), (_, bank.parts))
 
 -- What may be told of a bank that stands there: that the device failed, or that memory ran out.
-pub only_faults : (form : Form) (file : List ℕ) (g : ℕ) (b : List ℕ) (rs : List (List Deed)) (f : BankFault) → IsBank form file g b rs → (f ≢ faults.Disk → IsFaultOfBank file f) → (f ≡ faults.Disk) ⊎ (f ≡ faults.Memory)
+pub only_faults : (form : Form) (file : List ℕ) (g : ℕ) (b : List ℕ) (rs : List (List Deed)) (f : BankFault)
+    → IsBank form file g b rs → (f ≢ faults.Disk → IsFaultOfBank file f) → (f ≡ faults.Disk) ⊎ (f ≡ faults.Memory)
 only_faults form file g b rs faults.Disk bank told = inl refl
 only_faults form file g b rs faults.Memory bank told = inr refl
 only_faults form file g b rs faults.Spent bank told = absurd (told (λ e. absurd cc))
@@ -183,7 +194,9 @@ end_within form g body rs end v settled =
     omega (arith, n, m, settled.place, length-append (head form g body) settled.file.rest, length-append (spell_records form rs) (journal.gate ∷ journal.rest))
 
 -- What was read of it.
-pub settled_there : (form : Form) (bytes : List ℕ) (g at end : ℕ) (rs : List (List Deed)) (v : View) → IsBank form bytes g (take (at - MIN_BYTES) (drop MIN_BYTES bytes)) rs → MIN_BYTES ≤ at → at < length bytes → end ≡ at + length (spell_records form rs) → v.seen ≡ bytes → IsDurable v
+pub settled_there : (form : Form) (bytes : List ℕ) (g at end : ℕ) (rs : List (List Deed)) (v : View)
+    → IsBank form bytes g (take (at - MIN_BYTES) (drop MIN_BYTES bytes)) rs → MIN_BYTES ≤ at
+    → at < length bytes → end ≡ at + length (spell_records form rs) → v.seen ≡ bytes → IsDurable v
     → IsSettled form g (take (at - MIN_BYTES) (drop MIN_BYTES bytes)) rs end v
 settled_there form bytes g at end rs v bank low room end_is same durable = record {
   file = subst (λ f. IsBank form f g (take (at - MIN_BYTES) (drop MIN_BYTES bytes)) rs) (sym same) bank;

@@ -6,7 +6,7 @@ pub mod RecordLaws
 pub mod JournalLaws
 pub mod GateLaws
 pub mod BankLaws
-pub mod AheadLaws
+pub mod PreallocationLaws
 pub mod ImageLaws
 pub mod RenewalLaws
 pub mod FillingLaws

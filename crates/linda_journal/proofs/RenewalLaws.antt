@@ -1,5 +1,6 @@
 -- A disk that is not in use becomes a new bank: what a crash may make of it, step by step.
-use Rattle.std.proofs.Common.{◌≡◌, ℕ, zero, suc, ◌+◌, ◌*◌, ◌<◌, ◌≤◌, ◌⊎◌, inl, inr, List, [], ◌∷◌, ◌++◌, length, take, drop, refl, sym, ap, subst, ◌∙◌, append_assoc, length-append, arith}
+use Rattle.std.proofs.Common.{◌≡◌, ℕ, zero, suc, ◌+◌, ◌*◌, ◌<◌, ◌≤◌, ◌⊎◌, inl, inr, List, [], ◌∷◌, ◌++◌, length, take}
+use Rattle.std.proofs.Common.{drop, refl, sym, ap, subst, ◌∙◌, append_assoc, length-append, arith}
 use Rattle.std.specs.Prelude.{Result, max}
 use Rattle.std.proofs.lemmas.List.{take_at, drop_at, drop-drop, length-take}
 use Rattle.linda_tuple.specs.declared.form.Form.{Form}
@@ -38,7 +39,8 @@ torn_first old image (inr opens) torn = by image torn.after
     by (suc zero ∷ more) after = inl (ap (λ l. OPEN ∷ l) (after ∙ ap (drop 1) opens.1) ∙ sym opens.1)
     by (suc (suc n) ∷ more) after = inr (no_open (suc (suc n)) more (λ e. absurd (omega (arith, e))))
 
-pub write_closed : (old mid new : View) → LeavesOnly old mid (λ image. image ≡ old.seen) → mid.seen ≡ old.seen → IsOpenOrShort old.seen → LeavesOnly mid new (TornWrite 0 1 mid.seen) → LeavesOnly old new (IsSameOrNone old.seen)
+pub write_closed : (old mid new : View) → LeavesOnly old mid (λ image. image ≡ old.seen) → mid.seen ≡ old.seen
+    → IsOpenOrShort old.seen → LeavesOnly mid new (TornWrite 0 1 mid.seen) → LeavesOnly old new (IsSameOrNone old.seen)
 write_closed old mid new before same opens run =
     joined old mid new (λ image. image ≡ old.seen) (TornWrite 0 1 mid.seen) (IsSameOrNone old.seen) before run
     (λ image is. inl is) (λ image torn. torn_first old.seen image opens (subst (λ l. TornWrite 0 1 l image) same torn))
@@ -55,7 +57,8 @@ torn_later (suc k) n old image le closes torn = by image (torn.before ∙ ap (ta
   where
     by : (image : List ℕ) → take (suc k) image ≡ take (suc k) (closes.gate ∷ closes.rest) → length old ≤ length image → ClosesAfter [] image
     by [] same long = absurd (omega (arith, long, ap length closes.parts))
-    by (b ∷ more) same long = record { gate = b; rest = more; parts = refl; closed = λ e. closes.closed (sym (heads_same b closes.gate (take k more) (take k closes.rest) same) ∙ e) }
+    by (b ∷ more) same long =
+        record { gate = b; rest = more; parts = refl; closed = λ e. closes.closed (sym (heads_same b closes.gate (take k more) (take k closes.rest) same) ∙ e) }
 
 -- These bytes, the front of all of them, were written so far, from offset 1 on.
 pub record IsWrittenTo (bytes : List ℕ) (old now : View) (at : ℕ) (rest : List ℕ) : Type 0 where
@@ -105,19 +108,23 @@ piece_within bytes old now at rest some so_far =
     let n : length now.seen ≡ length (overlay 1 so_far.front old.seen) = ap length so_far.seen in
     omega (arith, n, so_far.place, overlay_long so_far.front old.seen some)
 
-pub piece_run : {T : Type 0} (bytes : List ℕ) (old now new : View) (at : ℕ) (rest piece : List ℕ) (result : Result T DiskFault) → IsTimed now → IsWrittenTo bytes old now at rest → Writes at piece result now new → LeavesOnly old new (ClosesAfter [])
+pub piece_run : {T : Type 0} (bytes : List ℕ) (old now new : View) (at : ℕ) (rest piece : List ℕ) (result : Result T DiskFault)
+    → IsTimed now → IsWrittenTo bytes old now at rest → Writes at piece result now new → LeavesOnly old new (ClosesAfter [])
 piece_run bytes old now new at rest piece result timed so_far writes =
     goes_on_by (TornWrite at (length piece)) old now new (ClosesAfter []) so_far.run timed writes.crash writes.time
     (λ before image closes torn. torn_later at (length piece) before image (omega (arith, so_far.place)) closes torn)
 
-pub piece_seen : (bytes : List ℕ) (old now new : View) (at : ℕ) (rest piece : List ℕ) → 0 < length old.seen → (so_far : IsWrittenTo bytes old now at rest) → new.seen ≡ overlay at piece now.seen → new.seen ≡ overlay 1 (so_far.front ++ piece) old.seen
+pub piece_seen : (bytes : List ℕ) (old now new : View) (at : ℕ) (rest piece : List ℕ) → 0 < length old.seen
+    → (so_far : IsWrittenTo bytes old now at rest) → new.seen ≡ overlay at piece now.seen → new.seen ≡ overlay 1 (so_far.front ++ piece) old.seen
 piece_seen bytes old now new at rest piece some so_far written =
     written
     ∙ ap (λ n. overlay n piece now.seen) so_far.place
     ∙ ap (overlay (1 + length so_far.front) piece) so_far.seen
     ∙ overlay_more so_far.front piece old.seen some
 
-pub one_piece_more : {T : Type 0} (bytes : List ℕ) (old now new : View) (at : ℕ) (rest piece later : List ℕ) (result : Result T DiskFault) → 0 < length old.seen → IsTimed now → IsWrittenTo bytes old now at rest → rest ≡ piece ++ later → Writes at piece result now new → new.seen ≡ overlay at piece now.seen
+pub one_piece_more : {T : Type 0} (bytes : List ℕ) (old now new : View) (at : ℕ) (rest piece later : List ℕ) (result : Result T DiskFault)
+    → 0 < length old.seen → IsTimed now → IsWrittenTo bytes old now at rest → rest ≡ piece ++ later
+    → Writes at piece result now new → new.seen ≡ overlay at piece now.seen
     → IsWrittenTo bytes old new (at + length piece) later
 one_piece_more bytes old now new at rest piece later result some timed so_far split writes written = record {
   front = so_far.front ++ piece;
@@ -127,7 +134,8 @@ one_piece_more bytes old now new at rest piece later result some timed so_far sp
   run = piece_run bytes old now new at rest piece result timed so_far writes;
 }
 
-pub all_seen : (bytes : List ℕ) (old now new : View) (at : ℕ) (rest : List ℕ) → 0 < length old.seen → IsWrittenTo bytes old now at rest → new.seen ≡ overlay at rest now.seen → new.seen ≡ overlay 1 bytes old.seen
+pub all_seen : (bytes : List ℕ) (old now new : View) (at : ℕ) (rest : List ℕ) → 0 < length old.seen
+    → IsWrittenTo bytes old now at rest → new.seen ≡ overlay at rest now.seen → new.seen ≡ overlay 1 bytes old.seen
 all_seen bytes old now new at rest some so_far written =
     piece_seen bytes old now new at rest rest some so_far written ∙ ap (λ l. overlay 1 l old.seen) (sym so_far.parts)
 
@@ -135,7 +143,8 @@ pub no_bank : (old new : View) → LeavesOnly old new (ClosesAfter []) → Leave
 no_bank old new run = weaker old new (ClosesAfter []) IsNoBank run no_candidate
 
 -- After whole pieces and the last one, so many writes were made.
-pub pieces_counted : (bytes old now new at rest : ℕ) → at + rest ≡ 1 + bytes → now * 65536 + 1 ≡ old * 65536 + at → (at ≡ 1) ⊎ (0 < rest) → rest ≤ 65536 → new ≡ now + 1 → new ≡ old + pieces bytes
+pub pieces_counted : (bytes old now new at rest : ℕ) → at + rest ≡ 1 + bytes → now * 65536 + 1 ≡ old * 65536 + at
+    → (at ≡ 1) ⊎ (0 < rest) → rest ≤ 65536 → new ≡ now + 1 → new ≡ old + pieces bytes
 pieces_counted bytes old now new at rest all whole (inl first) last next = omega (arith, all, whole, first, last, next)
 pieces_counted bytes old now new at rest all whole (inr some) last next = omega (arith, all, whole, some, last, next)
 
@@ -144,16 +153,19 @@ pub front_length : (form : Form) (generation : ℕ) (body : List ℕ) → length
 front_length form generation body = omega (arith, length-append body (CLOSED ∷ []))
 
 -- More calls after those that closed the first gate.
-pub then_calls : (calls more all : ℕ) (old mid new : View) → TakesCalls calls old mid → new.moment ≡ mid.moment + more → calls + more ≡ all → TakesCalls all old new
+pub then_calls : (calls more all : ℕ) (old mid new : View) → TakesCalls calls old mid
+    → new.moment ≡ mid.moment + more → calls + more ≡ all → TakesCalls all old new
 then_calls calls more all old mid new (inl x) next sum = inl (x.0, omega (arith, x.1, next, sum))
 then_calls calls more all old mid new (inr x) next sum = inr (x.0, x.1, omega (arith, x.2, next, sum))
 
 -- ---- opening
 
-pub unlocking : (form : Form) (generation : ℕ) (body : List ℕ) (end : ℕ) (old new : View) → IsWhole form generation body end old → LeavesOnly old new (IsClosedOrOpened [] (behind_gate form generation body)) → LeavesOnly old new (IsNoneOrNew form generation body)
+pub unlocking : (form : Form) (generation : ℕ) (body : List ℕ) (end : ℕ) (old new : View) → IsWhole form generation body end old
+    → LeavesOnly old new (IsClosedOrOpened [] (behind_gate form generation body)) → LeavesOnly old new (IsNoneOrNew form generation body)
 unlocking form generation body end old new whole run =
     weaker old new (IsClosedOrOpened [] (behind_gate form generation body)) (IsNoneOrNew form generation body) run
     (λ file is. none_or_new form generation body whole.low whole.fits whole.short file (inr is))
 
-pub unlocked : (form : Form) (generation : ℕ) (body : List ℕ) (end : ℕ) (old new : View) → IsWhole form generation body end old → IsShut (OPEN ∷ behind_gate form generation body) (1 + length (behind_gate form generation body)) new → IsSettled form generation body [] end new
+pub unlocked : (form : Form) (generation : ℕ) (body : List ℕ) (end : ℕ) (old new : View) → IsWhole form generation body end old
+    → IsShut (OPEN ∷ behind_gate form generation body) (1 + length (behind_gate form generation body)) new → IsSettled form generation body [] end new
 unlocked form generation body end old new whole shut = made form generation body end new whole.low whole.fits whole.short whole.place shut

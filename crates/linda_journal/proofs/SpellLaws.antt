@@ -1,5 +1,6 @@
 -- Deeds that are spelled as record after record.
-use Rattle.std.proofs.Common.{◌≡◌, ℕ, suc, inl, inr, ◌+◌, ◌*◌, ◌<◌, ◌≤◌, List, [], ◌∷◌, ◌++◌, All, length, take, drop, refl, sym, ap, subst, ◌∙◌, append_assoc, append-nil, length-append, arith}
+use Rattle.std.proofs.Common.{◌≡◌, ℕ, suc, inl, inr, ◌+◌, ◌*◌, ◌<◌, ◌≤◌, List, [], ◌∷◌, ◌++◌, All, length, take, drop}
+use Rattle.std.proofs.Common.{refl, sym, ap, subst, ◌∙◌, append_assoc, append-nil, length-append, arith}
 use Rattle.std.proofs.lemmas.Grind.{flat_map-append}
 use Rattle.std.proofs.lemmas.List.Elements.{All-nil, All-take, All-drop}
 use Rattle.std.proofs.lemmas.List.{flat_map_more, take-append-drop}
@@ -9,7 +10,8 @@ use Rattle.linda_tuple.specs.declared.form.Form.{Form}
 use Rattle.linda_store_state.specs.declared.deed.Deed.{Deed}
 use Rattle.linda_journal.specs.declared.kinds.TheConstants.{CLOSED}
 use Rattle.linda_journal.specs.declared.limits.TheConstants.{MAX_DEEDS, RECORD_HEAD}
-use Rattle.linda_journal.specs.Records.{spell_deed, FitsDeed, IsRecord, payload, record_body, spell_record, spell_records, deeds_in, records_for, bytes_for, AreIn, AreRecords, AreSpelled}
+use Rattle.linda_journal.specs.Records.{spell_deed, FitsDeed, IsRecord, payload, record_body, spell_record}
+use Rattle.linda_journal.specs.Records.{spell_records, deeds_in, records_for, bytes_for, AreIn, AreRecords, AreSpelled}
 use Rattle.linda_journal.proofs.PayloadLaws.{all_with}
 
 -- ---- while records are spelled
@@ -40,7 +42,8 @@ none_spelled form ds out none fits = record {
     zero_for = omega arith
 
 -- The next record's deeds have a spelling.
-pub next_good : (form : Form) (ds : List Deed) (out : List ℕ) (rest batch : List Deed) (n : ℕ) → AreSpelledTo form ds out rest → batch ≡ take n rest → 0 < length batch → length batch ≤ MAX_DEEDS → IsRecord form batch
+pub next_good : (form : Form) (ds : List Deed) (out : List ℕ) (rest batch : List Deed) (n : ℕ)
+    → AreSpelledTo form ds out rest → batch ≡ take n rest → 0 < length batch → length batch ≤ MAX_DEEDS → IsRecord form batch
 next_good form ds out rest batch n so_far is some few =
     record { some = some; few = few; fits = subst (All (FitsDeed form)) (sym is) (All-take (FitsDeed form) n rest so_far.fits) }
 
@@ -50,7 +53,8 @@ joined_with records batch = flat_map_more (λ (l : List Deed). l) [] records bat
 counted_with : (k n b : ℕ) → k ≡ records_for n → n ≡ MAX_DEEDS * k → 0 < b → b ≤ MAX_DEEDS → k + 1 ≡ records_for (n + b)
 counted_with k n b count whole some few = omega (arith, count, whole, some, few)
 
-pub one_more_spelled : (form : Form) (ds : List Deed) (out : List ℕ) (rest batch after : List Deed) (n : ℕ) (new : List ℕ) → AreSpelledTo form ds out rest → batch ≡ take n rest → after ≡ drop n rest → IsRecord form batch
+pub one_more_spelled : (form : Form) (ds : List Deed) (out : List ℕ) (rest batch after : List Deed) (n : ℕ) (new : List ℕ)
+    → AreSpelledTo form ds out rest → batch ≡ take n rest → after ≡ drop n rest → IsRecord form batch
     → (length batch < MAX_DEEDS → length batch ≡ length rest) → new ≡ out ++ spell_record form batch → AreSpelledTo form ds new after
 one_more_spelled form ds out rest batch after n new so_far front left is all new_is =
     let records = so_far.records in
@@ -58,15 +62,19 @@ one_more_spelled form ds out rest batch after n new so_far front left is all new
     let long : length rest ≡ length batch + length after = ap length split ∙ length-append batch after in
     let some : 0 < length rest = omega (arith, long, is.some) in
     let joined : deeds_in (records ++ batch ∷ []) ≡ deeds_in records ++ batch = sym (joined_with records batch) in
-    let more : length (deeds_in (records ++ batch ∷ [])) ≡ length (deeds_in records) + length batch = ap length joined ∙ length-append (deeds_in records) batch in
+    let more : length (deeds_in (records ++ batch ∷ [])) ≡ length (deeds_in records) + length batch =
+    ap length joined ∙ length-append (deeds_in records) batch in
     let number : length (records ++ batch ∷ []) ≡ length records + 1 = length-append records (batch ∷ []) in
     record {
       records = records ++ batch ∷ [];
-      parts = so_far.parts ∙ ap (λ l. deeds_in records ++ l) split ∙ sym (append_assoc (deeds_in records) batch after) ∙ ap (λ l. l ++ after) (joined_with records batch);
+      parts = so_far.parts ∙ ap (λ l. deeds_in records ++ l) split ∙ sym (append_assoc (deeds_in records) batch after)
+          ∙ ap (λ l. l ++ after) (joined_with records batch);
       good = all_with (IsRecord form) records batch so_far.good is;
       out_is = new_is ∙ ap (λ l. l ++ spell_record form batch) so_far.out_is ∙ flat_map_more (spell_record form) [] records batch;
-      count = number ∙ counted_with (length records) (length (deeds_in records)) (length batch) so_far.count (so_far.whole some) is.some is.few ∙ ap records_for (sym more);
-      whole = λ left. filled (length batch) (length rest) (length after) (length records) (length (deeds_in records)) (length (deeds_in (records ++ batch ∷ []))) (length (records ++ batch ∷ [])) long left all is.few (so_far.whole some) more number;
+      count = number ∙ counted_with (length records) (length (deeds_in records)) (length batch) so_far.count (so_far.whole some) is.some is.few
+          ∙ ap records_for (sym more);
+      whole = λ left. filled (length batch) (length rest) (length after) (length records) (length (deeds_in records))
+          (length (deeds_in (records ++ batch ∷ []))) (length (records ++ batch ∷ [])) long left all is.few (so_far.whole some) more number;
       fits = subst (All (FitsDeed form)) (sym left) (All-drop (FitsDeed form) n rest so_far.fits);
     }
   where
@@ -94,7 +102,8 @@ each_spelled form ds out rest so_far none =
     same (d ∷ rest) none parts = absurd (omega (arith, none))
 
 -- With a closed gate behind them they are what is appended.
-pub all_spelled : (form : Form) (ds : List Deed) (out bytes : List ℕ) → AreRecords form ds out → 1 ≤ length ds → bytes ≡ out ++ CLOSED ∷ [] → AreSpelled form ds bytes
+pub all_spelled : (form : Form) (ds : List Deed) (out bytes : List ℕ) → AreRecords form ds out
+    → 1 ≤ length ds → bytes ≡ out ++ CLOSED ∷ [] → AreSpelled form ds bytes
 all_spelled form ds out bytes is some bytes_are = by is.records is.are is.good is.bytes_are
   where
     by : (records : List (List Deed)) → AreIn ds records → All (IsRecord form) records → out ≡ spell_records form records → AreSpelled form ds bytes
@@ -122,12 +131,15 @@ spelled_long form (r ∷ rs) =
     in
     omega (arith, whole, joined, record_long form r, spelled_long form rs)
 
-pub records_long : (form : Form) (ds : List Deed) (rs : List (List Deed)) → AreIn ds rs → length (spell_records form rs) ≡ bytes_for (length ds) (length (payload form ds))
+pub records_long : (form : Form) (ds : List Deed) (rs : List (List Deed)) → AreIn ds rs
+    → length (spell_records form rs) ≡ bytes_for (length ds) (length (payload form ds))
 records_long form ds rs are =
-    spelled_long form rs ∙ ap (λ n. RECORD_HEAD * n + length (payload form (deeds_in rs))) are.count ∙ ap (λ l. RECORD_HEAD * records_for (length ds) + length (payload form l)) are.all
+    spelled_long form rs ∙ ap (λ n. RECORD_HEAD * n + length (payload form (deeds_in rs))) are.count
+    ∙ ap (λ l. RECORD_HEAD * records_for (length ds) + length (payload form l)) are.all
 
 -- What is written behind the gate is as long as the records.
-pub bytes_long : (form : Form) (ds : List Deed) (bytes written : List ℕ) (s : AreSpelled form ds bytes) → written ≡ drop 1 bytes → length written ≡ bytes_for (length ds) (length (payload form ds))
+pub bytes_long : (form : Form) (ds : List Deed) (bytes written : List ℕ) (s : AreSpelled form ds bytes)
+    → written ≡ drop 1 bytes → length written ≡ bytes_for (length ds) (length (payload form ds))
 bytes_long form ds bytes written s is =
     let all : length written ≡ length (s.behind ++ CLOSED ∷ []) = ap length (is ∙ ap (drop 1) s.bytes_are) in
     let starts : length (spell_records form s.records) ≡ suc (length s.behind) = ap length s.starts in
@@ -150,8 +162,10 @@ one_record ds rs are some few = by rs are.all (are.count ∙ one_for (length ds)
 pub one_count : (n : ℕ) → 1 ≤ n → n ≤ MAX_DEEDS → records_for n ≡ 1
 one_count n some few = omega (arith, some, few)
 
-pub one_long : (form : Form) (ds : List Deed) → 1 ≤ length ds → length ds ≤ MAX_DEEDS → bytes_for (length ds) (length (payload form ds)) ≡ length (spell_record form ds)
-one_long form ds some few = ap (λ n. RECORD_HEAD * n + length (payload form ds)) (one_count (length ds) some few) ∙ sum (length (payload form ds)) ∙ sym (record_long form ds)
+pub one_long : (form : Form) (ds : List Deed) → 1 ≤ length ds → length ds ≤ MAX_DEEDS
+    → bytes_for (length ds) (length (payload form ds)) ≡ length (spell_record form ds)
+one_long form ds some few = ap (λ n. RECORD_HEAD * n + length (payload form ds)) (one_count (length ds) some few)
+    ∙ sum (length (payload form ds)) ∙ sym (record_long form ds)
   where
     sum : (n : ℕ) → RECORD_HEAD * 1 + n ≡ RECORD_HEAD + n
     sum n = omega arith

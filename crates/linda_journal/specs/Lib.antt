@@ -7,4 +7,4 @@ pub mod Heading
 pub mod Image
 pub mod Renewal
 pub mod Calls
-pub mod Ahead
+pub mod Preallocation

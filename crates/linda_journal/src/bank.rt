@@ -2,7 +2,7 @@
 //! of the form in which it spells values: one that is made is in `BANK_FORM`, one that is opened
 //! stays in its own.
 
-mod ahead;
+mod preallocation;
 
 ghost use Rattle.std.specs.Prelude.{◌≡◌, ◌<◌, ◌≤◌, ◌+◌, ◌*◌, ◌^◌, [], ◌↔◌, ℕ, List, length};
 ghost use Rattle.std.specs.Prelude.{IfOk, IfErr, true, false};
@@ -16,11 +16,11 @@ ghost use Rattle.linda_journal.specs.Renewal.{IsWhole, IsWholeWith, creates, unl
 ghost use Rattle.linda_journal.specs.Renewal.{unlocks_empty};
 ghost use Rattle.linda_store_state.specs.declared.deed.Deed.{Deed};
 
+use crate::contents::load;
 use crate::fault::BankFault;
 use crate::gate::{open_gate, put};
 use crate::limits::MIN_BYTES;
 use crate::making::{inscribe, spell_front};
-use crate::opening::load;
 use crate::record::{Record, behind_gate, spell_all};
 use crate::size::{records_for, records_len};
 use crate::whole::Whole;

@@ -47,8 +47,8 @@ pub fn shut<D: Disk>(disk: D) -> Result<Closed<D>, (DiskFault, D)>
         → IsNoBank (D.view disk).seen
         → IfOk result (λ c. LeavesOnly (D.view disk) (D.view c.disk)
         (λ image. image ≡ (D.view disk).seen)) }
-    // At no moment a crash leaves anything but what was there, or no bank. It is a write and a sync,
-    // or no call at all.
+    // At no moment a crash leaves anything but what was there, or no bank. It is a write and a
+    // sync, or no call at all.
     ensures runs { RunsTo D.Disk (λ c. c.disk) shuts (TakesCalls 0) DiskFault.Device disk result }
 {
     let mut disk = disk;

@@ -1,7 +1,7 @@
 //! A new bank that is written in steps, after a first gate that is closed. Each step ends synced,
 //! and whatever a crash leaves in between is no bank. Once all is there, the gate is opened.
 
-ghost use Rattle.std.specs.Prelude.{◌≡◌, ◌∷◌, [], ◌++◌, ◌<◌, ◌≤◌, ◌+◌, ◌-◌, ℕ, List, length, min};
+ghost use Rattle.std.specs.Prelude.{◌≡◌, [], ◌++◌, ◌<◌, ◌≤◌, ◌+◌, ◌-◌, ℕ, List, length, min};
 ghost use Rattle.std.specs.Prelude.{false, IfOk, OnOk};
 ghost use Rattle.linda_store_state.specs.declared.deed.Deed.{Deed};
 ghost use Rattle.linda_store_state.specs.DeedFormat.{written};

@@ -10,8 +10,8 @@ ghost use Rattle.linda_journal.specs.Gate.{IsShut, IsReady, stays_shut, opens, p
 use crate::kinds::{CLOSED, OPEN};
 use linda_disk::{Disk, DiskFault, write_synced};
 
-/// Writes these bytes, a body and a closed gate, after the gate at this offset, which is closed, and
-/// then opens that gate.
+/// Writes these bytes, a body and a closed gate, after the gate at this offset, which is closed,
+/// and then opens that gate.
 ///
 /// # Errors
 ///
@@ -41,7 +41,8 @@ fn stage<D: Disk>(disk: &mut D, gate: usize, bytes: &[u8]) -> Result<(), DiskFau
         → OnOk result (IsReady front gate body (D.view disk.new)) }
     ensures long { D.honest disk.old
         → OnOk result (gate + length bytes.now < length (D.view disk.new).seen) }
-    ensures runs { Runs D.Disk (stays_shut gate) (takes 2) DiskFault.Device disk.old result disk.new }
+    ensures runs { Runs D.Disk (stays_shut gate) (takes 2) DiskFault.Device disk.old result
+        disk.new }
 {
     write_synced(disk, gate + 1, bytes)
 }

@@ -1,6 +1,6 @@
 //! Headings, the first bytes of a bank.
 
-ghost use Rattle.std.specs.Prelude.{◌≡◌, ◌∷◌, ◌++◌, ℕ, List, IfSome, IfNone};
+ghost use Rattle.std.specs.Prelude.{◌≡◌, ◌++◌, ℕ, List, IfSome, IfNone};
 ghost use Rattle.linda_tuple.specs.declared.form.Form as forms;
 ghost use Rattle.linda_journal.specs.Bank.{magic};
 ghost use Rattle.linda_journal.specs.Heading.{IsHeading};

@@ -5,6 +5,7 @@
 
 mod bank;
 mod closed;
+mod contents;
 mod fault;
 mod filling;
 mod gate;
@@ -14,7 +15,6 @@ mod journal;
 mod kinds;
 mod limits;
 mod making;
-mod opening;
 mod payload;
 mod record;
 mod size;

@@ -1,9 +1,8 @@
 //! A record: one deed or more that were done together, after one gate, in a form.
 
-ghost use Rattle.std.specs.Prelude.{◌≡◌, ◌++◌, ◌+◌, ◌<◌, ◌≤◌, ◌*◌, ◌^◌, ℕ, List, All, length, take};
+ghost use Rattle.std.specs.Prelude.{◌≡◌, ◌++◌, ◌+◌, ◌<◌, ◌≤◌, ◌*◌, ◌^◌, All, length, take};
 ghost use Rattle.std.specs.Prelude.{drop, IfOk, IfSome, IfNone, OnOk};
 ghost use Rattle.linda_codec.specs.declared.limits.TheConstants.{SHORT_NUMBER_BYTES};
-ghost use Rattle.linda_store_state.specs.declared.deed.Deed as deed;
 ghost use Rattle.linda_journal.specs.declared.limits.TheConstants.{MAX_DEEDS, MAX_RECORDS};
 ghost use Rattle.linda_journal.specs.Records.{FitsDeed, IsRecord, record_body, spell_record};
 ghost use Rattle.linda_journal.specs.Records.{measured, AreRecords, AreSpelled, IsUnspelled};

@@ -15,7 +15,7 @@ pub use linda_net_proxy::{
     EventInbox, FIRST_TRIES, MAX_TRIES, Proxy, ProxyFault, ServerEvent, ServerLink, end, send,
 };
 pub use linda_net_pump::{Intake, pump};
-pub use linda_net_relays::{Limits, Listeners};
+pub use linda_net_relays::{Limits, ListeningSockets};
 pub use linda_net_watch::{Listener, PageQuery, PageResult, Status, StatusPages, Watcher};
 pub use linda_shared::{
     ClientPage, Gauge, KindPage, ListedClient, ListedKind, ListedReply, ListedTuple, Longest,

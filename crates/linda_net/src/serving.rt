@@ -6,7 +6,7 @@ ghost use Rattle.std.specs.Prelude.{IsOk, IsErrOf};
 use linda_disk::Disk;
 use linda_net_loops::Loops;
 use linda_net_marks::{CounterValues, Counters, Notice};
-use linda_net_relays::{Limits, Listeners, LoopDirectory};
+use linda_net_relays::{Limits, ListeningSockets, LoopDirectory};
 use linda_net_threads::accept_all;
 use linda_net_watch::{
     Seconds, Silent, Status, StatusPages, StatusServer, Unasked, Watcher, take_snapshots, tell,
@@ -118,7 +118,7 @@ pub fn serve_loop<
 >(
     rt: &R,
     alloc: Global,
-    listeners: Listeners,
+    listeners: ListeningSockets,
     shared: &Shared<D, L>,
     limits: Limits,
     watcher: &Mutex<T>,
@@ -174,7 +174,7 @@ fn serve_plainly<
 >(
     rt: &R,
     alloc: Global,
-    listeners: &Listeners,
+    listeners: &ListeningSockets,
     shared: &Shared<D, L>,
     limits: Limits,
     watcher: &Mutex<T>,

@@ -1,5 +1,6 @@
 -- The names of this machine.
-use Rattle.std.specs.Prelude.{◌≡◌, ℕ, ◌≤◌, ◌⊎◌, List, [], ◌∷◌, length, take, drop, map, codes, All, ⊤}
+use Rattle.std.specs.Prelude.{◌≡◌, ℕ, ◌≤◌, ◌⊎◌, List, [], ◌∷◌, length, take, drop, map, codes, All}
+use Rattle.std.specs.Prelude.{⊤}
 use Rattle.std.specs.Prelude.{IsTrue}
 use Rattle.std.specs.Char.{to_ascii_lowercase, is_ascii_digit}
 
@@ -21,4 +22,5 @@ IsNamed name host =
 -- A host is this machine.
 abbrev pub IsOwn : List ℕ → Type 0
 IsOwn host =
-    IsNamed (codes "127.0.0.1") host ⊎ (IsNamed (codes "localhost") host ⊎ IsNamed (codes "[::1]") host)
+    IsNamed (codes "127.0.0.1") host
+    ⊎ (IsNamed (codes "localhost") host ⊎ IsNamed (codes "[::1]") host)

@@ -81,7 +81,8 @@ fn head_at<'a>(front: &'a [u8], fields: &[HeaderSpan], head: RequestSpans) -> He
 // Whether a target is asked for under a name of this machine, or under none.
 fn is_for_us(front: &[u8], fields: &[HeaderSpan], target: &[u8]) -> bool
     requires { All (IsHeaderWithin (length front.now)) fields.now }
-    ensures { IsTrue result ↔ IsForUs (host_of target.now) (map (header_bytes front.now) fields.now) }
+    ensures { IsTrue result ↔ IsForUs (host_of target.now)
+        (map (header_bytes front.now) fields.now) }
 {
     match host_of(target) {
         Some(host) => is_own(host),

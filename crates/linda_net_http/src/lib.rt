@@ -3,9 +3,9 @@
 //! - `PageSource` has the pages, which it spells when they are asked for.
 //! - An `HttpServer` has a listener and some connections, each of which asks once and is answered
 //!   (`HttpConnection`). It waits for none of them.
-//! - What a connection sent and what it is answered are an `HttpExchange`, which makes no call: what is
-//!   asked for is read by `read_head`, the answer is written by `reply`, and what goes before a page
-//!   is a `Response`.
+//! - What a connection sent and what it is answered are an `HttpExchange`, which makes no call:
+//!   what is asked for is read by `read_head`, the answer is written by `reply`, and what goes
+//!   before a page is a `Response`.
 //! - A listener is a port of this machine or a unix socket (`Listener`), and so is the socket of a
 //!   connection (`Stream`), for which nobody waits.
 //! - A page is asked for under a name of this machine, or under none (`is_for_us`).

@@ -54,8 +54,8 @@ impl PollListener {
         }
     }
 
-    /// A descriptor more of it, that is good for nothing but to be closed; none if the system has no
-    /// more.
+    /// A descriptor more of it, that is good for nothing but to be closed; none if the system has
+    /// no more.
     pub(crate) fn spare(&self) -> Option<OwnedFd> {
         match self {
             PollListener::Port(port) => port.as_fd().try_clone_to_owned().ok(),

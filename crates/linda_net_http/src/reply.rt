@@ -11,8 +11,8 @@ use std::alloc::AllocError;
 use std::sync::Wait;
 use std::time::Clock;
 
-/// Writes the answer to what was sent so far as `text`, and says whether there is one: there is none
-/// as long as the head is not whole. A page is spelled as `page` first.
+/// Writes the answer to what was sent so far as `text`, and says whether there is one: there is
+/// none as long as the head is not whole. A page is spelled as `page` first.
 ///
 /// # Errors
 ///

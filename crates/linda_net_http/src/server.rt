@@ -14,7 +14,7 @@ use std::sync::{Mutex, Wait};
 use std::time::{Clock, Duration, Instant};
 
 /// The token of the listener. That of a connection is the number of its place and one more.
-const DOOR: usize = 0;
+const LISTENER: usize = 0;
 
 /// How many connections are there at most: more are closed at once.
 const PLACES: usize = 64;
@@ -38,14 +38,14 @@ const PAGE: usize = 8_192;
 const QUIET: u64 = 100;
 
 /// Where pages are asked for, and who asks. At most 64 connections are there, each for ten seconds
-/// and a tenth of one at most if the clock does not fail; none is waited for. One descriptor is kept
-/// back: so somebody is answered if the process may have no more.
+/// and a tenth of one at most if the clock does not fail; none is waited for. One descriptor is
+/// kept back: so somebody is answered if the process may have no more.
 #[derive(Drop)]
 pub struct HttpServer {
     alloc: Global,
     poll: Poll,
     events: Events,
-    door: PollListener,
+    listener: PollListener,
     // More may wait at the listener.
     may_accept: bool,
     // The last one could not be had.
@@ -70,10 +70,10 @@ impl HttpServer {
     ///
     /// The system has no room for it, or there is no memory.
     pub fn open<R: Net>(rt: &R, alloc: Global, listener: Listener) -> io::Result<HttpServer> {
-        let mut door = PollListener::of(listener)?;
+        let mut listener = PollListener::of(listener)?;
         let poll = Poll::new(rt)?;
-        door.register(poll.registry(), Token(DOOR))?;
-        let spare = door.spare();
+        listener.register(poll.registry(), Token(LISTENER))?;
+        let spare = listener.spare();
         let mut places = Vec::new(alloc);
         for _ in 0..PLACES {
             places.push(None)?;
@@ -82,7 +82,7 @@ impl HttpServer {
             alloc,
             poll,
             events: Events::with_capacity(alloc, EVENTS)?,
-            door,
+            listener,
             may_accept: true,
             has_missed: false,
             spare,
@@ -126,7 +126,7 @@ impl HttpServer {
         }
         for event in self.events.iter() {
             let token = event.token().0;
-            if token == DOOR {
+            if token == LISTENER {
                 self.may_accept = true;
             } else if let Some(Some(caller)) = self.places.get_mut(token - 1) {
                 caller.is_awake = true;
@@ -141,7 +141,7 @@ impl HttpServer {
             return;
         }
         for _ in 0..MOST_NEW {
-            match self.door.accept() {
+            match self.listener.accept() {
                 Ok(stream) => {
                     let registry = self.poll.registry();
                     let_in(self.alloc, registry, &mut self.places, stream, now);
@@ -163,7 +163,7 @@ impl HttpServer {
     // Keeps a descriptor back, if none is.
     fn keep_spare(&mut self) {
         if self.spare.is_none() {
-            self.spare = self.door.spare();
+            self.spare = self.listener.spare();
         }
     }
 }

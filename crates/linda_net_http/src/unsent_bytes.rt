@@ -1,6 +1,7 @@
 //! Bytes that wait to be written.
 
-ghost use Rattle.std.specs.Prelude.{◌≡◌, ◌≤◌, ◌<◌, ◌↔◌, ◌++◌, [], drop, length, IsTrue, OnOk, OnErr};
+ghost use Rattle.std.specs.Prelude.{◌≡◌, ◌≤◌, ◌<◌, ◌↔◌, ◌++◌, [], drop, length, IsTrue, OnOk};
+ghost use Rattle.std.specs.Prelude.{OnErr};
 
 use std::alloc::{AllocError, Global};
 use std::marker::Model;

@@ -6,7 +6,7 @@ ghost use Rattle.linda_net_session.specs.Turns.{Tells};
 ghost use Rattle.linda_net_session.specs.Between.{TakesNothing, Sends, Flushes};
 ghost use Rattle.linda_net_loops.specs.Connected.{Gives, IfGreeting};
 
-use crate::socket::{Note, Socket};
+use crate::socket::{ConnectionNotice, Socket};
 use linda_disk::Disk;
 use linda_net_marks::Counters;
 use linda_net_relays::{Look, Span, weight_after};
@@ -88,7 +88,7 @@ impl<S: Socket, L: Ledger> Connection<S, L> {
     }
 
     /// Its socket takes note of this.
-    pub(crate) fn note(&mut self, note: Note<'_>)
+    pub(crate) fn note(&mut self, note: ConnectionNotice<'_>)
         ensures session { self.new.session ≡ self.old.session }
         ensures account { self.new.account ≡ self.old.account }
     {
@@ -265,7 +265,7 @@ impl<S: Socket, L: Ledger> Connection<S, L> {
     {
         let reply = Refusal::Busy.reply();
         self.count(counters, &reply);
-        self.stream.note(Note::Busy);
+        self.stream.note(ConnectionNotice::Busy);
     }
 
     /// A message that went this way came back.
@@ -322,7 +322,7 @@ impl<S: Socket, L: Ledger> Connection<S, L> {
         ensures broken { self.new.session ≡ broken self.old.session }
     {
         self.session.fail();
-        self.stream.note(Note::Failed);
+        self.stream.note(ConnectionNotice::Failed);
     }
 
     /// Writes what it can take.
@@ -335,7 +335,7 @@ impl<S: Socket, L: Ledger> Connection<S, L> {
                 counters.sends(&word.reply());
             }
             if let SessionEnd::Ending(word) = self.session.end_of() {
-                self.stream.note(Note::Ended(word));
+                self.stream.note(ConnectionNotice::Ended(word));
             }
         }
         self.session.finish();

@@ -13,13 +13,14 @@ mod connection;
 mod event_loop;
 mod groups;
 mod loop_sink;
+mod loops;
 mod place;
-mod running;
+mod service;
 mod serving;
 mod sessions;
 mod socket;
 
+pub use loops::Loops;
 pub use place::account_has_parts_for_all;
-pub use running::Loops;
 pub use serving::Serving;
-pub use socket::{Note, Socket};
+pub use socket::{ConnectionNotice, Socket};

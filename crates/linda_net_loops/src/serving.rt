@@ -1,8 +1,8 @@
 //! Serving, the connections of one loop without a system below: whoever has it says which may be
 //! read or written.
 
-use crate::event_loop::{serve_asks, serve_deeds};
 use crate::groups::Groups;
+use crate::service::{serve_asks, serve_deeds};
 use crate::sessions::Sessions;
 use crate::socket::Socket;
 use linda_disk::Disk;

@@ -8,7 +8,7 @@ use std::io;
 
 /// What a loop notes of a connection, when it is so.
 #[derive(Clone, Copy)]
-pub enum Note<'m> {
+pub enum ConnectionNotice<'m> {
     /// This message was to greet its client, which is welcome, with the number of its last request,
     /// or refused by a code and a detail; none if the server could not say.
     Greeted(&'m Message, Option<Result<u64, (u8, u64)>>),
@@ -46,7 +46,7 @@ pub trait Socket: Drop {
     fn shut(&self);
 
     /// Takes note of this. One of the system does not.
-    fn note(&mut self, _note: Note<'_>) {}
+    fn note(&mut self, _note: ConnectionNotice<'_>) {}
 }
 
 impl Socket for Stream {

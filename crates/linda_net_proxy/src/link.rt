@@ -135,7 +135,7 @@ impl ServerLink {
             match self.greet(rt, alloc, inbox, course.says_fresh()) {
                 Ok(proxy) => {
                     course.welcome();
-                    self.follow(rt, alloc, inbox, proxy);
+                    self.relay_until_closed(rt, alloc, inbox, proxy);
                 }
                 Err(fault) => {
                     self.let_go(rt);
@@ -172,7 +172,7 @@ impl ServerLink {
     }
 
     // Brings what comes over a greeted connection until it ends.
-    fn follow(&self, rt: &impl Wait, alloc: Global, inbox: &EventInbox, proxy: Proxy) {
+    fn relay_until_closed(&self, rt: &impl Wait, alloc: Global, inbox: &EventInbox, proxy: Proxy) {
         let mut proxy = proxy;
         self.listen(rt, alloc, inbox, &mut proxy);
         self.let_go(rt);

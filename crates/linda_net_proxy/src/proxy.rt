@@ -1,7 +1,7 @@
 //! A connection of a client to one server.
 
-ghost use Rattle.std.specs.Prelude.{◌≡◌, ◌≢◌, ◌↔◌, ◌⊎◌, ◌++◌, None, Ok, IfOk, IfErr, IfSome};
-ghost use Rattle.std.specs.Prelude.{IsErrOf, OnErr};
+ghost use Rattle.std.specs.Prelude.{◌≡◌, ◌↔◌, ◌⊎◌, ◌++◌, None, Ok, IfOk, IfErr, IfSome};
+ghost use Rattle.std.specs.Prelude.{IsErrOf};
 ghost use Rattle.linda_wire.specs.Frames.{frame, reply as replies};
 ghost use Rattle.linda_wire.specs.Stream.{Partial, IsWhole, front};
 ghost use Rattle.linda_net_proxy.specs.declared.fault.ProxyFault.TheVariants as faults;

@@ -1,6 +1,6 @@
 //! Arrivals from all servers of a client that wait to be taken.
 
-ghost use Rattle.std.specs.Prelude.{◌≡◌, ◌↔◌, ◌++◌, ◌∷◌, [], Some, false, true, option_to_list};
+ghost use Rattle.std.specs.Prelude.{◌≡◌, ◌↔◌, ◌++◌, [], Some, false, true, option_to_list};
 ghost use Rattle.linda_net_proxy.specs.declared.server_events.ServerEvent.TheVariants as arrival;
 ghost use Rattle.linda_net_proxy.specs.ServerEvents.{IsBrought, IsSame};
 

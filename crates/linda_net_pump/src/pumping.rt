@@ -4,7 +4,6 @@
 ghost use Rattle.std.specs.Prelude.{◌≡◌, ◌≢◌, ◌++◌, ◌∷◌, [], ◌+◌, ◌≤◌, Some, length, take, vec_len};
 ghost use Rattle.std.specs.Prelude.{IfOk, IfErr, OnOk};
 ghost use Rattle.std.specs.Io.KnownBytes.{Consumes, Keeps, IsAtEnd};
-ghost use Rattle.linda_wire.specs.declared.message.Message.{Message as MessageValue};
 ghost use Rattle.linda_store.specs.declared.end.ConverseFault.TheVariants.{Read as ReadFault};
 ghost use Rattle.linda_store.specs.Conversation.{detail_of};
 ghost use Rattle.linda_store_step.specs.declared.size.TheConstants.{MAX_BATCH};
@@ -140,10 +139,8 @@ fn detail_of(fault: FrameFault) -> Result<Option<u32>, ConverseFault>
     ensures ok { IfOk result (λ o. (fault ≢ Memory) × (o ≡ Some (detail_of fault))) }
     ensures err { IfErr result (λ told. told ≡ ConverseFault.Memory) }
 {
-    match fault {
-        FrameFault::Memory => Err(ConverseFault::Memory),
-        FrameFault::EmptyFrame => Ok(Some(0)),
-        FrameFault::FrameTooLong(_) => Ok(Some(0)),
-        FrameFault::Malformed(offset) => Ok(Some(offset)),
+    match fault.offset() {
+        Some(offset) => Ok(Some(offset)),
+        None => Err(ConverseFault::Memory),
     }
 }

@@ -7,7 +7,8 @@ use Rattle.linda_net_relays.specs.declared.share.TheConstants.{MOST_ASKS}
 -- than 5 milliseconds.
 abbrev pub has_left : ℕ → ℕ → ℕ → ℕ → Bool
 has_left read planned told micros =
-    nat_lt (min (read + max planned told) 18_446_744_073_709_551_615) 1_048_576 && nat_lt micros 5_000
+    nat_lt (min (read + max planned told) 18_446_744_073_709_551_615) 1_048_576
+    && nat_lt micros 5_000
 
 -- After a group of Asks that took 5 milliseconds the next has one. It may have twice as many after
 -- 256 groups that took less than a millisecond each, one after the other, and one more.

@@ -1,6 +1,6 @@
 //! Acceptor of the loops, which lets connections in.
 
-use crate::listeners::Listeners;
+use crate::listeners::ListeningSockets;
 use crate::loop_directory::LoopDirectory;
 use linda_net_http::Stream;
 use linda_net_marks::one_less;
@@ -36,8 +36,8 @@ pub struct Acceptor {
 
 impl Acceptor {
     /// So many connections are let in, if a number is given.
-    pub fn new(listeners: Listeners, sessions: Option<u32>) -> Acceptor {
-        let Listeners { port, socket } = listeners;
+    pub fn new(listeners: ListeningSockets, sessions: Option<u32>) -> Acceptor {
+        let ListeningSockets { port, socket } = listeners;
         Acceptor {
             port: port.map(TcpListener::from_std),
             socket: socket.map(UnixListener::from_std),

@@ -19,7 +19,7 @@ mod time;
 
 pub use acceptor::{ACCEPTOR, Acceptor};
 pub use limits::Limits;
-pub use listeners::Listeners;
+pub use listeners::ListeningSockets;
 pub use loop_directory::LoopDirectory;
 pub use loop_inbox::{InboxFlags, LoopInbox};
 pub use share::{Share, is_much, weight_after};

@@ -6,14 +6,14 @@ use std::os::unix::net::UnixListener;
 
 /// Where connections come in: a port of this machine, a unix socket, or both.
 #[derive(Drop)]
-pub struct Listeners {
+pub struct ListeningSockets {
     /// The listener of a port.
     pub port: Option<TcpListener>,
     /// The listener of a unix socket. Who may connect is up to the mode of its file.
     pub socket: Option<UnixListener>,
 }
 
-impl Listeners {
+impl ListeningSockets {
     /// Has none of them wait for a connection.
     ///
     /// # Errors

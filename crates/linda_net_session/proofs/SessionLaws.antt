@@ -1,5 +1,6 @@
 -- What a session's calls keep.
-use Rattle.std.proofs.Common.{◌≡◌, ℕ, ◌+◌, ◌≤◌, arith, Bool, false, List, [], ◌∷◌, ◌++◌, length, take, drop, map, Option, Some, None, refl, sym, ap, subst, ◌∙◌, append_assoc}
+use Rattle.std.proofs.Common.{◌≡◌, ℕ, ◌+◌, ◌≤◌, arith, Bool, false, List, [], ◌∷◌, ◌++◌, length, take, drop, map}
+use Rattle.std.proofs.Common.{Option, Some, None, refl, sym, ap, subst, ◌∙◌, append_assoc}
 use Rattle.std.specs.List.{flat_map}
 use Rattle.std.proofs.lemmas.List.{append-nil, map-append, take-append-drop, drop_at}
 use Rattle.std.proofs.lemmas.List.Elements.{All-nil, All-cons, All-append}
@@ -21,7 +22,8 @@ use Rattle.linda_net_session.specs.declared.route.MessageKind.TheVariants as kin
 use Rattle.linda_net_session.specs.declared.route.OpenWays.{OpenWays}
 use Rattle.linda_net_session.specs.declared.route.Route.{Route}
 use Rattle.linda_net_session.specs.Place.{on_way, answered, place, place_ask, place_deed}
-use Rattle.linda_net_session.specs.Session.{Session, messages, is_closed, ended_by, shut_by, rested, begun, ended, shut, at_rest, in_phase, took, said, broken, wrote, session_of, unread_of}
+use Rattle.linda_net_session.specs.Session.{Session, messages, is_closed, ended_by, shut_by, rested, begun, ended, shut}
+use Rattle.linda_net_session.specs.Session.{at_rest, in_phase, took, said, broken, wrote, session_of, unread_of}
 use Rattle.linda_net_session.specs.Lawful.{IsPrefixOf, HasSaid, HasLast, IsLawful}
 
 -- ---- the beginning
@@ -260,7 +262,8 @@ wrote_lawful count s within l = record {
     on ends.Shut pending within h = h ∙ split s.sent pending
     on (ends.Ending word) pending within h = h ∙ split s.sent pending
     on (ends.Told word) pending within h = h ∙ split s.sent pending
-    on ends.Broken pending within h = rw h.0 (no_drop count, subst (λ (sent : List ℕ). IsPrefixOf sent (flat_map reply_frame s.told)) (no_take s.sent count) h.1)
+    on ends.Broken pending within h =
+        rw h.0 (no_drop count, subst (λ (sent : List ℕ). IsPrefixOf sent (flat_map reply_frame s.told)) (no_take s.sent count) h.1)
 
 -- ---- what is taken
 
@@ -317,7 +320,8 @@ told_more tells r = map-append (λ (t : Reply × Unit {0}). t.0) tells ((r, tt) 
 pub say_keeps : (reads : List (List ℕ × ℕ)) (held : Option Message) (feed : List ℕ) (takes : List (Message × Route)) (tells tells' : List (Reply × Unit {0}))
     (writes : List (List ℕ × ℕ)) (out out' : List ℕ) (phase : Phase) (end : SessionEnd) (may_have : Bool) (r : Reply)
     → tells' ≡ tells ++ (r, tt) ∷ [] → out' ≡ out ++ reply_frame r → is_closed end ≡ false
-    → IsLawful (session_of reads held feed takes tells writes out phase end may_have) → IsLawful (session_of reads held feed takes tells' writes out' phase end may_have)
+    → IsLawful (session_of reads held feed takes tells writes out phase end may_have)
+    → IsLawful (session_of reads held feed takes tells' writes out' phase end may_have)
 say_keeps reads held feed takes tells tells' writes out out' phase end may_have r more grown still l =
     rw (more, grown) (
     subst (λ (told : List Reply). IsLawful (record (session_of reads held feed takes tells writes (out ++ reply_frame r) phase end may_have) { told = told }))
@@ -327,7 +331,8 @@ say_keeps reads held feed takes tells tells' writes out out' phase end may_have 
 pub sent_keeps : (reads : List (List ℕ × ℕ)) (held : Option Message) (feed : List ℕ) (takes : List (Message × Route)) (tells : List (Reply × Unit {0}))
     (writes writes' : List (List ℕ × ℕ)) (out out' : List ℕ) (phase : Phase) (end : SessionEnd) (may_have : Bool) (count : ℕ)
     → writes' ≡ writes ++ (out, count) ∷ [] → out' ≡ drop count out → count ≤ length out
-    → IsLawful (session_of reads held feed takes tells writes out phase end may_have) → IsLawful (session_of reads held feed takes tells writes' out' phase end may_have)
+    → IsLawful (session_of reads held feed takes tells writes out phase end may_have)
+    → IsLawful (session_of reads held feed takes tells writes' out' phase end may_have)
 sent_keeps reads held feed takes tells writes writes' out out' phase end may_have count more fewer within l =
     rw (more, fewer) (
     subst (λ (sent : List ℕ). IsLawful (record (session_of reads held feed takes tells writes (drop count out) phase end may_have) { sent = sent }))
@@ -335,8 +340,10 @@ sent_keeps reads held feed takes tells writes writes' out out' phase end may_hav
     )
 
 -- a session whose message was taken
-pub took_is : (reads : List (List ℕ × ℕ)) (held held' : Option Message) (feed feed' : List ℕ) (takes takes' : List (Message × Route)) (tells : List (Reply × Unit {0}))
+pub took_is : (reads : List (List ℕ × ℕ)) (held held' : Option Message) (feed feed' : List ℕ)
+    (takes takes' : List (Message × Route)) (tells : List (Reply × Unit {0}))
     (writes : List (List ℕ × ℕ)) (out : List ℕ) (phase : Phase) (end : SessionEnd) (may_have : Bool) (m : Message) (p q : Route × Phase)
     → held' ≡ None → takes' ≡ takes ++ (m, p.0) ∷ [] → p ≡ q
-    → session_of reads held' feed' takes' tells writes out p.1 end may_have ≡ took m feed' q (session_of reads held feed takes tells writes out phase end may_have)
+    → session_of reads held' feed' takes' tells writes out p.1 end may_have ≡ took m feed' q
+    (session_of reads held feed takes tells writes out phase end may_have)
 took_is reads held held' feed feed' takes takes' tells writes out phase end may_have m p q none more same = rw (none, more, same) refl

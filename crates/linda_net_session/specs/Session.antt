@@ -1,14 +1,15 @@
 -- Sessions as contracts see them: what one received, took, reported and wrote, and how far it is.
 use Rattle.std.specs.Prelude.{ℕ, ◌==◌, ◌&&◌, nat_le, Bool, true, false, not, if◌then◌else◌}
 use Rattle.std.specs.Prelude.{List, [], ◌∷◌, ◌++◌, length, map, take, drop, Option, Some, None}
+use Rattle.std.specs.Prelude.{option_map}
 use Rattle.std.specs.List.{flat_map}
 use Rattle.linda_wire.specs.declared.fault.FrameFault.{FrameFault}
-use Rattle.linda_wire.specs.declared.fault.FrameFault.TheVariants as faults
 use Rattle.linda_wire.specs.declared.message.Message.{Message}
 use Rattle.linda_wire.specs.declared.refusal.Refusal.{Refusal}
 use Rattle.linda_wire.specs.declared.refusal.Refusal.TheVariants as refusals
 use Rattle.linda_wire.specs.declared.reply.Reply.{Reply}
 use Rattle.linda_wire.specs.Frames.{message_frame, reply_frame}
+use Rattle.linda_wire.specs.Offset.{offset_of}
 use Rattle.linda_net_session.specs.declared.end.SessionEnd.{SessionEnd}
 use Rattle.linda_net_session.specs.declared.end.SessionEnd.TheVariants as ends
 use Rattle.linda_net_session.specs.declared.limits.TheConstants.{MOST_UNSENT}
@@ -91,10 +92,7 @@ rested ends.Broken = ends.Broken
 -- The word for a fault of a frame: the offset in it of the first byte at fault, 0 if its length is
 -- at fault. Nothing if memory ran out.
 abbrev pub word_of : FrameFault → Option Refusal
-word_of faults.Memory = None
-word_of faults.EmptyFrame = Some (refusals.Malformed 0)
-word_of (faults.FrameTooLong len) = Some (refusals.Malformed 0)
-word_of (faults.Malformed offset) = Some (refusals.Malformed offset)
+word_of fault = option_map (λ offset. refusals.Malformed offset) (offset_of fault)
 
 -- ---- what may happen
 

@@ -387,10 +387,8 @@ fn front_of(
 fn word_of(fault: FrameFault) -> Option<Refusal>
     ensures { result ≡ spec.word_of fault }
 {
-    match fault {
-        FrameFault::Memory => None,
-        FrameFault::EmptyFrame => Some(Refusal::Malformed(0)),
-        FrameFault::FrameTooLong(_) => Some(Refusal::Malformed(0)),
-        FrameFault::Malformed(offset) => Some(Refusal::Malformed(offset)),
+    match fault.offset() {
+        Some(offset) => Some(Refusal::Malformed(offset)),
+        None => None,
     }
 }

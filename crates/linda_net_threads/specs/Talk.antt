@@ -1,5 +1,6 @@
 -- The seat that a greeting gives a connection, and the messages that go together.
-use Rattle.std.specs.Prelude.{◌≡◌, ◌⊎◌, ℕ, Bool, true, false, List, [], ◌∷◌, ◌++◌, Option, Some, None}
+use Rattle.std.specs.Prelude.{◌≡◌, ◌⊎◌, ℕ, Bool, true, false, List, [], ◌∷◌, ◌++◌, Option, Some}
+use Rattle.std.specs.Prelude.{None}
 use Rattle.std.specs.Prelude.{Result, Ok, Err}
 use Rattle.linda_wire.specs.declared.message.Message.{Message}
 use Rattle.linda_net_session.specs.declared.route.Route.{Route}

@@ -5,7 +5,6 @@ use Rattle.linda_shared_accounts.specs.declared.fault.SharedFault.{SharedFault}
 use Rattle.linda_shared_accounts.specs.declared.fault.SharedFault.TheVariants as faults
 use Rattle.linda_net_marks.specs.declared.counters.CounterValues.{CounterValues}
 use Rattle.linda_net_watch.specs.declared.alerts.Alerts.{Alerts}
-use Rattle.linda_net_marks.specs.declared.refusals.RefusalReason.{RefusalReason}
 use Rattle.linda_net_marks.specs.declared.refusals.RefusalReason.TheVariants as whys
 use Rattle.linda_net_marks.specs.declared.notice.Notice.{Notice}
 use Rattle.linda_net_marks.specs.declared.notice.Notice.TheVariants as notices

@@ -1,2 +1,2 @@
 pub mod Alerts
-pub mod Ahead
+pub mod Preallocation

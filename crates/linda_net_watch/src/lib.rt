@@ -7,16 +7,16 @@
 //! - A `StatusServer` answers what is asked of a `Status`, by the pages of its `StatusPages`.
 #![tactic(auto)]
 
-mod ahead;
 mod alert_state;
 mod alerts;
 mod looking;
+mod preallocation;
 mod seconds;
 mod snapshots;
 mod status;
-mod watching;
+mod watcher;
 
 pub use looking::take_snapshots;
 pub use seconds::Seconds;
 pub use status::{Listener, PageQuery, PageResult, Status, StatusPages, StatusServer, Unasked};
-pub use watching::{Silent, Watcher, tell, watch};
+pub use watcher::{Silent, Watcher, tell, watch};

@@ -3,8 +3,8 @@
 ghost use Rattle.std.specs.Prelude.{◌≡◌, ◌*◌, ◌-◌, ◌<◌, ◌≤◌, ◌^◌, min, Some, None};
 ghost use Rattle.std.specs.Duration.{as_nanos};
 
-use crate::ahead::Ahead;
-use crate::watching::take_snapshot;
+use crate::preallocation::Preallocation;
+use crate::watcher::take_snapshot;
 use linda_disk::Disk;
 use linda_net_marks::Counters;
 use linda_shared::Shared;
@@ -29,7 +29,7 @@ pub fn take_snapshots<D: Disk, L: Ledger, R: Wait + Clock>(
     is_over: &Mutex<bool>,
 ) {
     let mut pause: u64 = 0;
-    let mut ahead = Ahead::new();
+    let mut ahead = Preallocation::new();
     for _ in rt.forever() {
         if *is_over.lock(rt) {
             return;
@@ -37,7 +37,7 @@ pub fn take_snapshots<D: Disk, L: Ledger, R: Wait + Clock>(
         shared.forget(rt);
         pause = match left_of(pause) {
             Some(left) => left,
-            None if shared.pays(rt) => {
+            None if shared.snapshot_due(rt) => {
                 let millis = take_snapshot(rt, shared, counters, is_over);
                 ahead.begin_anew();
                 pause_after(millis)

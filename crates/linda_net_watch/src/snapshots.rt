@@ -34,7 +34,7 @@ pub(crate) fn snapshot<D: Disk, L: Ledger, R: Wait + Clock>(
         shared.forget_copy(rt);
         return None;
     }
-    if let Err(fault) = shared.begin_steps(rt) {
+    if let Err(fault) = shared.begin_snapshot(rt) {
         shared.forget_copy(rt);
         return Some(Err(fault));
     }
@@ -43,7 +43,7 @@ pub(crate) fn snapshot<D: Disk, L: Ledger, R: Wait + Clock>(
         if *is_over.lock(rt) {
             return None;
         }
-        match shared.step(rt, most) {
+        match shared.continue_snapshot(rt, most) {
             Err(fault) => return Some(Err(fault)),
             Ok(Progress::Done) => return Some(Ok(())),
             Ok(Progress::Idle) => return Some(shared.snapshot(rt)),

@@ -1,5 +1,6 @@
 -- How an exchange ends, and what one read leads to.
-use Rattle.std.proofs.Common.{◌≡◌, ℕ, ◌+◌, ◌<◌, ◌≤◌, Bool, true, false, List, [], ◌++◌, length, length-append, le_trans, take, Option, Result, Ok, Err, refl, sym, ap, ◌∙◌, subst, append-nil, arith, inl, inr}
+use Rattle.std.proofs.Common.{◌≡◌, ℕ, ◌+◌, ◌<◌, ◌≤◌, Bool, true, false, List, [], ◌++◌, length, length-append, le_trans}
+use Rattle.std.proofs.Common.{take, Option, Result, Ok, Err, refl, sym, ap, ◌∙◌, subst, append-nil, arith, inl, inr}
 use Rattle.std.specs.List.{flat_map, concat}
 use Rattle.std.specs.Global.{Vec}
 use Rattle.std.specs.Io.KnownBytes.{Appends, Consumes, IsAtEnd, Keeps}
@@ -10,7 +11,7 @@ use Rattle.std.proofs.lemmas.Bool.{cases_lt}
 use Rattle.linda_pipe.specs.Lines.{ended, IsCut}
 use Rattle.linda_pipe.specs.Piping.{reply_line, HasEnded, IsAnswered, IsPipedTo, GoesOut}
 use Rattle.linda_pipe.specs.Exchanges.{IsUnderway, IsOver, LeadsTo, IsEnded, ReadsTo, IsPiping, TurnsTo}
-use Rattle.linda_store.specs.declared.stage.Stage.TheVariants as stages
+use Rattle.linda_store.specs.declared.connection_state.ConnectionState.TheVariants as stages
 use Rattle.linda_store.specs.Node.{Node}
 use Rattle.linda_store.specs.Turn.{beginning}
 use Rattle.linda_store.specs.Conversation.{IsConversation}
@@ -92,7 +93,8 @@ front_twice m n l =
     ]
 
 -- some of what was to go out has gone out
-part_out : (result : Result Unit PipeFault) (all sent replies : List ℕ) (k : ℕ) → GoesOut result all (sent ++ replies) → GoesOut (Err faults.Write) all (sent ++ take k replies)
+part_out : (result : Result Unit PipeFault) (all sent replies : List ℕ) (k : ℕ) → GoesOut result all (sent ++ replies)
+    → GoesOut (Err faults.Write) all (sent ++ take k replies)
 part_out (Ok done) all sent replies k e = (length sent + k, sym (take-append-add sent replies k) ∙ ap (take (length sent + k)) e)
 part_out (Err (faults.NotHexadecimal n)) all sent replies k e = (length sent + k, sym (take-append-add sent replies k) ∙ ap (take (length sent + k)) e)
 part_out (Err (faults.Memory n)) all sent replies k e = (length sent + k, sym (take-append-add sent replies k) ∙ ap (take (length sent + k)) e)
@@ -117,7 +119,8 @@ module _ {first : Node} where
   }
 
   -- with what was read
-  ended_in_part : (read sent replies : List ℕ) (left : Option (List ℕ)) (result : Result Unit PipeFault) (k : ℕ) → IsEnded first read (sent ++ replies) left result
+  ended_in_part : (read sent replies : List ℕ) (left : Option (List ℕ)) (result : Result Unit PipeFault) (k : ℕ)
+      → IsEnded first read (sent ++ replies) left result
       → IsEnded first read (sent ++ take k replies) left (Err faults.Write)
   ended_in_part read sent replies left result k e = record { text = e.text; text_is = e.text_is; ends = part_sent e.text sent replies left result k e.ends }
 
@@ -163,8 +166,27 @@ module _ {N : Type 0} {shown : N → Node} {first : Node} where
       let out : sent ≡ flat_map reply_line u.said = sym (u.out ∙ ap (λ l. sent ++ l) e ∙ append-nil sent) in
       let answered : IsAnswered first u.lines u.said x.session.stage =
       record { pieces = u.pieces; unread = x.session.unread; to = point_of x.session (shown x.node); decoded = u.decoded; talk = u.talk } in (
-        record { lines = u.lines; more = x.line.items; said = u.said; stage = x.session.stage; cut = u.cut; answered = answered; ending = (u.unfinished, u.is_open.0); out = out },
-        λ many. record { lines = u.lines; more = x.line.items; said = u.said; stage = x.session.stage; cut = u.cut; answered = answered; ending = ((u.unfinished, u.is_open.0), many); out = out },
+        record {
+          lines = u.lines;
+          more = x.line.items;
+          said = u.said;
+          stage = x.session.stage;
+          cut =
+              u.cut;
+          answered = answered;
+          ending = (u.unfinished, u.is_open.0);
+          out = out;
+        },
+        λ many. record {
+          lines = u.lines;
+          more = x.line.items;
+          said = u.said;
+          stage = x.session.stage;
+          cut = u.cut;
+          answered = answered;
+          ending = ((u.unfinished, u.is_open.0), many);
+          out = out;
+        },
       )
 
 -- ---- one read
@@ -188,7 +210,8 @@ module _ {N : Type 0} {shown : N → Node} {first : Node} where
   }
 
   -- there were too many reads
-  pub turns_spent : {reads : ℕ} (first_left left first_written written : Option (List ℕ)) (x : Exchange N) → MAX_READS ≤ reads → IsPiping shown first reads first_left left first_written written x
+  pub turns_spent : {reads : ℕ} (first_left left first_written written : Option (List ℕ)) (x : Exchange N)
+      → MAX_READS ≤ reads → IsPiping shown first reads first_left left first_written written x
       → IsPipedTo first first_left left first_written written (Err faults.Turns)
   turns_spent first_left left first_written written x all p = record {
     read = p.read;
@@ -201,7 +224,8 @@ module _ {N : Type 0} {shown : N → Node} {first : Node} where
   }
 
   -- it has ended with what a read gave
-  read_ended : {reads : ℕ} (first_left old_left left first_written old_written written : Option (List ℕ)) (chunk sent : List ℕ) (old : Exchange N) (result : Result Unit PipeFault)
+  read_ended : {reads : ℕ} (first_left old_left left first_written old_written written : Option (List ℕ))
+      (chunk sent : List ℕ) (old : Exchange N) (result : Result Unit PipeFault)
       → (p : IsPiping shown first reads first_left old_left first_written old_written old) → Consumes old_left left chunk → Appends old_written written sent
       → IsEnded first (p.read ++ chunk) (p.written ++ sent) left result → IsPipedTo first first_left left first_written written result
   read_ended first_left old_left left first_written old_written written chunk sent old result p c a e = record {
@@ -216,7 +240,8 @@ module _ {N : Type 0} {shown : N → Node} {first : Node} where
 
   -- what was read was taken, and sending the replies failed
   pub send_failed : {reads : ℕ} (first_left old_left left first_written old_written written : Option (List ℕ)) (chunk : List ℕ) (old x : Exchange N)
-      → (result : Result Bool PipeFault) (k : ℕ) (p : IsPiping shown first reads first_left old_left first_written old_written old) → Consumes old_left left chunk
+      → (result : Result Bool PipeFault) (k : ℕ) (p : IsPiping shown first reads first_left old_left first_written old_written old)
+      → Consumes old_left left chunk
       → ReadsTo shown first (p.read ++ chunk) p.written left x result → Appends old_written written (take k x.replies.items)
       → IsPipedTo first first_left left first_written written (Err faults.Write)
   send_failed first_left old_left left first_written old_written written chunk old x result k p c r a =
@@ -229,8 +254,10 @@ module _ {N : Type 0} {shown : N → Node} {first : Node} where
       part (Err fault) r = ended_in_part (p.read ++ chunk) p.written x.replies.items left (Err fault) k r
 
   -- what was read was taken, and all replies were sent
-  pub send_done : {reads : ℕ} (first_left old_left left first_written old_written written : Option (List ℕ)) (chunk : List ℕ) (old x : Exchange N) (empty : Vec ℕ)
-      → (result : Result Bool PipeFault) (p : IsPiping shown first reads first_left old_left first_written old_written old) → empty.items ≡ [] → Consumes old_left left chunk → (result ≡ Ok true → 0 < length chunk)
+  pub send_done : {reads : ℕ} (first_left old_left left first_written old_written written : Option (List ℕ))
+      (chunk : List ℕ) (old x : Exchange N) (empty : Vec ℕ)
+      → (result : Result Bool PipeFault) (p : IsPiping shown first reads first_left old_left first_written old_written old)
+      → empty.items ≡ [] → Consumes old_left left chunk → (result ≡ Ok true → 0 < length chunk)
       → ReadsTo shown first (p.read ++ chunk) p.written left x result → Appends old_written written x.replies.items
       → TurnsTo shown first (reads + 1) first_left left first_written written (record x { replies = empty }) result
   send_done first_left old_left left first_written old_written written chunk old x empty (Ok true) p e c some r a = record {
@@ -248,7 +275,8 @@ module _ {N : Type 0} {shown : N → Node} {first : Node} where
       read_ended first_left old_left left first_written old_written written chunk x.replies.items old (Err fault) p c a r
 
   -- before the first read
-  pub none_read : (left written : Option (List ℕ)) (x : Exchange N) → x.replies.items ≡ [] → IsUnderway shown first [] [] x → IsPiping shown first 0 left left written written x
+  pub none_read : (left written : Option (List ℕ)) (x : Exchange N) → x.replies.items ≡ []
+      → IsUnderway shown first [] [] x → IsPiping shown first 0 left left written written x
   none_read left written x empty u = record {
     read = [];
     written = [];

@@ -1,5 +1,6 @@
 -- What the steps of an exchange lead to, over plain texts.
-use Rattle.std.proofs.Common.{◌≡◌, ◌≢◌, ℕ, ◌+◌, Bool, true, false, List, [], ◌∷◌, ◌++◌, map, length, Some, None, Result, Ok, Err, refl, sym, ap, ◌∙◌, subst, append_assoc, append-nil, length-append}
+use Rattle.std.proofs.Common.{◌≡◌, ◌≢◌, ℕ, ◌+◌, Bool, true, false, List, [], ◌∷◌, ◌++◌, map, length, Some, None, Result}
+use Rattle.std.proofs.Common.{Ok, Err, refl, sym, ap, ◌∙◌, subst, append_assoc, append-nil, length-append}
 use Rattle.std.specs.List.{flat_map, concat}
 use Rattle.std.specs.Global.{Vec}
 use Rattle.std.proofs.lemmas.Grind.{flat_map-append}
@@ -11,12 +12,12 @@ use Rattle.linda_pipe.specs.Hex.{piece_of}
 use Rattle.linda_pipe.specs.Piping.{reply_line, HasEnded}
 use Rattle.linda_pipe.specs.Exchanges.{HasTalked, IsOpen, GoesOn, Continues, IsContinued, IsAtLine, IsUnderway, IsOver, LeadsTo}
 use Rattle.linda_wire.specs.declared.reply.Reply.{Reply}
-use Rattle.linda_store.specs.declared.stage.Stage.TheVariants as stages
+use Rattle.linda_store.specs.declared.connection_state.ConnectionState.TheVariants as stages
 use Rattle.linda_store.specs.Node.{Node}
 use Rattle.linda_store.specs.Turn.{beginning}
 use Rattle.linda_store.specs.Conversation.{IsConversation}
 use Rattle.linda_store.specs.Session.{Session, HasTaken, beginner, point_of}
-use Rattle.linda_store.specs.declared.stage.Taken.{Taken}
+use Rattle.linda_store.specs.declared.connection_state.Taken.{Taken}
 use Rattle.linda_store.proofs.ConversationLaws.{conversation_begins, conversation_goes_on}
 use Rattle.linda_pipe.specs.declared.fault.PipeFault.{PipeFault}
 use Rattle.linda_pipe.specs.declared.fault.PipeFault.TheVariants as faults
@@ -90,7 +91,8 @@ module _ {first : Node} where
       (over_more (ended ((read ++ front) ++ part)) later written result o)
 
   -- it was over in the rest of the text
-  pub over_all : (read front rest text written : List ℕ) (result : Result Unit PipeFault) → text ≡ front ++ rest → IsOver first ((read ++ front) ++ rest) written result
+  pub over_all : (read front rest text written : List ℕ) (result : Result Unit PipeFault)
+      → text ≡ front ++ rest → IsOver first ((read ++ front) ++ rest) written result
       → IsOver first (read ++ text) written result
   over_all read front rest text written result e o =
       subst (λ t. IsOver first t written result) (append_assoc read front rest ∙ ap (λ t. read ++ t) (sym e)) o
@@ -235,7 +237,8 @@ module _ {N : Type 0} {shown : N → Node} {first : Node} where
           unread = new.session.unread;
           to = point_of new.session (shown new.node);
           decoded = more.decoded;
-          talk = subst (λ s. IsConversation (beginning first) (concat (u.pieces ++ piece ∷ [])) (u.said ++ m.later) s new.session.unread (point_of new.session (shown new.node))) m.goes.1 more.talk;
+          talk = subst (λ s. IsConversation (beginning first) (concat (u.pieces ++ piece ∷ []))
+              (u.said ++ m.later) s new.session.unread (point_of new.session (shown new.node))) m.goes.1 more.talk;
         };
         ending = tt;
         out = sym more.out;
@@ -281,7 +284,8 @@ module _ {N : Type 0} {shown : N → Node} where
       record {
         later = taken.replies.items;
         talk =
-            conversation_goes_on (beginning first) (point_of old.session (shown old.node)) (point_of new.session (shown new.node)) bytes piece old.session.unread new.session.unread said
+            conversation_goes_on (beginning first) (point_of old.session (shown old.node))
+            (point_of new.session (shown new.node)) bytes piece old.session.unread new.session.unread said
             taken.replies.items new.session.stage
             (subst (λ s. IsConversation (beginning first) bytes said s old.session.unread (point_of old.session (shown old.node))) o.0 talk) taken_is.talk;
         out = out;

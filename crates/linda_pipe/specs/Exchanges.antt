@@ -7,7 +7,7 @@ use Rattle.linda_pipe.specs.Lines.{HasNoFeed, IsCut}
 use Rattle.linda_pipe.specs.Hex.{piece_of}
 use Rattle.linda_pipe.specs.Piping.{reply_line, HasEnded, IsPipedTo, IsTextOf}
 use Rattle.linda_wire.specs.declared.reply.Reply.{Reply}
-use Rattle.linda_store.specs.declared.stage.Stage.TheVariants as stages
+use Rattle.linda_store.specs.declared.connection_state.ConnectionState.TheVariants as stages
 use Rattle.linda_store.specs.Node.{Node}
 use Rattle.linda_store.specs.Turn.{beginning}
 use Rattle.linda_store.specs.Conversation.{IsConversation}

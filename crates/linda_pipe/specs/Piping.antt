@@ -8,8 +8,8 @@ use Rattle.linda_pipe.specs.Lines.{HasNoFeed, ended, IsCut}
 use Rattle.linda_pipe.specs.Hex.{piece_of}
 use Rattle.linda_wire.specs.declared.reply.Reply.{Reply}
 use Rattle.linda_wire.specs.Frames.{reply_frame}
-use Rattle.linda_store.specs.declared.stage.Stage.{Stage}
-use Rattle.linda_store.specs.declared.stage.Stage.TheVariants as stages
+use Rattle.linda_store.specs.declared.connection_state.ConnectionState.{ConnectionState}
+use Rattle.linda_store.specs.declared.connection_state.ConnectionState.TheVariants as stages
 use Rattle.linda_store_state.specs.State.{empty_state}
 use Rattle.linda_store_step.specs.Soft.{no_asks}
 use Rattle.linda_store.specs.Node.{Node}
@@ -30,7 +30,8 @@ unused =
 
 -- The lines say pieces of a stream, and these replies are all that a node, which was this one at
 -- first, says to it.
-pub record IsAnswered (first : Node) (lines : List (List ℕ)) (said : List Reply) (stage : Stage)
+pub record IsAnswered (first : Node) (lines : List (List ℕ)) (said : List Reply)
+    (stage : ConnectionState)
     : Type 0 where
   pub pieces : List (List ℕ)
   pub unread : List ℕ
@@ -48,14 +49,15 @@ pub record HasBadLine (text : List ℕ) : Type 0 where
 
 -- A conversation that ended well: the text and the input have ended, or a reply has ended the
 -- conversation.
-abbrev pub IsDone : Stage → List ℕ → Option (List ℕ) → Type 0
+abbrev pub IsDone : ConnectionState → List ℕ → Option (List ℕ) → Type 0
 IsDone stages.Open more left = (more ≡ []) × IsAtEnd left
 IsDone (stages.Malformed detail) more left = Unit {0}
 IsDone stages.Down more left = ⊥
 
 -- How the pipe ends, after so many lines of a text of so many bytes, with so much of the text after
 -- them and such bytes left to the reader. If reading failed, all whole lines were taken.
-abbrev pub EndsAs : Result Unit PipeFault → ℕ → ℕ → List ℕ → Option (List ℕ) → Stage → Type 0
+abbrev pub EndsAs : Result Unit PipeFault → ℕ → ℕ → List ℕ → Option (List ℕ) → ConnectionState
+    → Type 0
 EndsAs (Ok done) count size more left stage = IsDone stage more left
 EndsAs (Err (faults.NotHexadecimal n)) count size more left stage =
     (n ≡ count + 1) × HasBadLine more × (stage ≡ stages.Open)
@@ -80,7 +82,7 @@ pub record HasEnded (first : Node) (text written : List ℕ) (left : Option (Lis
   pub lines : List (List ℕ)
   pub more : List ℕ
   pub said : List Reply
-  pub stage : Stage
+  pub stage : ConnectionState
   pub cut : IsCut text lines more
   pub answered : IsAnswered first lines said stage
   pub ending : EndsAs result (length lines) (length text) more left stage

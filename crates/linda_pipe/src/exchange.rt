@@ -15,7 +15,7 @@ use crate::decode::decode_line;
 use crate::fault::PipeFault;
 use crate::line::split_line;
 use crate::reply_line::push_reply_lines;
-use linda_store::{Node, Session, Stage, send};
+use linda_store::{ConnectionState, Node, Session, send};
 use std::alloc::{AllocError, Global};
 use std::io::Write;
 use std::mem;
@@ -208,9 +208,9 @@ impl<N: Node> Exchange<N> {
     {
         let taken = self.session.take(alloc, &mut self.node, piece)?;
         let goes_on = match self.session.stage() {
-            Stage::Open => true,
-            Stage::Malformed(_) => false,
-            Stage::Down => return Err(AllocError),
+            ConnectionState::Open => true,
+            ConnectionState::Malformed(_) => false,
+            ConnectionState::Down => return Err(AllocError),
         };
         push_reply_lines(alloc, &mut self.replies, &taken.replies)?;
         Ok(goes_on)

@@ -1,5 +1,7 @@
 -- Rows in blocks: which block may have an id, and what an edit of one block leaves of all rows.
-use Rattle.std.proofs.Common.{◌≡◌, ℕ, zero, suc, ◌+◌, ◌<◌, ◌≤◌, Bool, true, false, if◌then◌else◌, ◌==◌, List, [], ◌∷◌, ◌++◌, length, get_or, set, Option, Some, None, IsSome, is_some, refl, sym, ap, ◌∙◌, subst, inl, inr, arith, true≢false, eqb-true, eq-eqb, OnSome}
+use Rattle.std.proofs.Common.{◌≡◌, ℕ, zero, suc, ◌+◌, ◌<◌, ◌≤◌, Bool, true, false, if◌then◌else◌, ◌==◌, List, [], ◌∷◌}
+use Rattle.std.proofs.Common.{◌++◌, length, get_or, set, Option, Some, None, IsSome, is_some, refl, sym, ap, ◌∙◌, subst}
+use Rattle.std.proofs.Common.{inl, inr, arith, true≢false, eqb-true, eq-eqb, OnSome}
 use Rattle.std.specs.List.{insert, remove}
 use Rattle.std.specs.List.Sorted.{IsNonDecreasingBy}
 use Rattle.std.proofs.lemmas.Bool.{cases_lt, cases_order}
@@ -168,12 +170,14 @@ module _ {T : Type 0} where
   block_before (b ∷ bs) (suc i) (suc j) q rising less within some = block_before bs i j q rising.3 (omega arith) (omega arith) some
 
   -- An id above those of the last block is above all.
-  pub past_all : (bs : List (ℕ × List (ℕ × T))) (id i : ℕ) → IsRising bs → i + 1 ≡ length bs → ((q : ℕ) → IsSome (at (get_or bs i (0, [])).1 q) → q < id) → (q : ℕ) → IsSome (at (all_rows bs) q) → q < id
+  pub past_all : (bs : List (ℕ × List (ℕ × T))) (id i : ℕ) → IsRising bs → i + 1 ≡ length bs
+      → ((q : ℕ) → IsSome (at (get_or bs i (0, [])).1 q) → q < id) → (q : ℕ) → IsSome (at (all_rows bs) q) → q < id
   past_all bs id i rising last past q some =
       let key = some_id (get_or bs i (0, [])).1 (block_filled bs i rising (omega arith)) in
       elim (cases_lt q (from_at bs i)) [
         | inl lower ↦ omega (arith, block_begins bs i key.0 rising (omega arith) key.1, past key.0 key.1)
-        | inr from ↦ past q (ap is_some (sym (located bs q i rising (record { within = omega arith; begins = λ some. from; above = λ j less inside. absurd (omega arith) }))) ∙ some)
+        | inr from ↦ past q (ap is_some
+            (sym (located bs q i rising (record { within = omega arith; begins = λ some. from; above = λ j less inside. absurd (omega arith) }))) ∙ some)
       ]
 
   -- ---- edits of one block
@@ -191,10 +195,13 @@ module _ {T : Type 0} where
   before_set (b ∷ bs) zero q b' before same = omega (arith, before)
   before_set (b ∷ bs) (suc i) q b' before same = before
 
-  pub block_written : (bs : List (ℕ × List (ℕ × T))) (id i : ℕ) (w : Option T) (b' : ℕ × List (ℕ × T)) → IsRising bs → IsFor bs id i → IsWritten (get_or bs i (0, [])) b' id w → Sets (all_rows bs) (all_rows (set bs i b')) id w × IsRising (set bs i b')
+  pub block_written : (bs : List (ℕ × List (ℕ × T))) (id i : ℕ) (w : Option T) (b' : ℕ × List (ℕ × T)) → IsRising bs → IsFor bs id i
+      → IsWritten (get_or bs i (0, [])) b' id w → Sets (all_rows bs) (all_rows (set bs i b')) id w × IsRising (set bs i b')
   block_written [] id i w b' rising is written = absurd (omega (arith, is.within))
-  block_written (b ∷ bs) id zero w b' rising is written =
-      (sets_left b.1 b'.1 (all_rows bs) id w written.sets (none_before bs id rising.3 (before_rest b bs id is)), (written.some, keys, before_lower bs b'.0 b.0 written.lower rising.2, rising.3))
+  block_written (b ∷ bs) id zero w b' rising is written = (
+    sets_left b.1 b'.1 (all_rows bs) id w written.sets (none_before bs id rising.3 (before_rest b bs id is)),
+    (written.some, keys, before_lower bs b'.0 b.0 written.lower rising.2, rising.3),
+  )
     where
       keys : (q : ℕ) → IsSome (at b'.1 q) → (b'.0 ≤ q) × IsBefore q bs
       keys q some = by (q == id) refl
@@ -203,12 +210,15 @@ module _ {T : Type 0} where
           there x is = ap (λ y. is_some (if y then w else at b.1 q)) (sym is) ∙ ap is_some (sym (written.sets q)) ∙ some
 
           by : (x : Bool) → (q == id) ≡ x → (b'.0 ≤ q) × IsBefore q bs
-          by true is' = let same = eqb-true q id is' in (omega (arith, written.below (there true is')), subst (λ k. IsBefore k bs) (sym same) (before_rest b bs id is))
+          by true is' = let same = eqb-true q id is' in
+              (omega (arith, written.below (there true is')), subst (λ k. IsBefore k bs) (sym same) (before_rest b bs id is))
           by false is' = let old = rising.1 q (there false is') in (omega (arith, old.0, written.lower), old.1)
   block_written (b ∷ bs) id (suc i) w b' rising is written =
       let rest = block_written bs id i w b' rising.3 (for_later b bs id i is) written in
-      let same : b'.0 ≡ from_at bs i = written.keeps (is.begins (omega arith)) in
-      (sets_right b.1 (all_rows bs) (all_rows (set bs i b')) id w (not_before b bs id i rising is) rest.0, (rising.0, (λ q some. ((rising.1 q some).0, before_set bs i q b' (rising.1 q some).1 same)), before_set bs i b.0 b' rising.2 same, rest.1))
+      let same : b'.0 ≡ from_at bs i = written.keeps (is.begins (omega arith)) in (
+        sets_right b.1 (all_rows bs) (all_rows (set bs i b')) id w (not_before b bs id i rising is) rest.0,
+        (rising.0, (λ q some. ((rising.1 q some).0, before_set bs i q b' (rising.1 q some).1 same)), before_set bs i b.0 b' rising.2 same, rest.1),
+      )
 
   before_gone : (bs : List (ℕ × List (ℕ × T))) (i q : ℕ) → IsRising bs → IsBefore q bs → IsBefore q (remove bs i)
   before_gone [] zero q rising before = tt
@@ -217,24 +227,32 @@ module _ {T : Type 0} where
   before_gone (b ∷ bs) (suc i) q rising before = before
 
   -- An id that goes with its block.
-  pub block_gone : (bs : List (ℕ × List (ℕ × T))) (id i : ℕ) → IsRising bs → IsFor bs id i → Sets (get_or bs i (0, [])).1 [] id None → Sets (all_rows bs) (all_rows (remove bs i)) id None × IsRising (remove bs i)
+  pub block_gone : (bs : List (ℕ × List (ℕ × T))) (id i : ℕ) → IsRising bs → IsFor bs id i
+      → Sets (get_or bs i (0, [])).1 [] id None → Sets (all_rows bs) (all_rows (remove bs i)) id None × IsRising (remove bs i)
   block_gone [] id i rising is sets = absurd (omega (arith, is.within))
   block_gone (b ∷ bs) id zero rising is sets =
       (sets_left b.1 [] (all_rows bs) id None sets (none_before bs id rising.3 (before_rest b bs id is)), rising.3)
   block_gone (b ∷ bs) id (suc i) rising is sets =
-      let rest = block_gone bs id i rising.3 (for_later b bs id i is) sets in
-      (sets_right b.1 (all_rows bs) (all_rows (remove bs i)) id None (not_before b bs id i rising is) rest.0, (rising.0, (λ q some. ((rising.1 q some).0, before_gone bs i q rising.3 (rising.1 q some).1)), before_gone bs i b.0 rising.3 rising.2, rest.1))
+      let rest = block_gone bs id i rising.3 (for_later b bs id i is) sets in (
+        sets_right b.1 (all_rows bs) (all_rows (remove bs i)) id None (not_before b bs id i rising is) rest.0,
+        (rising.0, (λ q some. ((rising.1 q some).0, before_gone bs i q rising.3 (rising.1 q some).1)), before_gone bs i b.0 rising.3 rising.2, rest.1),
+      )
 
-  before_halved : (bs : List (ℕ × List (ℕ × T))) (i q : ℕ) (lower upper : ℕ × List (ℕ × T)) → i < length bs → IsBefore q bs → lower.0 ≡ from_at bs i → IsBefore q (insert (set bs i lower) (suc i) upper)
+  before_halved : (bs : List (ℕ × List (ℕ × T))) (i q : ℕ) (lower upper : ℕ × List (ℕ × T)) → i < length bs
+      → IsBefore q bs → lower.0 ≡ from_at bs i → IsBefore q (insert (set bs i lower) (suc i) upper)
   before_halved [] i q lower upper within before same = absurd (omega arith)
   before_halved (b ∷ bs) zero q lower upper within before same = omega (arith, before)
   before_halved (b ∷ bs) (suc i) q lower upper within before same = before
 
   -- A block that is made two.
-  pub block_halved : (bs : List (ℕ × List (ℕ × T))) (i : ℕ) (lower upper : ℕ × List (ℕ × T)) → IsRising bs → i < length bs → Halves (get_or bs i (0, [])) lower upper → (all_rows (insert (set bs i lower) (suc i) upper) ≡ all_rows bs) × IsRising (insert (set bs i lower) (suc i) upper)
+  pub block_halved : (bs : List (ℕ × List (ℕ × T))) (i : ℕ) (lower upper : ℕ × List (ℕ × T)) → IsRising bs → i < length bs
+      → Halves (get_or bs i (0, [])) lower upper → (all_rows (insert (set bs i lower) (suc i) upper) ≡ all_rows bs)
+      × IsRising (insert (set bs i lower) (suc i) upper)
   block_halved [] i lower upper rising within halves = absurd (omega arith)
-  block_halved (b ∷ bs) zero lower upper rising within halves =
-      (sym (append_assoc lower.1 upper.1 (all_rows bs)) ∙ ap (λ rows. rows ++ all_rows bs) (sym halves.rows), (halves.some, low, omega (arith, halves.from, key_from, halves.apart key.0 key.1), (halves.others, high, (rising.1 upper.0 halves.was).1, rising.3)))
+  block_halved (b ∷ bs) zero lower upper rising within halves = (
+    sym (append_assoc lower.1 upper.1 (all_rows bs)) ∙ ap (λ rows. rows ++ all_rows bs) (sym halves.rows),
+    (halves.some, low, omega (arith, halves.from, key_from, halves.apart key.0 key.1), (halves.others, high, (rising.1 upper.0 halves.was).1, rising.3)),
+  )
     where
       key : (q : ℕ) × IsSome (at lower.1 q)
       key = some_id lower.1 halves.some
@@ -251,8 +269,15 @@ module _ {T : Type 0} where
       high : (q : ℕ) → IsSome (at upper.1 q) → (upper.0 ≤ q) × IsBefore q bs
       high q some = (halves.above q some, (rising.1 q (old q (some_right lower.1 upper.1 q some))).1)
   block_halved (b ∷ bs) (suc i) lower upper rising within halves =
-      let rest = block_halved bs i lower upper rising.3 (omega arith) halves in
-      (ap (λ rows. b.1 ++ rows) rest.0, (rising.0, (λ q some. ((rising.1 q some).0, before_halved bs i q lower upper (omega arith) (rising.1 q some).1 halves.from)), before_halved bs i b.0 lower upper (omega arith) rising.2 halves.from, rest.1))
+      let rest = block_halved bs i lower upper rising.3 (omega arith) halves in (
+        ap (λ rows. b.1 ++ rows) rest.0,
+        (
+          rising.0,
+          (λ q some. ((rising.1 q some).0, before_halved bs i q lower upper (omega arith) (rising.1 q some).1 halves.from)),
+          before_halved bs i b.0 lower upper (omega arith) rising.2 halves.from,
+          rest.1,
+        ),
+      )
 
   -- ---- a block more at the end
 
@@ -271,7 +296,8 @@ module _ {T : Type 0} where
   all_added [] id v = refl
   all_added (b ∷ bs) id v = ap (λ rows. b.1 ++ rows) (all_added bs id v) ∙ sym (append_assoc b.1 (all_rows bs) ((id, v) ∷ []))
 
-  pub rising_added : (bs : List (ℕ × List (ℕ × T))) (id : ℕ) (v : T) → IsRising bs → ((q : ℕ) → IsSome (at (all_rows bs) q) → q < id) → IsRising (bs ++ (id, (id, v) ∷ []) ∷ [])
+  pub rising_added : (bs : List (ℕ × List (ℕ × T))) (id : ℕ) (v : T) → IsRising bs
+      → ((q : ℕ) → IsSome (at (all_rows bs) q) → q < id) → IsRising (bs ++ (id, (id, v) ∷ []) ∷ [])
   rising_added [] id v rising past = (omega arith, keys, tt, tt)
     where
       keys : (q : ℕ) → IsSome (if q == id then Some v else None) → (id ≤ q) × Unit {0}
@@ -283,10 +309,15 @@ module _ {T : Type 0} where
   rising_added (b ∷ bs) id v rising past =
       let new : ℕ × List (ℕ × T) = (id, (id, v) ∷ []) in
       let key = some_id b.1 rising.0 in
-      let low : b.0 < id = omega (arith, (rising.1 key.0 key.1).0, past key.0 (some_left b.1 (all_rows bs) key.0 key.1)) in
-      (rising.0, (λ q some. ((rising.1 q some).0, before_added bs q new (rising.1 q some).1 (past q (some_left b.1 (all_rows bs) q some)))), before_added bs b.0 new rising.2 low, rising_added bs id v rising.3 (λ q some. past q (some_right b.1 (all_rows bs) q some)))
+      let low : b.0 < id = omega (arith, (rising.1 key.0 key.1).0, past key.0 (some_left b.1 (all_rows bs) key.0 key.1)) in (
+        rising.0,
+        (λ q some. ((rising.1 q some).0, before_added bs q new (rising.1 q some).1 (past q (some_left b.1 (all_rows bs) q some)))),
+        before_added bs b.0 new rising.2 low,
+        rising_added bs id v rising.3 (λ q some. past q (some_right b.1 (all_rows bs) q some)),
+      )
 
-  pub block_added : (bs : List (ℕ × List (ℕ × T))) (id : ℕ) (v : T) → IsRising bs → ((q : ℕ) → IsSome (at (all_rows bs) q) → q < id) → Sets (all_rows bs) (all_rows (bs ++ (id, (id, v) ∷ []) ∷ [])) id (Some v) × IsRising (bs ++ (id, (id, v) ∷ []) ∷ [])
+  pub block_added : (bs : List (ℕ × List (ℕ × T))) (id : ℕ) (v : T) → IsRising bs → ((q : ℕ) → IsSome (at (all_rows bs) q) → q < id)
+      → Sets (all_rows bs) (all_rows (bs ++ (id, (id, v) ∷ []) ∷ [])) id (Some v) × IsRising (bs ++ (id, (id, v) ∷ []) ∷ [])
   block_added bs id v rising past =
       let none : at (all_rows bs) id ≡ None = none_or (at (all_rows bs) id) (λ some. omega (arith, past id some)) in
       (subst (λ rows. Sets (all_rows bs) rows id (Some v)) (sym (all_added bs id v)) (sets_added (all_rows bs) id v none), rising_added bs id v rising past)
@@ -306,7 +337,8 @@ module _ {T : Type 0} where
   set_here old new id w sets = sets id ∙ ap (λ b. if b then w else at old id) (eq-eqb id id refl)
 
   -- A block with a row more.
-  pub with_row : (bs : List (ℕ × List (ℕ × T))) (i id : ℕ) (v : T) (b b' : ℕ × List (ℕ × T)) → i < length bs → b ≡ get_or bs i b → Sets b.1 b'.1 id (Some v) → b'.0 ≤ b.0 → (b.0 ≤ id → b'.0 ≡ b.0) → b'.0 ≤ id → IsWritten (get_or bs i (0, [])) b' id (Some v)
+  pub with_row : (bs : List (ℕ × List (ℕ × T))) (i id : ℕ) (v : T) (b b' : ℕ × List (ℕ × T)) → i < length bs → b ≡ get_or bs i b
+      → Sets b.1 b'.1 id (Some v) → b'.0 ≤ b.0 → (b.0 ≤ id → b'.0 ≡ b.0) → b'.0 ≤ id → IsWritten (get_or bs i (0, [])) b' id (Some v)
   with_row bs i id v b b' within is sets lower keeps below =
       subst (λ x. IsWritten x b' id (Some v)) (block_at bs i b within is) (record {
         sets = sets;
@@ -317,7 +349,8 @@ module _ {T : Type 0} where
       })
 
   -- A block with a row less, of which some are left.
-  pub without_row : (bs : List (ℕ × List (ℕ × T))) (i id : ℕ) (b b' : ℕ × List (ℕ × T)) → i < length bs → b ≡ get_or bs i b → Sets b.1 b'.1 id None → b'.0 ≡ b.0 → 0 < length b'.1 → IsWritten (get_or bs i (0, [])) b' id None
+  pub without_row : (bs : List (ℕ × List (ℕ × T))) (i id : ℕ) (b b' : ℕ × List (ℕ × T)) → i < length bs
+      → b ≡ get_or bs i b → Sets b.1 b'.1 id None → b'.0 ≡ b.0 → 0 < length b'.1 → IsWritten (get_or bs i (0, [])) b' id None
   without_row bs i id b b' within is sets same some =
       subst (λ x. IsWritten x b' id None) (block_at bs i b within is) (record {
         sets = sets;
@@ -328,10 +361,13 @@ module _ {T : Type 0} where
       })
 
   -- A block that has no row left goes.
-  pub bare_gone : (bs : List (ℕ × List (ℕ × T))) (i id : ℕ) (b b' : ℕ × List (ℕ × T)) → IsRising bs → IsFor bs id i → b ≡ get_or bs i b → Sets b.1 b'.1 id None → length b'.1 ≡ 0 → Sets (all_rows bs) (all_rows (remove (set bs i b') i)) id None × IsRising (remove (set bs i b') i)
+  pub bare_gone : (bs : List (ℕ × List (ℕ × T))) (i id : ℕ) (b b' : ℕ × List (ℕ × T)) → IsRising bs → IsFor bs id i → b ≡ get_or bs i b
+      → Sets b.1 b'.1 id None → length b'.1 ≡ 0 → Sets (all_rows bs) (all_rows (remove (set bs i b') i)) id None × IsRising (remove (set bs i b') i)
   bare_gone bs i id b b' rising is there sets none =
       subst (λ xs. Sets (all_rows bs) (all_rows xs) id None × IsRising xs) (sym (remove_set bs i b'))
-      (block_gone bs id i rising is (subst (λ rows. Sets rows [] id None) (ap (λ x. x.1) (block_at bs i b is.within there)) (subst (λ rows. Sets b.1 rows id None) (nothing_left b'.1 none) sets)))
+      (block_gone bs id i rising is
+      (subst (λ rows. Sets rows [] id None) (ap (λ x. x.1) (block_at bs i b is.within there))
+      (subst (λ rows. Sets b.1 rows id None) (nothing_left b'.1 none) sets)))
     where
       remove_set : (xs : List (ℕ × List (ℕ × T))) (k : ℕ) (x : ℕ × List (ℕ × T)) → remove (set xs k x) k ≡ remove xs k
       remove_set [] k x = refl
@@ -343,12 +379,14 @@ module _ {T : Type 0} where
       nothing_left (x ∷ rows) e = absurd (omega (arith, e))
 
   -- A block that is made two, in the words of the calls that do so.
-  pub halved : (bs was new : List (ℕ × List (ℕ × T))) (i : ℕ) (b lower upper : ℕ × List (ℕ × T)) → IsRising bs → i < length bs → was ≡ bs → b ≡ get_or was i b → Halves b lower upper → new ≡ insert (set was i lower) (i + 1) upper → (all_rows new ≡ all_rows bs) × IsRising new
+  pub halved : (bs was new : List (ℕ × List (ℕ × T))) (i : ℕ) (b lower upper : ℕ × List (ℕ × T)) → IsRising bs → i < length bs → was ≡ bs
+      → b ≡ get_or was i b → Halves b lower upper → new ≡ insert (set was i lower) (i + 1) upper → (all_rows new ≡ all_rows bs) × IsRising new
   halved bs was new i b lower upper rising within same there halves is =
       let block = block_at bs i b within (subst (λ xs. b ≡ get_or xs i b) same there) in
       let two = block_halved bs i lower upper rising within (subst (λ x. Halves x lower upper) block halves) in
       let next : i + 1 ≡ suc i = omega arith in
-      let items : new ≡ insert (set bs i lower) (suc i) upper = is ∙ ap (λ xs. insert (set xs i lower) (i + 1) upper) same ∙ ap (λ k. insert (set bs i lower) k upper) next in
+      let items : new ≡ insert (set bs i lower) (suc i) upper = is ∙ ap (λ xs. insert (set xs i lower) (i + 1) upper) same
+      ∙ ap (λ k. insert (set bs i lower) k upper) next in
       (ap all_rows items ∙ two.0, subst IsRising (sym items) two.1)
 
 pub on_some : {X : Type 0} (o : Option X) (P : Type 0) → IsSome o → OnSome o P → P

@@ -2,7 +2,8 @@
 use Rattle.std.proofs.Common.{◌≡◌, ◌≢◌, ℕ, ◌+◌, ◌-◌, ◌<◌, ◌≤◌, List, length, get_or, sym, ap, subst, inl, inr, arith}
 use Rattle.std.specs.List.{insert, remove}
 use Rattle.std.proofs.lemmas.Bool.{cases_order}
-use Rattle.std.proofs.lemmas.List.Edits.{length-insert, get_or-insert_below, get_or-insert_at, get_or-insert_above, length-remove, get_or-remove_below, get_or-remove_above}
+use Rattle.std.proofs.lemmas.List.Edits.{length-insert, get_or-insert_below, get_or-insert_at, get_or-insert_above}
+use Rattle.std.proofs.lemmas.List.Edits.{length-remove, get_or-remove_below, get_or-remove_above}
 use Rattle.linda_rising.specs.Rows.{Rises, IsPlace}
 
 -- No place of the list has the id.
@@ -25,7 +26,9 @@ rises_insert ids rises id at place absent i j less inside =
     let long = length-insert ids at id place.bound in
     let below : (k : ℕ) → k < at → get_or new k 0 ≡ get_or ids k 0 = λ k l. get_or-insert_below ids at id 0 k l place.bound in
     let here : (k : ℕ) → k ≡ at → get_or new k 0 ≡ id = λ k l. rw l (get_or-insert_at ids at id 0 place.bound) in
-    let above : (k : ℕ) → at < k → get_or new k 0 ≡ get_or ids (k - 1) 0 = λ k l. subst (λ q. get_or new q 0 ≡ get_or ids (k - 1) 0) {x = k - 1 + 1} (omega arith) (get_or-insert_above ids at id 0 (k - 1) (omega arith) place.bound) in
+    let above : (k : ℕ) → at < k → get_or new k 0 ≡ get_or ids (k - 1) 0 =
+    λ k l. subst (λ q. get_or new q 0 ≡ get_or ids (k - 1) 0) {x = k - 1 + 1} (omega arith)
+    (get_or-insert_above ids at id 0 (k - 1) (omega arith) place.bound) in
     let higher : (k : ℕ) → at ≤ k → k < length ids → id < get_or ids k 0 = higher_there ids id at place absent in
     grind (arith, below i, here i, above i, below j, here j, above j, rises i j, rises i (j - 1), rises (i - 1) (j - 1), place.below i, higher (j - 1))
 

@@ -3,3 +3,4 @@ pub mod RowLaws
 pub mod BlockLaws
 pub mod MapLaws
 pub mod RunLaws
+pub mod UpToLaws

@@ -2,7 +2,7 @@
 use Rattle.std.proofs.Common.{◌≡◌, ◌≤◌, ℕ, zero, suc, arith, true≢false, is_some, ◌==◌, if◌then◌else◌, List, [], ◌∷◌, Some, None, refl, sym, ap, ◌∙◌, nat_cmp}
 use Rattle.std.specs.Cmp.{nat_cmp_total, unsigned_ties}
 use Rattle.std.specs.FinMap.{len, empty_of_len, get, insert, remove, find, from_entries, get-from_entries}
-use Rattle.linda_maps.proofs.MapLaws.{same_map, get_inserted, get_removed, get_empty}
+use Rattle.linda_map_laws.proofs.MapLaws.{same_map, get_inserted, get_removed, get_empty}
 use Rattle.linda_rising.specs.Rows.{at, Sets}
 
 module _ {T : Type 0} where

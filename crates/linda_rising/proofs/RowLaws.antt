@@ -1,5 +1,7 @@
 -- Rows under ids that rise: what a look-up finds at a place, and after an edit there.
-use Rattle.std.proofs.Common.{◌≡◌, ◌≢◌, ℕ, zero, suc, ◌+◌, ◌-◌, ◌<◌, ◌≤◌, Bool, true, false, if◌then◌else◌, ltb, ◌==◌, List, [], ◌∷◌, ◌++◌, length, get_or, set, take, drop, Some, None, IsSome, is_some, refl, sym, ap, ◌∙◌, subst, inl, inr, arith, true≢false, eqb-true}
+use Rattle.std.proofs.Common.{◌≡◌, ◌≢◌, ℕ, zero, suc, ◌+◌, ◌-◌, ◌<◌, ◌≤◌, Bool, true, false, if◌then◌else◌, ltb, ◌==◌}
+use Rattle.std.proofs.Common.{List, [], ◌∷◌, ◌++◌, length, get_or, set, take, drop, Some, None, IsSome, is_some, refl}
+use Rattle.std.proofs.Common.{sym, ap, ◌∙◌, subst, inl, inr, arith, true≢false, eqb-true}
 use Rattle.std.specs.List.{insert, remove}
 use Rattle.std.specs.List.Sorted.{IsNonDecreasingBy, IsPartitionPoint}
 use Rattle.std.proofs.lemmas.List.{length-take-le, length-drop, take-append-drop, get_or-drop, get_or-take, take-map, drop-map}
@@ -61,7 +63,8 @@ module _ {T : Type 0} where
   row_there [] i e rises within is = absurd (omega arith)
   row_there (row ∷ rows) zero e rises within is = rw is (grind (arith, nat_tests))
   row_there (row ∷ rows) (suc i) e rises within is =
-      let higher : row.0 < e.0 = omega (arith, rises 0 (suc i) (omega arith) (omega (arith, length_ids rows)), id_there rows i e (omega arith), ap (λ x. x.0) is) in
+      let higher : row.0 < e.0 =
+      omega (arith, rises 0 (suc i) (omega arith) (omega (arith, length_ids rows)), id_there rows i e (omega arith), ap (λ x. x.0) is) in
       grind (arith, nat_tests, row_there rows i e (λ a b less inside. rises (suc a) (suc b) (omega arith) (omega arith)) (omega arith) is)
 
   -- What a look-up finds after a row more.
@@ -80,11 +83,13 @@ module _ {T : Type 0} where
       let here : q ≡ row.0 → at rows q ≡ None = λ same. ap (at rows) same ∙ none in
       rw is (grind (arith, nat_tests, here))
   sets_remove (row ∷ rows) (suc i) e rises within is q =
-      let higher : row.0 < e.0 = omega (arith, rises 0 (suc i) (omega arith) (omega (arith, length_ids rows)), id_there rows i e (omega arith), ap (λ x. x.0) is) in
+      let higher : row.0 < e.0 =
+      omega (arith, rises 0 (suc i) (omega arith) (omega (arith, length_ids rows)), id_there rows i e (omega arith), ap (λ x. x.0) is) in
       grind (arith, nat_tests, sets_remove rows i e (λ a b less inside. rises (suc a) (suc b) (omega arith) (omega arith)) (omega arith) is q)
 
   -- What it finds after another row in the place of one.
-  pub sets_write : (rows : List (ℕ × T)) (i id : ℕ) (v : T) → Rises (ids_of rows) → i < length rows → get_or (ids_of rows) i 0 ≡ id → Sets rows (set rows i (id, v)) id (Some v)
+  pub sets_write : (rows : List (ℕ × T)) (i id : ℕ) (v : T) → Rises (ids_of rows) → i < length rows
+      → get_or (ids_of rows) i 0 ≡ id → Sets rows (set rows i (id, v)) id (Some v)
   sets_write [] i id v rises within same q = absurd (omega arith)
   sets_write (row ∷ rows) zero id v rises within same q = grind (arith, nat_tests)
   sets_write (row ∷ rows) (suc i) id v rises within same q =
@@ -96,26 +101,34 @@ module _ {T : Type 0} where
   none_past rows id place q some =
       elim (cases_lt q id) [
         | inl below ↦ below
-        | inr from ↦ absurd (true≢false (sym some ∙ ap is_some (none_there rows q (λ j within same. omega (arith, place.below j (omega (arith, length_ids rows)))))))
+        | inr from ↦ absurd (true≢false
+            (sym some ∙ ap is_some (none_there rows q (λ j within same. omega (arith, place.below j (omega (arith, length_ids rows)))))))
       ]
 
   -- The rows do not fall by their ids.
   pub rows_rise : (rows : List (ℕ × T)) → Rises (ids_of rows) → IsNonDecreasingBy (λ row. row.0) rows
-  rows_rise rows rises i j d le within = omega (arith, falls_never (ids_of rows) rises i j le (omega (arith, length_ids rows)), id_there rows i d (omega arith), id_there rows j d within)
+  rows_rise rows rises i j d le within =
+      omega (arith, falls_never (ids_of rows) rises i j le (omega (arith, length_ids rows)), id_there rows i d (omega arith), id_there rows j d within)
 
   -- A search by the test `it < id` ends at the id's place.
-  pub place_point : (rows : List (ℕ × T)) (id i : ℕ) → i ≤ length rows → IsPartitionPoint (λ row. ltb row.0 id ≡ true) (λ row. ltb row.0 id ≡ false) rows i → IsPlace (ids_of rows) id i
+  pub place_point : (rows : List (ℕ × T)) (id i : ℕ) → i ≤ length rows
+      → IsPartitionPoint (λ row. ltb row.0 id ≡ true) (λ row. ltb row.0 id ≡ false) rows i → IsPlace (ids_of rows) id i
   place_point [] id i bound point = record { bound = bound; below = λ j less. absurd (omega arith); above = λ j le within. absurd (omega arith) }
   place_point (row ∷ rows) id i bound point =
       let all = row ∷ rows in
       record {
         bound = omega (arith, length_ids all);
         below = λ j less. omega (arith, ltb-true _ _ (point.0 j row (omega arith) less), id_there all j row (omega arith));
-        above = λ j le within. omega (arith, ltb-false _ _ (point.1 j row le (omega (arith, length_ids all))), id_there all j row (omega (arith, length_ids all)));
+        above = λ j le within. omega (
+          arith,
+          ltb-false _ _ (point.1 j row le (omega (arith, length_ids all))),
+          id_there all j row (omega (arith, length_ids all)),
+        );
       }
 
   -- An id above the last one is past all.
-  pub place_end : (rows : List (ℕ × T)) (e : ℕ × T) (id i : ℕ) → Rises (ids_of rows) → 0 < length rows → e ≡ get_or rows (length rows - 1) e → e.0 < id → i ≡ length rows → IsPlace (ids_of rows) id i
+  pub place_end : (rows : List (ℕ × T)) (e : ℕ × T) (id i : ℕ) → Rises (ids_of rows) → 0 < length rows
+      → e ≡ get_or rows (length rows - 1) e → e.0 < id → i ≡ length rows → IsPlace (ids_of rows) id i
   place_end rows e id i rises some is less long =
       let last : get_or (ids_of rows) (length rows - 1) 0 ≡ e.0 = id_there rows (length rows - 1) e (omega arith) ∙ ap (λ x. x.0) (sym is) in
       record {
@@ -124,8 +137,28 @@ module _ {T : Type 0} where
         above = λ j le within. absurd (omega (arith, length_ids rows));
       }
 
+  -- The id of the last one has its place.
+  pub place_last : (rows : List (ℕ × T)) (e : ℕ × T) (id i : ℕ) → Rises (ids_of rows) → 0 < length rows
+      → e ≡ get_or rows (length rows - 1) e → e.0 ≡ id → i ≡ length rows - 1 → IsPlace (ids_of rows) id i
+  place_last rows e id i rises some is same at_end =
+      let last : get_or (ids_of rows) (length rows - 1) 0 ≡ e.0 = id_there rows (length rows - 1) e (omega arith) ∙ ap (λ x. x.0) (sym is) in
+      let here : get_or (ids_of rows) i 0 ≡ id = ap (λ k. get_or (ids_of rows) k 0) at_end ∙ last ∙ same in
+      record {
+        bound = omega (arith, length_ids rows);
+        below = λ j lower. omega (arith, here, rises j i lower (omega (arith, length_ids rows)));
+        above = λ j le within.
+            let same_place : j ≡ i = omega (arith, length_ids rows) in
+            omega (arith, here, ap (λ k. get_or (ids_of rows) k 0) same_place);
+      }
+
+  -- A row at the end comes after all.
+  pub insert_end : (rows : List (ℕ × T)) (row : ℕ × T) → insert rows (length rows) row ≡ rows ++ row ∷ []
+  insert_end [] row = refl
+  insert_end (first ∷ rows) row = ap (λ l. first ∷ l) (insert_end rows row)
+
   -- Whether the row at its place has the id.
-  pub not_there : (rows : List (ℕ × T)) (id i : ℕ) → Rises (ids_of rows) → IsPlace (ids_of rows) id i → (i < length rows → get_or (ids_of rows) i 0 ≢ id) → at rows id ≡ None
+  pub not_there : (rows : List (ℕ × T)) (id i : ℕ) → Rises (ids_of rows) → IsPlace (ids_of rows) id i
+      → (i < length rows → get_or (ids_of rows) i 0 ≢ id) → at rows id ≡ None
   not_there rows id i rises place other = none_there rows id apart
     where
       apart : IsAbsent (ids_of rows) id
@@ -137,7 +170,8 @@ module _ {T : Type 0} where
           ]
 
   -- What is at its place, if the id has a row.
-  pub there_within : (rows : List (ℕ × T)) (id i : ℕ) → Rises (ids_of rows) → IsPlace (ids_of rows) id i → IsSome (at rows id) → (i < length rows) × (get_or (ids_of rows) i 0 ≡ id)
+  pub there_within : (rows : List (ℕ × T)) (id i : ℕ) → Rises (ids_of rows) → IsPlace (ids_of rows) id i
+      → IsSome (at rows id) → (i < length rows) × (get_or (ids_of rows) i 0 ≡ id)
   there_within rows id i rises place some =
       elim (cases_lt i (length rows)) [
         | inl within ↦ (within, same within)
@@ -167,12 +201,14 @@ module _ {T : Type 0} where
   drop_long rows p = ap length (ids_drop rows p) ∙ length-drop p (ids_of rows)
 
   pub rises_drop : (rows : List (ℕ × T)) (p : ℕ) → Rises (ids_of rows) → Rises (ids_of (drop p rows))
-  rises_drop rows p rises i j less within = omega (arith, drop_id rows p i, drop_id rows p j, rises (p + i) (p + j) (omega arith) (omega (arith, drop_long rows p)))
+  rises_drop rows p rises i j less within =
+      omega (arith, drop_id rows p i, drop_id rows p j, rises (p + i) (p + j) (omega arith) (omega (arith, drop_long rows p)))
 
   pub rises_take : (rows : List (ℕ × T)) (p : ℕ) → p ≤ length rows → Rises (ids_of rows) → Rises (ids_of (take p rows))
   rises_take rows p le rises i j less within =
       let long : length (ids_of (take p rows)) ≡ p = length_ids (take p rows) ∙ length-take-le p rows le in
-      let one : (k : ℕ) → k < p → get_or (ids_of (take p rows)) k 0 ≡ get_or (ids_of rows) k 0 = λ k l. ap (λ ids. get_or ids k 0) (ids_take rows p) ∙ get_or-take p (ids_of rows) k 0 l in
+      let one : (k : ℕ) → k < p → get_or (ids_of (take p rows)) k 0 ≡ get_or (ids_of rows) k 0 =
+      λ k l. ap (λ ids. get_or ids k 0) (ids_take rows p) ∙ get_or-take p (ids_of rows) k 0 l in
       omega (arith, one i (omega arith), one j (omega arith), rises i j less (omega (arith, length_ids rows)))
 
   -- The rows from the place of an id on.
@@ -193,7 +229,8 @@ module _ {T : Type 0} where
   run_all rows id p place q le = at_drop rows p q (λ j less within. omega (arith, place.below j less))
 
   -- The lower rows and the upper ones.
-  pub halves_are : (rows : List (ℕ × T)) (from h : ℕ) (e : ℕ × T) → Rises (ids_of rows) → 0 < h → h < length rows → e ≡ get_or (drop h rows) 0 e → Halves (from, rows) (from, take h rows) (e.0, drop h rows)
+  pub halves_are : (rows : List (ℕ × T)) (from h : ℕ) (e : ℕ × T) → Rises (ids_of rows) → 0 < h
+      → h < length rows → e ≡ get_or (drop h rows) 0 e → Halves (from, rows) (from, take h rows) (e.0, drop h rows)
   halves_are rows from h e rises some within is = record {
     rows = sym (take-append-drop h rows);
     from = refl;
@@ -205,7 +242,14 @@ module _ {T : Type 0} where
       above = λ j le inside. absurd (omega (arith, length_ids (take h rows)));
     });
     above = λ q there. elim (cases_lt q e.0) [
-      | inl lower ↦ absurd (true≢false (sym there ∙ ap is_some (none_there (drop h rows) q (λ j inside same. omega (arith, drop_id rows h j, first, falls_never (ids_of rows) rises h (h + j) (omega arith) (omega (arith, drop_long rows h)))))))
+      | inl lower ↦ absurd (true≢false
+          (sym there ∙ ap is_some (none_there (drop h rows) q
+          (λ j inside same. omega (
+            arith,
+            drop_id rows h j,
+            first,
+            falls_never (ids_of rows) rises h (h + j) (omega arith) (omega (arith, drop_long rows h)),
+          )))))
       | inr from ↦ from
     ];
     was = ap is_some (row_there rows h e rises within here);

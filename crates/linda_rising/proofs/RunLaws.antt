@@ -1,5 +1,7 @@
 -- Rows from an id on: those of one block, and that no other row is among them.
-use Rattle.std.proofs.Common.{◌≡◌, ℕ, zero, suc, ◌+◌, ◌-◌, ◌<◌, ◌≤◌, Bool, true, false, ◌==◌, if◌then◌else◌, eqb-true, List, [], ◌∷◌, length, get_or, Option, Some, None, IsSome, is_some, refl, sym, ap, ◌∙◌, subst, inl, inr, arith, true≢false, IfNone}
+use Rattle.std.proofs.Common.{◌≡◌, ℕ, suc, ◌+◌, ◌<◌, ◌≤◌, Bool, true, false, ◌==◌, if◌then◌else◌, eqb-true, List}
+use Rattle.std.proofs.Common.{[], ◌∷◌, length, get_or, Option, Some, None, IsSome, is_some, refl, sym, ap, ◌∙◌, inl}
+use Rattle.std.proofs.Common.{inr, arith, true≢false, IfNone}
 use Rattle.std.proofs.lemmas.Bool.{cases_lt, cases_order}
 use Rattle.std.proofs.lemmas.List.{get_or_default}
 use Rattle.linda_rising.specs.Rows.{ids_of, at, Rises, IsRun, IsUnder, Begins, all_rows, IsRising, IsFor, IsFrom}
@@ -44,11 +46,13 @@ module _ {T : Type 0} where
     next_under id i (Some n) is from = omega (arith, from.1, is.above (i + 1) (omega arith) from.0)
 
     -- Rows of the block for the id.
-    pub run_here : (id i : ℕ) (rows : List (ℕ × T)) (next : Option ℕ) → IsFor bs id i → IsRun id rows → 0 < length rows → ((q : ℕ) → id ≤ q → at rows q ≡ at (get_or bs i (0, [])).1 q) → IsFrom bs (i + 1) next → Begins (at (all_rows bs)) id rows next
+    pub run_here : (id i : ℕ) (rows : List (ℕ × T)) (next : Option ℕ) → IsFor bs id i → IsRun id rows → 0 < length rows
+        → ((q : ℕ) → id ≤ q → at rows q ≡ at (get_or bs i (0, [])).1 q) → IsFrom bs (i + 1) next → Begins (at (all_rows bs)) id rows next
     run_here id i rows next is run some same from = record {
       run = run;
       some = some;
-      below = λ j within. all_under i (get_or (ids_of rows) j 0) next from (ap is_some (sym (same (get_or (ids_of rows) j 0) (run.above j within))) ∙ id_at rows j run.rises within);
+      below = λ j within. all_under i (get_or (ids_of rows) j 0) next from
+          (ap is_some (sym (same (get_or (ids_of rows) j 0) (run.above j within))) ∙ id_at rows j run.rises within);
       all = λ q le under.
           located bs q i rising (record { within = is.within; begins = λ later. omega (arith, is.begins later); above = under_all i q next from under })
           ∙ sym (same q le);
@@ -56,14 +60,21 @@ module _ {T : Type 0} where
     }
 
     -- Rows of the next block, where that one has none from the id on.
-    pub run_next : (id i : ℕ) (rows : List (ℕ × T)) (next : Option ℕ) → IsFor bs id i → ((q : ℕ) → id ≤ q → at (get_or bs i (0, [])).1 q ≡ None) → i + 1 < length bs → IsRun id rows → ((q : ℕ) → id ≤ q → at rows q ≡ at (get_or bs (i + 1) (0, [])).1 q) → IsFrom bs (i + 1 + 1) next → Begins (at (all_rows bs)) id rows next
+    pub run_next : (id i : ℕ) (rows : List (ℕ × T)) (next : Option ℕ) → IsFor bs id i → ((q : ℕ) → id ≤ q → at (get_or bs i (0, [])).1 q ≡ None)
+        → i + 1 < length bs → IsRun id rows → ((q : ℕ) → id ≤ q → at rows q ≡ at (get_or bs (i + 1) (0, [])).1 q)
+        → IsFrom bs (i + 1 + 1) next → Begins (at (all_rows bs)) id rows next
     run_next id i rows next is none within run same from = record {
       run = run;
       some = some;
-      below = λ j inside. all_under (i + 1) (get_or (ids_of rows) j 0) next from (ap is_some (sym (same (get_or (ids_of rows) j 0) (run.above j inside))) ∙ id_at rows j run.rises inside);
+      below = λ j inside. all_under (i + 1) (get_or (ids_of rows) j 0) next from
+          (ap is_some (sym (same (get_or (ids_of rows) j 0) (run.above j inside))) ∙ id_at rows j run.rises inside);
       all = λ q le under. elim (cases_lt q first) [
         | inl lower ↦
-            located bs q i rising (record { within = is.within; begins = λ later. omega (arith, is.begins later); above = under_all i q (Some first) (within, refl) lower })
+            located bs q i rising (record {
+              within = is.within;
+              begins = λ later. omega (arith, is.begins later);
+              above = under_all i q (Some first) (within, refl) lower;
+            })
             ∙ none q le
             ∙ sym (same q le ∙ none_or (at (get_or bs (i + 1) (0, [])).1 q) (λ there. omega (arith, lower, block_begins bs (i + 1) q rising within there)))
         | inr above ↦
@@ -90,7 +101,8 @@ module _ {T : Type 0} where
             some_rows rows key.0 (ap is_some (same key.0 (omega (arith, high, low))) ∙ key.1)
 
     -- No row, where the last block has none from the id on.
-    pub run_none : (id i : ℕ) → IsFor bs id i → ((q : ℕ) → id ≤ q → at (get_or bs i (0, [])).1 q ≡ None) → length bs ≤ i + 1 → (q : ℕ) → id ≤ q → at (all_rows bs) q ≡ None
+    pub run_none : (id i : ℕ) → IsFor bs id i → ((q : ℕ) → id ≤ q → at (get_or bs i (0, [])).1 q ≡ None)
+        → length bs ≤ i + 1 → (q : ℕ) → id ≤ q → at (all_rows bs) q ≡ None
     run_none id i is none last q le =
         located bs q i rising (record { within = is.within; begins = λ later. omega (arith, is.begins later); above = λ j less within. absurd (omega arith) })
         ∙ none q le
@@ -123,14 +135,17 @@ module _ {T : Type 0} where
   no_rows (row ∷ rows) q none = absurd (omega (arith, none))
 
   -- What is found by one look-up is found by another that answers alike.
-  pub begins_as : (old new : ℕ → Option T) (id : ℕ) (rows : List (ℕ × T)) (next : Option ℕ) → ((q : ℕ) → old q ≡ new q) → Begins old id rows next → Begins new id rows next
-  begins_as old new id rows next same begins = record { run = begins.run; some = begins.some; below = begins.below; all = λ q le under. sym (same q) ∙ begins.all q le under; later = begins.later }
+  pub begins_as : (old new : ℕ → Option T) (id : ℕ) (rows : List (ℕ × T)) (next : Option ℕ)
+      → ((q : ℕ) → old q ≡ new q) → Begins old id rows next → Begins new id rows next
+  begins_as old new id rows next same begins =
+      record { run = begins.run; some = begins.some; below = begins.below; all = λ q le under. sym (same q) ∙ begins.all q le under; later = begins.later }
 
   -- A row that is found has a place.
   abbrev pub IsPlaced : List (ℕ × T) → ℕ → Type 0
   IsPlaced rows q = (j : ℕ) × (j < length rows) × (get_or (ids_of rows) j 0 ≡ q)
 
-  place_first : (row : ℕ × T) (rows : List (ℕ × T)) (q : ℕ) (b : Bool) → (q == row.0) ≡ b → (IsSome (at rows q) → IsPlaced rows q) → IsSome (if b then Some row.1 else at rows q) → IsPlaced (row ∷ rows) q
+  place_first : (row : ℕ × T) (rows : List (ℕ × T)) (q : ℕ) (b : Bool) → (q == row.0) ≡ b
+      → (IsSome (at rows q) → IsPlaced rows q) → IsSome (if b then Some row.1 else at rows q) → IsPlaced (row ∷ rows) q
   place_first row rows q true is later some = (0, omega arith, sym (eqb-true q row.0 is))
   place_first row rows q false is later some = let p = later some in (suc p.0, omega (arith, p.1), p.2)
 

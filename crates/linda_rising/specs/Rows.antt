@@ -28,6 +28,10 @@ module _ {T : Type 0} where
   at [] q = None
   at (row ∷ rows) q = if q == row.0 then Some row.1 else at rows q
 
+  -- No row has an id above this one.
+  abbrev pub AreUpTo : List (ℕ × T) → ℕ → Type 0
+  AreUpTo rows most = (q : ℕ) → IsSome (at rows q) → q ≤ most
+
   -- The second list has what the first has, but for the id: there it has this.
   abbrev pub Sets : List (ℕ × T) → List (ℕ × T) → ℕ → Option T → Type 0
   Sets old new id row = (q : ℕ) → at new q ≡ (if q == id then row else at old q)

@@ -3,6 +3,7 @@
 ghost use Rattle.std.specs.Prelude.{◌≡◌, ◌<◌, ◌≤◌, ◌∷◌, ℕ, [], length, true};
 ghost use Rattle.std.specs.Prelude.{Some, None, OnOk, OnErr, IfOk, IsSome};
 ghost use Rattle.std.specs.Option.{option_copied};
+ghost use Rattle.std.specs.List.{insert};
 ghost use Rattle.linda_rising.specs.Rows.{at, ids_of, Rises, IsPlace, Sets, Halves, IsRun};
 
 use std::alloc::{AllocError, Global};
@@ -52,7 +53,7 @@ impl<T: Drop> Block<T> {
         ensures err { OnErr result (self.new ≡ self.old) }
     {
         let place = place(self.rows.as_slice(), id);
-        self.rows.insert(place, (id, row))?;
+        insert_at(&mut self.rows, place, (id, row))?;
         self.from = self.from.min(id);
         Ok(())
     }
@@ -155,10 +156,31 @@ fn place<T>(rows: &[(u64, T)], id: u64) -> usize
             if last.0 < id {
                 return rows.len();
             }
+            if last.0 == id {
+                return rows.len() - 1;
+            }
         }
         None => return 0,
     }
     rows.partition_point(|row| row.0 < id)
+}
+
+// Puts the row at the place: at the end without moving any other.
+fn insert_at<T: Drop>(
+    rows: &mut Vec<(u64, T)>,
+    place: usize,
+    row: (u64, T),
+) -> Result<(), AllocError>
+    requires { place ≤ length rows.old.items }
+    ensures ok { OnOk result (rows.new.items ≡ insert rows.old.items place row) }
+    ensures err { OnErr result (rows.new.items ≡ rows.old.items) }
+{
+    if place == rows.len() {
+        rows.push(row)?;
+        return Ok(());
+    }
+    rows.insert(place, row)?;
+    Ok(())
 }
 
 // Gives memory back if the rows need a quarter of it at most.

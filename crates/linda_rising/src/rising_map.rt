@@ -19,6 +19,8 @@ use std::marker::Model;
 pub struct RisingMap<T> {
     alloc: Global,
     len: usize,
+    // No row has an id above this one: so a look-up past all rows reads none.
+    most: u64,
     blocks: VecDeque<Block<T>>,
 }
 
@@ -27,7 +29,7 @@ impl<T> Model for RisingMap<T> {
     ghost use Rattle.std.specs.Coded.{coded_ℕ};
     ghost use Rattle.std.specs.Ordering.{nat_cmp};
     ghost use Rattle.std.specs.FinMap as map;
-    ghost use Rattle.linda_rising.specs.Rows.{all_rows, IsRising};
+    ghost use Rattle.linda_rising.specs.Rows.{all_rows, IsRising, AreUpTo};
 
     ghost Value = { map.FinMap nat_cmp T };
 
@@ -36,7 +38,8 @@ impl<T> Model for RisingMap<T> {
     ghost view = { λ m. map.from_entries (all_rows m.blocks.items) };
 
     ghost invariant = { λ m. IsRising m.blocks.items
-        × (m.len ≡ map.len (map.from_entries {R = nat_cmp} (all_rows m.blocks.items))) };
+        × (m.len ≡ map.len (map.from_entries {R = nat_cmp} (all_rows m.blocks.items)))
+        × AreUpTo (all_rows m.blocks.items) m.most };
 }
 
 impl<T> RisingMap<T> {
@@ -58,6 +61,9 @@ impl<T> RisingMap<T> {
     pub fn get(&self, id: u64) -> Option<&T>
         ensures { option_copied result ≡ map.get self.now id }
     {
+        if id > self.most {
+            return None;
+        }
         blocks::get(&self.blocks, id)
     }
 
@@ -110,6 +116,7 @@ impl<T: Drop> RisingMap<T> {
         RisingMap {
             alloc,
             len: 0,
+            most: 0,
             blocks: VecDeque::new(alloc),
         }
     }
@@ -129,6 +136,7 @@ impl<T: Drop> RisingMap<T> {
         };
         blocks::insert(self.alloc, &mut self.blocks, id, row)?;
         self.len = len;
+        self.most = greater(self.most, id);
         Ok(())
     }
 
@@ -155,4 +163,12 @@ impl<T: Drop> RisingMap<T> {
             None => None,
         }
     }
+}
+
+// The greater of both.
+fn greater(one: u64, other: u64) -> u64
+    ensures one { one ≤ result }
+    ensures other { other ≤ result }
+{
+    if one < other { other } else { one }
 }

@@ -1,5 +1,5 @@
 -- Faults of a folder that is not served, or not inspected, or served no more.
-use Rattle.std.specs.Prelude.{◌==◌, if◌then◌else◌, Bool, true, false, Result, Ok, Err}
+use Rattle.std.specs.Prelude.{if◌then◌else◌, Bool, true, false, Result, Ok, Err}
 use Rattle.linda_disk.specs.declared.fault.DiskFault.{DiskFault}
 use Rattle.linda_disk.specs.declared.fault.DiskFault.TheVariants as disks
 use Rattle.linda_shared_accounts.specs.declared.fault.SharedFault.{SharedFault}

@@ -5,11 +5,13 @@ mod address;
 mod banks;
 mod fault;
 mod heap;
+mod listeners;
 mod log;
 mod minutes;
 mod socket;
 mod stamp;
 mod start;
+mod status;
 mod store;
 mod unwaited;
 mod waiting;
@@ -17,44 +19,41 @@ mod waiting;
 ghost use Rattle.std.specs.Prelude.{◌≡◌, ◌<◌, false, OnErr, OnOk};
 ghost use Rattle.linda_shared_accounts.specs.declared.limits.TheConstants.{PARTS};
 
-use address::{of_this_machine, ready_line, ready_line_at};
 use banks::Banks;
 pub use fault::ServingFault;
 use fault::served;
 use heap::keep_heap;
 use linda_disk::FileDisk;
 use linda_net::{
-    CounterValues, Gauge, Limits, Listener, Listeners, Shared, SharedFault, Status, serve_loop,
+    CounterValues, Gauge, Limits, Listener, ListeningSockets, Shared, SharedFault, serve_loop,
     serve_watched,
 };
 use linda_server::Durable;
 pub use linda_server::InUse;
 use linda_shared_accounts::PARTS;
-use linda_status::{About, Pages};
+use linda_status::About;
+use listeners::{by_threads, kept_open, listen, own_file, port_of, tell_ready};
 pub use log::{Cause, Log};
 pub use socket::SocketFile;
-use socket::{OwnFile, file_at, listen_at, remove};
+use socket::remove;
 pub use stamp::stamp_of;
 use start::{BankTrouble, Begun, Course};
+use status::{kept_status, listen_for_status, own_file_of_status, status_at};
 use std::alloc::Global;
 use std::fs::{File, Files};
 use std::hash::RandomState;
 use std::io::Write;
 use std::marker::Brand;
 use std::net::{Net, TcpListener, TcpStream};
-use std::os::unix::net::UnixListener;
 use std::random::RandomSource;
 use std::sync::ledger::{Blank, Ledger};
 use std::sync::{Mutex, Wait};
 use std::thread::Threads;
-use std::time::{Clock, Instant};
+use std::time::Clock;
 pub use store::open_store;
 pub(crate) use store::{LEFT, RIGHT};
 pub use unwaited::Unwaited;
 use waiting::open_when_free;
-
-/// The mode of a unix socket where it is asked how a server does: only its owner may connect.
-const STATUS_MODE: u32 = 0o600;
 
 /// What is served, where, and for how long.
 #[derive(Clone, Copy, Debug)]
@@ -167,30 +166,6 @@ pub fn serve_folder<
     ended
 }
 
-// Listens on the port and on the socket of the plan.
-fn listen<F: Files<File = File> + Net, S: Net<Listener = TcpListener, Stream = TcpStream>>(
-    files: &F,
-    rt: &S,
-    alloc: Global,
-    plan: &ServePlan<'_>,
-) -> Result<Listeners, ServingFault> {
-    let port = match plan.port {
-        Some(port) => Some(listen_on(rt, port)?),
-        None => None,
-    };
-    let socket = match plan.socket {
-        Some(socket) => Some(listen_at(files, alloc, socket)?),
-        None => None,
-    };
-    Ok(Listeners { port, socket })
-}
-
-// Keeps the socket open until its file is removed, so that nobody replaces it before.
-fn kept_open(listeners: &Listeners) -> Option<UnixListener> {
-    let socket = listeners.socket.as_ref()?;
-    socket.try_clone().ok()
-}
-
 // The server keeps what waits by random keys, if the system has any; else by those that it has.
 fn choose_keys<S: RandomSource>(rt: &S, server: &mut Durable<FileDisk>)
     ensures { server.new.down ≡ server.old.down }
@@ -216,7 +191,7 @@ fn share<L: Ledger, R: Wait>(
     let shared = Shared::new(alloc, server, blank)?;
     shared.count_from(rt, course.base);
     match course.put_off {
-        Some(room) if !is_old => shared.put_off(rt, room),
+        Some(room) if !is_old => shared.defer_snapshot(rt, room),
         _ => {}
     }
     Ok(shared)
@@ -236,7 +211,7 @@ fn tell_and_serve<
     server: Durable<FileDisk>,
     course: Course,
     blank: Blank,
-    listeners: Listeners,
+    listeners: ListeningSockets,
     asked: Result<Option<Listener>, ServingFault>,
     plan: &ServePlan<'_>,
 ) -> Result<(), ServingFault>
@@ -293,14 +268,6 @@ fn tell_start<S: Clock, E: Write>(rt: &S, log: &mut Log<'_, E>, course: &Course,
     }
 }
 
-// The listener of a port whose connections have two threads each, if the plan wants that.
-fn by_threads<'a>(listeners: &'a Listeners, plan: &ServePlan<'_>) -> Option<&'a TcpListener> {
-    if !plan.by_threads || listeners.socket.is_some() {
-        return None;
-    }
-    listeners.port.as_ref()
-}
-
 // Writes the last line of the log: how it ended, and why.
 fn tell_end<L: Ledger, S: Wait + Clock, E: Write>(
     rt: &S,
@@ -345,126 +312,4 @@ fn cause_of(ended: &Result<(), SharedFault>, failures: u64) -> Cause
             Cause::Memory
         }
     }
-}
-
-// Listens on a port of this machine. As many connections may wait there as the system allows.
-fn listen_on<S: Net<Listener = TcpListener, Stream = TcpStream>>(
-    rt: &S,
-    port: u16,
-) -> Result<TcpListener, ServingFault> {
-    let Ok(listener) = mio::net::TcpListener::bind(rt, of_this_machine(port)) else {
-        return Err(ServingFault::Io);
-    };
-    let listener = TcpListener::from(listener);
-    match listener.set_nonblocking(false) {
-        Ok(()) => Ok(listener),
-        Err(_) => Err(ServingFault::Io),
-    }
-}
-
-// Listens where it is asked how the server does, if it is.
-fn listen_for_status<
-    F: Files<File = File> + Net,
-    S: Net<Listener = TcpListener, Stream = TcpStream>,
->(
-    files: &F,
-    rt: &S,
-    alloc: Global,
-    status: Option<StatusAt<'_>>,
-) -> Result<Option<Listener>, ServingFault> {
-    match status {
-        Some(StatusAt::Port(port)) => Ok(Some(Listener::Port(listen_on(rt, port)?))),
-        Some(StatusAt::Path(path)) => {
-            let socket = listen_at(files, alloc, place_of_status(path))?;
-            Ok(Some(Listener::Socket(socket)))
-        }
-        None => Ok(None),
-    }
-}
-
-// The unix socket with this path where it is asked how the server does.
-fn place_of_status(path: &str) -> SocketFile<'_> {
-    SocketFile {
-        path,
-        mode: STATUS_MODE,
-    }
-}
-
-// Keeps the socket of the status open until its file is removed, so that nobody replaces it before.
-fn kept_status(asked: &Result<Option<Listener>, ServingFault>) -> Option<UnixListener> {
-    match asked {
-        Ok(Some(Listener::Socket(socket))) => socket.try_clone().ok(),
-        Ok(Some(Listener::Port(_))) => None,
-        Ok(None) => None,
-        Err(_) => None,
-    }
-}
-
-// The file of a socket that is listened on, if there is one.
-fn own_file<F: Files>(files: &F, socket: Option<SocketFile<'_>>) -> Option<OwnFile> {
-    let socket = socket?;
-    file_at(files, socket.path)
-}
-
-// The file of the socket of the status, if it is listened on.
-fn own_file_of_status<F: Files>(
-    files: &F,
-    asked: &Result<Option<Listener>, ServingFault>,
-    status: Option<StatusAt<'_>>,
-) -> Option<OwnFile> {
-    if asked.is_err() {
-        return None;
-    }
-    match status {
-        Some(StatusAt::Path(path)) => file_at(files, path),
-        Some(StatusAt::Port(_)) => None,
-        None => None,
-    }
-}
-
-// What is said where it is asked how the server does, if it is.
-fn status_at<'a, S: Clock>(
-    rt: &S,
-    alloc: Global,
-    asked: Option<Listener>,
-    about: About<'a>,
-    metrics: &'a [String],
-) -> Option<Status<Pages<'a>>> {
-    let listener = asked?;
-    let teller = Pages {
-        alloc,
-        about,
-        metrics,
-        begin: Instant::now(rt).ok(),
-    };
-    Some(Status { listener, teller })
-}
-
-// On which port it listens, if it does.
-fn port_of(listeners: &Listeners) -> Result<Option<u16>, ServingFault> {
-    let Some(listener) = &listeners.port else {
-        return Ok(None);
-    };
-    match listener.local_addr() {
-        Ok(address) => Ok(Some(address.port())),
-        Err(_) => Err(ServingFault::Io),
-    }
-}
-
-// Writes on which port it listens, or at which path if it listens on none.
-fn tell_ready<W: Write>(
-    alloc: Global,
-    writer: &mut W,
-    port: Option<u16>,
-    path: Option<&str>,
-) -> Result<(), ServingFault> {
-    let line = match (port, path) {
-        (Some(port), _) => ready_line(alloc, port)?,
-        (None, Some(path)) => ready_line_at(alloc, path)?,
-        (None, None) => return Err(ServingFault::Io),
-    };
-    if writer.write_all(line.as_bytes()).is_err() || writer.flush().is_err() {
-        return Err(ServingFault::Io);
-    }
-    Ok(())
 }

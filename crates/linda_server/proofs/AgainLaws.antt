@@ -1,11 +1,13 @@
 -- What was sent of a deed is kept while more is done, and is sent again where its number comes again.
-use Rattle.std.proofs.Common.{◌≡◌, ℕ, ◌<◌, ◌≤◌, ◌+◌, Bool, true, false, inl, inr, List, [], ◌∷◌, ◌++◌, option_to_list, option_map, Option, Some, None, IfSome, IsSome, All, refl, sym, ap, ◌∙◌, subst, append_assoc, append-nil, arith}
+use Rattle.std.proofs.Common.{◌≡◌, ℕ, ◌<◌, ◌≤◌, ◌+◌, Bool, true, false, inl, inr, List, [], ◌∷◌, ◌++◌, option_to_list}
+use Rattle.std.proofs.Common.{option_map, Option, Some, None, IfSome, IsSome, All, refl, sym, ap, ◌∙◌, subst}
+use Rattle.std.proofs.Common.{append_assoc, append-nil, arith}
 use Rattle.std.proofs.lemmas.Bool.{cases_eq, true≢false}
 use Rattle.linda_tuple.specs.Tuple.{Tuple}
 use Rattle.std.proofs.lemmas.Option.{none-some, same_Some}
 use Rattle.std.proofs.lemmas.List.Elements.{All-weaker}
 use Rattle.std.specs.FinMap.{get}
-use Rattle.linda_maps.proofs.MapLaws.{get_same, get_other}
+use Rattle.linda_map_laws.proofs.MapLaws.{get_same, get_other}
 use Rattle.linda_wire.specs.declared.limits.TheConstants.{NUMBER_LIMIT}
 use Rattle.linda_wire.specs.declared.message.Message.{Message}
 use Rattle.linda_wire.specs.declared.message.Message.TheVariants.{Hello, Out, Ask, Accept, Cancel, Leave}
@@ -27,7 +29,9 @@ use Rattle.linda_store_state.proofs.DoneLaws.{done, done_after}
 use Rattle.linda_store_state.proofs.ProperLaws.{front_proper, reached, proper_state, more_done}
 use Rattle.linda_store_state.proofs.ReplyLaws.{reply_behind, kept_behind}
 use Rattle.linda_store_step.specs.Soft.{Soft}
-use Rattle.linda_store_step.specs.Answer.{Answer, only_reply, reply_of_kept, last_number, standing_of, reply_by, has_left, out_without_deed, accept_without_deed, leave_without_deed, on_out, on_accept, on_leave, IsAnswer, IsStep}
+use Rattle.linda_store_step.specs.Answer.{Answer, only_reply, reply_of_kept, last_number, standing_of, reply_by}
+use Rattle.linda_store_step.specs.Answer.{has_left, out_without_deed, accept_without_deed, leave_without_deed, on_out}
+use Rattle.linda_store_step.specs.Answer.{on_accept, on_leave, IsAnswer, IsStep}
 use Rattle.linda_store_step.specs.Judge.{to_put, to_take, to_leave, judge_class}
 use Rattle.linda_store_step.specs.History.{says, History, Happens, first_then, nothing_yet, history_of}
 use Rattle.linda_store_step.specs.Reported.{number_of_message}
@@ -60,7 +64,8 @@ module _ (st : State) (c n : ℕ) (reply : KeptReply) (is : IsState st) (there :
   of_leave : leave_without_deed st c n ≡ Some (reply_of_kept n reply)
   of_leave = ap (λ (k : Class). reply_by st c n (judge_class (to_leave n) (standing_of st c) k)) class ∙ kept_reply
 
-  answer : (soft : Soft) (m : Message) (answered : Answer) → number_of_message m ≡ Some n → IsAnswer st soft c m answered → answered ≡ only_reply c (reply_of_kept n reply) soft
+  answer : (soft : Soft) (m : Message) (answered : Answer) → number_of_message m ≡ Some n
+      → IsAnswer st soft c m answered → answered ≡ only_reply c (reply_of_kept n reply) soft
   answer soft (Hello version client fresh) answered bears told = absurd (none-some n bears)
   answer soft (Ask ticket remove template) answered bears told = absurd (none-some n bears)
   answer soft (Cancel ticket) answered bears told = absurd (none-some n bears)
@@ -99,9 +104,11 @@ one_covered : (mid : State) (d : Deed) (send : ℕ × Reply) → IsAllowed mid d
 one_covered mid d send allowed covered reports =
     elim (cases_eq send.0 (client_of d)) [
       | inl own ↦
-          let last : last_number (done mid d) (client_of d) ≡ number_of d = ap number_in (get_same mid.book (client_of d) (number_of d, reply_of_deed mid [] d)) in
+          let last : last_number (done mid d) (client_of d) ≡ number_of d =
+          ap number_in (get_same mid.book (client_of d) (number_of d, reply_of_deed mid [] d)) in
           let number = allowed.number in
-          let rises : last_number (done mid d) send.0 ≡ last_number mid send.0 + 1 = subst (λ c. last_number (done mid d) c ≡ last_number mid c + 1) (sym own) (last ∙ number) in
+          let rises : last_number (done mid d) send.0 ≡ last_number mid send.0 + 1 =
+          subst (λ c. last_number (done mid d) c ≡ last_number mid c + 1) (sym own) (last ∙ number) in
           elim (covered reports) [
             | inl low ↦ inl (omega (arith, low, rises))
             | inr keeps ↦
@@ -119,7 +126,8 @@ one_covered mid d send allowed covered reports =
 
 module _ (ds : List Deed) (st : State) (all : AreDone empty_state ds st) where
   -- So are many deeds more.
-  walk : (send : ℕ × Reply) (later before : List Deed) (mid : State) → ds ≡ before ++ later → AreDone empty_state before mid → IsCovered mid send → IsCovered st send
+  walk : (send : ℕ × Reply) (later before : List Deed) (mid : State) → ds ≡ before ++ later
+      → AreDone empty_state before mid → IsCovered mid send → IsCovered st send
   walk send [] before mid parts at_mid covered =
       let whole : ds ≡ before = parts ∙ append-nil before in
       subst (λ s. IsCovered s send) (one_after empty_state ds mid st (subst (λ l. IsAfter empty_state l mid) (sym whole) at_mid.after) all.after) covered
@@ -135,10 +143,13 @@ module _ (ds : List Deed) (st : State) (all : AreDone empty_state ds st) where
       let there = reached empty_state told.before empty_is_state proper in
       let allowed = all.proper told.before told.deed told.later there.new told.parts there.after in
       let next = done_after there.new told.deed there.state in
-      let more = more_done empty_state there.new (done there.new told.deed) told.before told.deed empty_is_state (record { proper = proper; after = there.after }) allowed next in
-      let own = subst (λ c. get (done there.new told.deed).book c ≡ Some (number_of told.deed, reply_of_deed there.new [] told.deed)) told.client (kept_behind there.new (done there.new told.deed) told.deed next) in
+      let more = more_done empty_state there.new (done there.new told.deed) told.before told.deed empty_is_state
+      (record { proper = proper; after = there.after }) allowed next in
+      let own = subst (λ c. get (done there.new told.deed).book c ≡ Some (number_of told.deed, reply_of_deed there.new [] told.deed)) told.client
+      (kept_behind there.new (done there.new told.deed) told.deed next) in
       let behind = reply_behind empty_state there.new told.before told.deed there.state there.after in
-      walk send told.later (told.before ++ told.deed ∷ []) (done there.new told.deed) (told.parts ∙ sym (append_assoc told.before (told.deed ∷ []) told.later)) more
+      walk send told.later (told.before ++ told.deed ∷ []) (done there.new told.deed)
+      (told.parts ∙ sym (append_assoc told.before (told.deed ∷ []) told.later)) more
       (λ reports. inr (record {
         entry = (number_of told.deed, reply_of_deed empty_state told.before told.deed);
         kept = own ∙ ap (λ r. Some (number_of told.deed, r)) behind;
@@ -148,7 +159,8 @@ module _ (ds : List Deed) (st : State) (all : AreDone empty_state ds st) where
   -- What was sent of these deeds is kept, each reply until its client has done a later one.
   pub all_covered : (sends : List (ℕ × Reply)) → AreBacked ds sends → All (IsCovered st) sends
   all_covered sends backed =
-      All-weaker (λ (send : ℕ × Reply). reports_deed send.1 ≡ true → ReportsOne ds send.0 send.1) (IsCovered st) (λ send told reports. told_covered send (told reports) reports) sends backed
+      All-weaker (λ (send : ℕ × Reply). reports_deed send.1 ≡ true → ReportsOne ds send.0 send.1)
+      (IsCovered st) (λ send told reports. told_covered send (told reports) reports) sends backed
 
 -- ---- a tuple that nobody takes
 
@@ -159,7 +171,8 @@ below st id is there = by (get st.bag id) there (is.ids id)
     by None some so = absurd (true≢false (sym some))
     by (Some x) some so = so.1
 
-pub still_there : (st new : State) (ds : List Deed) (id : ℕ) → IsState st → IsAfter st ds new → is_taken id ds ≡ false → IsSome (get st.bag id) → IsSome (get new.bag id) × (get new.bag id ≡ get st.bag id)
+pub still_there : (st new : State) (ds : List Deed) (id : ℕ) → IsState st → IsAfter st ds new
+    → is_taken id ds ≡ false → IsSome (get st.bag id) → IsSome (get new.bag id) × (get new.bag id ≡ get st.bag id)
 still_there st new ds id is after free there =
     let same = after.bag id ∙ old_id st ds id free (below st id is there) in
     (subst IsSome (sym same) there, same)

@@ -1,5 +1,7 @@
 -- What crashes leave within a call of a server, where only that some bank is in use is known.
-use Rattle.std.proofs.Common.{◌≡◌, ℕ, Bool, true, false, sym, subst, ◌<◌, ◌≤◌, ◌⊎◌, inl, inr, List, [], ◌∷◌, length, Option, Some, None, All, is_some, IfSome, IfNone, ◌+◌, option_to_list, ap, length-append, append-nil, refl, ◌++◌, ◌∙◌, true≢false, Result, Ok, Err, IfOk, OnOk, OnErr, arith}
+use Rattle.std.proofs.Common.{◌≡◌, ℕ, Bool, true, false, sym, subst, ◌<◌, ◌≤◌, ◌⊎◌, inl, inr, List, [], ◌∷◌, length}
+use Rattle.std.proofs.Common.{Option, Some, None, All, is_some, IfSome, ◌+◌, option_to_list, ap, length-append}
+use Rattle.std.proofs.Common.{append-nil, refl, ◌++◌, ◌∙◌, true≢false, Result, Ok, Err, IfOk, OnOk, OnErr, arith}
 use Rattle.std.proofs.Math.Logic.{∥∥₁_map}
 use Rattle.std.proofs.lemmas.Grind.{not_there}
 use Rattle.std.proofs.lemmas.List.{length-map}
@@ -10,7 +12,7 @@ use Rattle.linda_wire.specs.declared.message.Message.{Message}
 use Rattle.linda_store_state.specs.declared.deed.Deed.{Deed}
 use Rattle.linda_store_state.specs.State.{State, IsState}
 use Rattle.linda_store_state.specs.Proper.{AreDone}
-use Rattle.linda_store_state.specs.DeedFormat.{payload, SuitsForm, IsUnspelled}
+use Rattle.linda_store_state.specs.DeedFormat.{payload, SuitsForm}
 use Rattle.linda_store_state.proofs.ProperLaws.{none_done}
 use Rattle.linda_store_step.specs.Soft.{Soft}
 use Rattle.linda_store_step.specs.Answer.{Answer}
@@ -27,20 +29,21 @@ use Rattle.linda_journal.specs.declared.bank.Bank.{Bank}
 use Rattle.linda_server.specs.declared.disks.Disks.{Disks}
 use Rattle.linda_server.specs.declared.disks.Disks.TheVariants.{InUse, Shut, Away}
 use Rattle.linda_server.specs.declared.fault.ServeFault.{ServeFault}
-use Rattle.linda_server.specs.declared.served.Served.{Served}
+use Rattle.linda_store_step.specs.declared.served.Served.{Served}
 use Rattle.linda_server.specs.Pairs.{Both, PairsSince, PairsNow}
 use Rattle.linda_server.specs.Disks.{sides}
-use Rattle.linda_server.specs.Served.{AreAnswered, deeds_of, portion_of, IsServed}
+use Rattle.linda_store_step.specs.Served.{AreAnswered, deeds_of, counts_of, IsServed}
 use Rattle.linda_server.specs.Calls.{LeadTo, IsOldOrNew, IsEither, IsWithOrWithout, StandsAfter, IsBeforeOrAfter, StandsFor, HasHandled, IsTooMuch, room_for}
 use Rattle.linda_server.specs.Node.{shown}
 use Rattle.linda_server.specs.Server.{both_of, BothHonest, IsUpFor, IsKeptFor}
-use Rattle.linda_server.proofs.ServedLaws.{served_happens}
+use Rattle.linda_store_step.proofs.ServedLaws.{served_happens}
 use Rattle.linda_server.proofs.PairLaws.{still, stands_now, up_of}
 
 -- ---- what was served
 
 -- Its deeds lead to the state after them.
-pub leads_to : (st : State) (soft : Soft) (ms : List (ℕ × Message)) (told : Served) (new : State) (then : Soft) → IsOrderly st soft → IsServed st soft ms told new then
+pub leads_to : (st : State) (soft : Soft) (ms : List (ℕ × Message)) (told : Served) (new : State) (then : Soft)
+    → IsOrderly st soft → IsServed st soft ms told new then
     → LeadTo st told.deeds.items new
 leads_to st soft ms told new then orderly served opening before is done =
     let end = happened opening st soft (comings ms) before (history_of new then told.deeds.items told.sends.items) is
@@ -48,7 +51,8 @@ leads_to st soft ms told new then orderly served opening before is done =
     record { proper = end.proper; after = end.after }
 
 -- Each message has one answer, and each answer one deed at most.
-each_answered : (st : State) (soft : Soft) (ms : List (ℕ × Message)) (answers : List Answer) (new : State) (then : Soft) → AreAnswered st soft ms answers new then
+each_answered : (st : State) (soft : Soft) (ms : List (ℕ × Message)) (answers : List Answer) (new : State) (then : Soft)
+    → AreAnswered st soft ms answers new then
     → length answers ≡ length ms
 each_answered st soft [] answers new then are = ap length are.0
 each_answered st soft (m ∷ ms) answers new then are =
@@ -57,12 +61,12 @@ each_answered st soft (m ∷ ms) answers new then are =
     let same : length answers ≡ length (first ∷ are.1.1.0) = ap length are.1.1.1.1.1 in
     omega (arith, same, rest)
 
--- So it has one portion of what was served.
+-- So it has one count of what was served.
 pub each_share : (st : State) (soft : Soft) (ms : List (ℕ × Message)) (told : Served) (new : State) (then : Soft) → IsServed st soft ms told new then
-    → vec_len told.portions ≡ length ms
+    → vec_len told.counts ≡ length ms
 each_share st soft ms told new then served =
-    let all = ap length served.tells.portions ∙ (length-map served.answers portion_of ∙ each_answered st soft ms served.answers new then served.answered) in
-    let counted = told.portions.ok.0 in
+    let all = ap length served.tells.counts ∙ (length-map served.answers counts_of ∙ each_answered st soft ms served.answers new then served.answered) in
+    let counted = told.counts.ok.0 in
     omega (arith, all, counted)
 
 -- What is so of what was served is so of what is returned in the end, where that is the same.
@@ -82,7 +86,8 @@ no_more (a ∷ answers) =
     let both_len = length-append (option_to_list a.deed) (deeds_of answers) in
     omega (arith, first, later, both_len)
 
-pub few : (st : State) (soft : Soft) (ms : List (ℕ × Message)) (told : Served) (new : State) (then : Soft) (most : ℕ) → length ms ≤ most → IsServed st soft ms told new then
+pub few : (st : State) (soft : Soft) (ms : List (ℕ × Message)) (told : Served) (new : State) (then : Soft) (most : ℕ)
+    → length ms ≤ most → IsServed st soft ms told new then
     → length told.deeds.items ≤ most
 few st soft ms told new then most le served =
     let count = each_answered st soft ms served.answers new then served.answered in
@@ -100,7 +105,8 @@ module _ (given form : Form) (same : given ≡ form) (end limit : ℕ) (need : O
     where
       by : (o : Option Need) → IsNeedOf given ds o → Fits o → is_some o ≡ true → 0 < length ds → end + room_for (length ds) (length (payload given ds)) ≤ limit
       by None is room there some = absurd (true≢false (sym there))
-      by (Some n) is room there some = subst (λ k. end + room_for k (length (payload given ds)) ≤ limit) is.0 (subst (λ b. end + room_for n.deeds b ≤ limit) is.1 (room (subst (λ k. 0 < k) (sym is.0) some)))
+      by (Some n) is room there some = subst (λ k. end + room_for k (length (payload given ds)) ≤ limit) is.0
+          (subst (λ b. end + room_for n.deeds b ≤ limit) is.1 (room (subst (λ k. 0 < k) (sym is.0) some)))
 
   -- and each has a spelling;
   pub suit_of : is_some need ≡ true → All (SuitsForm form) ds
@@ -114,15 +120,20 @@ module _ (given form : Form) (same : given ≡ form) (end limit : ℕ) (need : O
   pub too_much : IfSome need (λ (n : Need). (0 < n.deeds) × (limit < end + room_for n.deeds n.bytes)) → IsTooMuch form end limit ds
   too_much = subst (λ f. IfSome need (λ (n : Need). (0 < n.deeds) × (limit < end + room_for n.deeds n.bytes)) → IsTooMuch f end limit ds) same (by need is)
     where
-      by : (o : Option Need) → IsNeedOf given ds o → IfSome o (λ (n : Need). (0 < n.deeds) × (limit < end + room_for n.deeds n.bytes)) → IsTooMuch given end limit ds
+      by : (o : Option Need) → IsNeedOf given ds o → IfSome o (λ (n : Need). (0 < n.deeds) × (limit < end + room_for n.deeds n.bytes))
+          → IsTooMuch given end limit ds
       by None is past = inl is
-      by (Some n) is past = inr (subst (λ k. 0 < k) is.0 past.0, subst (λ k. limit < end + room_for k (length (payload given ds))) is.0 (subst (λ b. limit < end + room_for n.deeds b) is.1 past.1))
+      by (Some n) is past = inr (
+        subst (λ k. 0 < k) is.0 past.0,
+        subst (λ k. limit < end + room_for k (length (payload given ds))) is.0 (subst (λ b. limit < end + room_for n.deeds b) is.1 past.1),
+      )
 
   pub not_too_much : Fits need → is_some need ≡ true → IsTooMuch form end limit ds → ⊥
   not_too_much room there (inl unspelled) = unspelled (suit_of there)
   not_too_much room there (inr past) = let over = past.1 in let fits = room_of room there past.0 in absurd (omega (arith, over, fits))
 
-pub handled : (old new : Store) (ms : List (ℕ × Message)) (told : Served) → IsServed old.state old.soft ms told new.state new.soft → HasHandled old (comings ms) told.sends.items new
+pub handled : (old new : Store) (ms : List (ℕ × Message)) (told : Served)
+    → IsServed old.state old.soft ms told new.state new.soft → HasHandled old (comings ms) told.sends.items new
 handled old new ms told served = record {
   deeds = told.deeds.items;
   happens = served_happens old.state old.soft ms told new.state new.soft served;
@@ -134,10 +145,12 @@ led st now deeds is leads = leads st [] is (none_done st is)
 
 -- Nothing was done.
 pub none_remains : (old : Node) (xs : List Coming) (ds : List Deed) → ds ≡ [] → MayRemain old xs ds
-none_remains old xs ds none = record { first = []; is_first = (xs, refl); all = nothing_yet old.state old.soft; happens = refl; front = ([], ap (λ l. l ++ []) none) }
+none_remains old xs ds none =
+    record { first = []; is_first = (xs, refl); all = nothing_yet old.state old.soft; happens = refl; front = ([], ap (λ l. l ++ []) none) }
 
 -- All was done.
-pub all_remains : (old : Node) (ms : List (ℕ × Message)) (told : Served) (new : State) (then : Soft) (ds : List Deed) → IsServed old.state old.soft ms told new then
+pub all_remains : (old : Node) (ms : List (ℕ × Message)) (told : Served) (new : State) (then : Soft) (ds : List Deed)
+    → IsServed old.state old.soft ms told new then
     → ds ≡ told.deeds.items → MayRemain old (comings ms) ds
 all_remains old ms told new then ds served same = record {
   first = comings ms;
@@ -148,7 +161,8 @@ all_remains old ms told new then ds served same = record {
 }
 
 -- So it is of a server that was up.
-pub all_remains_up : (before : State) (store : Store) (down : Bool) (lost : List Deed) (ms : List (ℕ × Message)) (told : Served) (new : State) (then : Soft) (ds : List Deed)
+pub all_remains_up : (before : State) (store : Store) (down : Bool) (lost : List Deed) (ms : List (ℕ × Message))
+    (told : Served) (new : State) (then : Soft) (ds : List Deed)
     → down ≡ false → IsServed store.state store.soft ms told new then → ds ≡ told.deeds.items → MayRemain (shown before store down lost) (comings ms) ds
 all_remains_up before store down lost ms told new then ds is_up served same =
     subst (λ b. MayRemain (shown before store b lost) (comings ms) ds) (sym is_up) (all_remains (shown before store false lost) ms told new then ds served same)
@@ -175,20 +189,25 @@ from_some old new P Q some so goes = record {
   each = λ left right l r. ∥∥₁_map some (λ x. goes left right ((so x).each left right l r));
 }
 
-sides_now : (is_right : Bool) (old : Both) (used other : View) (P Q : List ℕ → List ℕ → Type 0) → IsTimed used → IsTimed other → PairsSince old (sides is_right used other) P
+sides_now : (is_right : Bool) (old : Both) (used other : View) (P Q : List ℕ → List ℕ → Type 0)
+    → IsTimed used → IsTimed other → PairsSince old (sides is_right used other) P
     → ((left right : List ℕ) → P left right → Q left right) → PairsNow (sides is_right used other) Q
 sides_now true old used other P Q timed_used timed since goes left right l r =
-    goes left right (since.each left right (timed.counts_now old.left.moment left since.left_later l) (timed_used.counts_now old.right.moment right since.right_later r))
+    goes left right (since.each left right (timed.counts_now old.left.moment left since.left_later l)
+    (timed_used.counts_now old.right.moment right since.right_later r))
 sides_now false old used other P Q timed_used timed since goes left right l r =
-    goes left right (since.each left right (timed_used.counts_now old.left.moment left since.left_later l) (timed.counts_now old.right.moment right since.right_later r))
+    goes left right (since.each left right (timed_used.counts_now old.left.moment left since.left_later l)
+    (timed.counts_now old.right.moment right since.right_later r))
 
 -- Of either state, where deeds lead from the one to the other.
-pub with_or_without : (st now : State) (deeds : List Deed) → IsState st → LeadTo st deeds now → (left right : List ℕ) → IsEither st now left right → IsWithOrWithout st deeds left right
+pub with_or_without : (st now : State) (deeds : List Deed) → IsState st → LeadTo st deeds now
+    → (left right : List ℕ) → IsEither st now left right → IsWithOrWithout st deeds left right
 with_or_without st now deeds is leads left right some =
     ∥∥₁_map some (λ x. record { new = now; ranges = is; done = led st now deeds is leads; stands = x })
 
 -- Of either state, where what came happened.
-pub before_or_after : (old new : Store) (ms : List (ℕ × Message)) (told : Served) → IsServed old.state old.soft ms told new.state new.soft → (left right : List ℕ)
+pub before_or_after : (old new : Store) (ms : List (ℕ × Message)) (told : Served)
+    → IsServed old.state old.soft ms told new.state new.soft → (left right : List ℕ)
     → IsEither old.state new.state left right → IsBeforeOrAfter old (comings ms) left right
 before_or_after old new ms told served left right some = ∥∥₁_map some goes
   where
@@ -200,7 +219,8 @@ before_or_after old new ms told served left right some = ∥∥₁_map some goes
       stands = x;
     }
 
-pub since_so : (old new : Both) (P Q : List ℕ → List ℕ → Type 0) → PairsSince old new P → ((left right : List ℕ) → P left right → Q left right) → PairsSince old new Q
+pub since_so : (old new : Both) (P Q : List ℕ → List ℕ → Type 0) → PairsSince old new P
+    → ((left right : List ℕ) → P left right → Q left right) → PairsSince old new Q
 since_so old new P Q since goes = record {
   left_later = since.left_later;
   right_later = since.right_later;
@@ -223,7 +243,8 @@ module _ {D : Type 0} {g : Ghosts D} (timed : (d : D) → g.honest d → IsTimed
   pub still_before : (disks : Disks (Bank D g) D) (old : Store) (xs : List Coming) → BothHonest disks → ∥ IsKeptFor disks old.state ∥₁
       → PairsSince (both_of disks) (both_of disks) (IsBeforeOrAfter old xs)
   still_before disks old xs are kept =
-      from_some (both_of disks) (both_of disks) (λ left right. Stands left right old.state) (λ left right. Stands left right old.state ⊎ StandsAfter old xs left right)
+      from_some (both_of disks) (both_of disks) (λ left right. Stands left right old.state)
+      (λ left right. Stands left right old.state ⊎ StandsAfter old xs left right)
       (up_for disks old.state are kept) (still timed disks old.state are) (λ left right x. inl x)
 
   -- Deeds went onto the bank in use.
@@ -231,7 +252,8 @@ module _ {D : Type 0} {g : Ghosts D} (timed : (d : D) → g.honest d → IsTimed
       → ((st now : State) → BothHonest disks → IsUpFor disks st → LeadTo st deeds now → PairsSince (both_of disks) (both_of new) (IsOldOrNew st now))
       → PairsSince (both_of disks) (both_of new) (IsEither st now)
   put_either disks new st now deeds leads are kept put =
-      from_some (both_of disks) (both_of new) (IsOldOrNew st now) (IsOldOrNew st now) (up_for disks st are kept) (λ u. put st now are u leads) (λ left right x. x)
+      from_some (both_of disks) (both_of new) (IsOldOrNew st now) (IsOldOrNew st now) (up_for disks st are kept)
+      (λ u. put st now are u leads) (λ left right x. x)
 
   pub kept_after : (disks new : Disks (Bank D g) D) (st now : State) (deeds : List Deed) → LeadTo st deeds now → ∥ IsKeptFor disks st ∥₁
       → ((st now : State) → IsKeptFor disks st → LeadTo st deeds now → IsKeptFor new now)
@@ -241,9 +263,11 @@ module _ {D : Type 0} {g : Ghosts D} (timed : (d : D) → g.honest d → IsTimed
   -- What crashes since leave, they leave now.
   pub now_since : (old disks : Disks (Bank D g) D) (P Q : List ℕ → List ℕ → Type 0) → BothHonest disks → PairsSince (both_of old) (both_of disks) P
       → ((left right : List ℕ) → P left right → Q left right) → PairsNow (both_of disks) Q
-  now_since old (InUse pair) P Q are since goes = sides_now pair.is_right (both_of old) (g.view pair.bank.disk) (g.view pair.other) P Q (timed pair.bank.disk are.0) (timed pair.other are.1) since goes
+  now_since old (InUse pair) P Q are since goes =
+      sides_now pair.is_right (both_of old) (g.view pair.bank.disk) (g.view pair.other) P Q (timed pair.bank.disk are.0) (timed pair.other are.1) since goes
   now_since old (Shut left right) P Q are since goes =
-      λ l r la ra. goes l r (since.each l r ((timed left are.0).counts_now (both_of old).left.moment l since.left_later la) ((timed right are.1).counts_now (both_of old).right.moment r since.right_later ra))
+      λ l r la ra. goes l r (since.each l r ((timed left are.0).counts_now (both_of old).left.moment l since.left_later la)
+      ((timed right are.1).counts_now (both_of old).right.moment r since.right_later ra))
   now_since old Away P Q are since goes = absurd are
 
   -- The state stands now.
@@ -259,7 +283,8 @@ module _ {D : Type 0} {g : Ghosts D} (timed : (d : D) → g.honest d → IsTimed
       (λ x. record { new = st; ranges = is; done = subst (λ ds. AreDone st ds st) (sym none) (none_done st is); stands = inl x })
 
   -- A call that served this, and then put its deeds onto the bank in use, or could not.
-  pub served_since : (disks mid new : Disks (Bank D g) D) (old after : Store) (ms : List (ℕ × Message)) (told : Served) (before : State) → mid ≡ disks → before ≡ old.state
+  pub served_since : (disks mid new : Disks (Bank D g) D) (old after : Store) (ms : List (ℕ × Message)) (told : Served) (before : State)
+      → mid ≡ disks → before ≡ old.state
       → IsServed old.state old.soft ms told after.state after.soft → BothHonest disks
       → (BothHonest mid → PairsSince (both_of mid) (both_of new) (IsEither before after.state))
       → PairsSince (both_of disks) (both_of new) (IsBeforeOrAfter old (comings ms))

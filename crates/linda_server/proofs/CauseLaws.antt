@@ -1,5 +1,5 @@
 -- What a fault says of the counts of failures, of one disk and of two.
-use Rattle.std.proofs.Common.{◌≡◌, ◌≢◌, ℕ, ◌+◌, ◌<◌, ◌↔◌, inl, inr, Result, Ok, Err, IfErr, refl, subst, ◌∙◌, arith}
+use Rattle.std.proofs.Common.{◌≡◌, ◌≢◌, ℕ, ◌+◌, ◌<◌, ◌↔◌, inl, inr, Result, Err, refl, subst, ◌∙◌, arith}
 use Rattle.linda_disk.specs.declared.fault.DiskFault.{DiskFault}
 use Rattle.linda_disk.specs.declared.fault.DiskFault.TheVariants.{Device, Memory}
 use Rattle.linda_disk.specs.Disk.{CountsFailure, TellsFailures, TellsFailuresOfTwo}
@@ -10,7 +10,8 @@ use Rattle.linda_server.specs.declared.fault.OpenFault.TheVariants as faults
 use Rattle.linda_server.specs.Opening.{fault_of_choice}
 
 -- A fault that is Device exactly where the disk's fault is tells of the count.
-pub counted : {T F : Type 0} (device told : F) (fault : DiskFault) (r : Result T DiskFault) (old new : ℕ) → r ≡ Err fault → (told ≡ device) ↔ (fault ≡ Device) → CountsFailure r old new
+pub counted : {T F : Type 0} (device told : F) (fault : DiskFault) (r : Result T DiskFault) (old new : ℕ)
+    → r ≡ Err fault → (told ≡ device) ↔ (fault ≡ Device) → CountsFailure r old new
     → TellsFailures device told old new
 counted device told Device r old new is same counts = record {
   cause = λ _. let up = counts.device is in omega (arith, up);
@@ -22,7 +23,8 @@ counted device told Memory r old new is same counts = record {
 }
 
 -- What it tells of one disk's count, it tells of the sum with another count that stayed.
-pub beside_told : {F : Type 0} (device told : F) (used used_new other other_new : ℕ) → used_new ≡ used → TellsFailures device told other other_new → TellsFailures device told (used + other) (used_new + other_new)
+pub beside_told : {F : Type 0} (device told : F) (used used_new other other_new : ℕ) → used_new ≡ used
+    → TellsFailures device told other other_new → TellsFailures device told (used + other) (used_new + other_new)
 beside_told device told used used_new other other_new same tells = record {
   cause = λ is. let up = tells.cause is in omega (arith, up, same);
   others = λ not. let stays = tells.others not in omega (arith, stays, same);
@@ -36,7 +38,8 @@ left_told device told left mid left_new right right_new same tells other = recor
   others = λ not. (tells.others not ∙ same, other);
 }
 
-pub right_told : {F : Type 0} (device told : F) (left left_new right mid right_new : ℕ) → left_new ≡ left → mid ≡ right → TellsFailures device told mid right_new
+pub right_told : {F : Type 0} (device told : F) (left left_new right mid right_new : ℕ) → left_new ≡ left
+    → mid ≡ right → TellsFailures device told mid right_new
     → TellsFailuresOfTwo device told left right left_new right_new
 right_told device told left left_new right mid right_new other same tells = record {
   cause = λ is. inr (subst (λ n. n < right_new) same (tells.cause is));
@@ -44,7 +47,8 @@ right_told device told left left_new right mid right_new other same tells = reco
 }
 
 -- A fault of no device tells that both counts stayed.
-pub none_told : {F : Type 0} (device told : F) (left left_new right right_new : ℕ) → told ≢ device → left_new ≡ left → right_new ≡ right → TellsFailuresOfTwo device told left right left_new right_new
+pub none_told : {F : Type 0} (device told : F) (left left_new right right_new : ℕ) → told ≢ device
+    → left_new ≡ left → right_new ≡ right → TellsFailuresOfTwo device told left right left_new right_new
 none_told device told left left_new right right_new not same other = record { cause = λ is. absurd (not is); others = λ _. (same, other) }
 
 pub memory_fails_none : faults.Memory ≢ faults.Disk
@@ -54,7 +58,8 @@ pub range_fails_none : faults.LimitRange ≢ faults.Disk
 range_fails_none is = cc
 
 -- What a fault of two disks tells, another one tells that is the device's exactly where that one is.
-pub two_renamed : {F G : Type 0} (device told : F) (failed fault : G) (left right left_new right_new : ℕ) → (told ≡ device) ↔ (fault ≡ failed) → TellsFailuresOfTwo failed fault left right left_new right_new
+pub two_renamed : {F G : Type 0} (device told : F) (failed fault : G) (left right left_new right_new : ℕ)
+    → (told ≡ device) ↔ (fault ≡ failed) → TellsFailuresOfTwo failed fault left right left_new right_new
     → TellsFailuresOfTwo device told left right left_new right_new
 two_renamed device told failed fault left right left_new right_new same tells = record {
   cause = λ is. tells.cause (same.0 is);

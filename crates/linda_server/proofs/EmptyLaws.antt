@@ -65,15 +65,25 @@ gate_made left left_new right right_new l r = record {
 }
 
 -- A whole new bank represents the empty state, where the other disk has none.
-new_stands : (left right : List ℕ) → FitsState written empty_state → IsNoBank right → IsNoneOrNew written 1 (spell_state written empty_state) left → IsNothingOr empty_state left right
+new_stands : (left right : List ℕ) → FitsState written empty_state → IsNoBank right
+    → IsNoneOrNew written 1 (spell_state written empty_state) left → IsNothingOr empty_state left right
 new_stands left right fits none (inl no_bank) = inl (no_bank, none)
 new_stands left right fits none (inr bank) = inr (inl record {
   generation = 1;
-  stands = record { form = written; opening = empty_state; ranges = empty_is_state; fits = fits; records = []; bank = bank; done = none_done empty_state empty_is_state };
+  stands = record {
+    form = written;
+    opening = empty_state;
+    ranges = empty_is_state;
+    fits = fits;
+    records = [];
+    bank = bank;
+    done = none_done empty_state empty_is_state;
+  };
   lesser = inl none;
 })
 
-pub bank_made : (left left_new right right_new : View) → FitsState written empty_state → LeavesOnly left left_new (IsNoneOrNew written 1 (spell_state written empty_state)) → LeavesOnly right right_new (λ image. length image ≤ 1)
+pub bank_made : (left left_new right right_new : View) → FitsState written empty_state
+    → LeavesOnly left left_new (IsNoneOrNew written 1 (spell_state written empty_state)) → LeavesOnly right right_new (λ image. length image ≤ 1)
     → PairsSince (two left right) (two left_new right_new) (IsNothingOr empty_state)
 bank_made left left_new right right_new fits l r = record {
   left_later = l.later;
@@ -81,24 +91,37 @@ bank_made left left_new right right_new fits l r = record {
   each = λ a b x y. new_stands a b fits (few_none b (r.each b y)) (l.each a x);
 }
 
-pub made_up : (end : ℕ) (used other : View) → FitsState written empty_state → IsSettled written 1 (spell_state written empty_state) [] end used → IsShut [] 0 other → IsUp written 1 end used other empty_state
+pub made_up : (end : ℕ) (used other : View) → FitsState written empty_state
+    → IsSettled written 1 (spell_state written empty_state) [] end used → IsShut [] 0 other → IsUp written 1 end used other empty_state
 made_up end used other fits settled shut = record {
   stored = record { opening = empty_state; ranges = empty_is_state; fits = fits; records = []; settled = settled; done = none_done empty_state empty_is_state };
   lesser = inl (no_candidate other.seen shut.file);
   durable = shut.durable;
 }
 
-pub up_as : (form : Form) (generation end : ℕ) (used other : View) (st : State) → form ≡ written → generation ≡ 1 → st ≡ empty_state → IsUp written 1 end used other empty_state → IsUp form generation end used other st
+pub up_as : (form : Form) (generation end : ℕ) (used other : View) (st : State) → form ≡ written → generation ≡ 1
+    → st ≡ empty_state → IsUp written 1 end used other empty_state → IsUp form generation end used other st
 up_as form generation end used other st new first same up =
     subst (λ s. IsUp form generation end used other s) (sym same)
     (subst (λ g. IsUp form g end used other empty_state) (sym first) (subst (λ f. IsUp f 1 end used other empty_state) (sym new) up))
 
-pub kept_as : (is_used_honest is_other_honest : Type 0) (form : Form) (generation end : ℕ) (used other : View) (st : State) → form ≡ written → generation ≡ 1 → st ≡ empty_state → FitsState written empty_state
-    → (is_used_honest → IsSettled written 1 (spell_state written empty_state) [] end used) → (is_other_honest → IsShut [] 0 other) → IsKept is_used_honest is_other_honest form generation end used other st
+pub kept_as : (is_used_honest is_other_honest : Type 0) (form : Form) (generation end : ℕ) (used other : View) (st : State)
+    → form ≡ written → generation ≡ 1 → st ≡ empty_state → FitsState written empty_state
+    → (is_used_honest → IsSettled written 1 (spell_state written empty_state) [] end used)
+    → (is_other_honest → IsShut [] 0 other) → IsKept is_used_honest is_other_honest form generation end used other st
 kept_as is_used_honest is_other_honest form generation end used other st new first same fits settled shut = record {
   stored = λ h.
       subst (λ s. IsStored form generation end used s) (sym same) (subst (λ g. IsStored form g end used empty_state) (sym first)
-      (subst (λ f. IsStored f 1 end used empty_state) (sym new) (record { opening = empty_state; ranges = empty_is_state; fits = fits; records = []; settled = settled h; done = none_done empty_state empty_is_state })));
+      (subst (λ f. IsStored f 1 end used empty_state) (sym new)
+      (record {
+        opening = empty_state;
+        ranges = empty_is_state;
+        fits = fits;
+        records = [];
+        settled =
+            settled h;
+        done = none_done empty_state empty_is_state;
+      })));
   durable = λ h. (shut h).durable;
   lesser = λ _ h. inl (no_candidate other.seen (shut h).file);
 }
@@ -112,12 +135,14 @@ void_durable v timed void image left = void image left ∙ sym (void v.seen time
 pub void_seen : (v : View) → IsTimed v → IsVoid v → v.seen ≡ []
 void_seen v timed void = void v.seen timed.stays
 
-pub then_gate : (old mid new : View) → LeavesOnly old mid (λ image. image ≡ []) → LeavesOnly mid new (λ image. length image ≤ 1) → LeavesOnly old new (λ image. length image ≤ 1)
+pub then_gate : (old mid new : View) → LeavesOnly old mid (λ image. image ≡ [])
+    → LeavesOnly mid new (λ image. length image ≤ 1) → LeavesOnly old new (λ image. length image ≤ 1)
 then_gate old mid new first second =
     joined old mid new (λ image. image ≡ []) (λ image. length image ≤ 1) (λ image. length image ≤ 1) first second
     (λ image none. let long = ap length none in omega (arith, long)) (λ image few. few)
 
-pub then_bank : (old mid new : View) (body : List ℕ) → body ≡ spell_state written empty_state → LeavesOnly old mid (λ image. image ≡ []) → LeavesOnly mid new (IsNoneOrNew written 1 body)
+pub then_bank : (old mid new : View) (body : List ℕ) → body ≡ spell_state written empty_state
+    → LeavesOnly old mid (λ image. image ≡ []) → LeavesOnly mid new (IsNoneOrNew written 1 body)
     → LeavesOnly old new (IsNoneOrNew written 1 (spell_state written empty_state))
 then_bank old mid new body same first second =
     joined old mid new (λ image. image ≡ []) (IsNoneOrNew written 1 body) (IsNoneOrNew written 1 (spell_state written empty_state)) first second

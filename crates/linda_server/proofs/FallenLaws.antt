@@ -23,7 +23,8 @@ use Rattle.linda_server.specs.Disks.{sides, both, disks_of, AreHonest, IsKept, I
 use Rattle.linda_server.specs.Calls.{IsWithOrWithout, StandsFor}
 
 -- Disks that leave no more than two others leave what those leave.
-pub fewer : (left right left_new right_new : View) (P : List ℕ → List ℕ → Type 0) → PairsNow (two left right) P → LeavesNoMore left left_new → LeavesNoMore right right_new
+pub fewer : (left right left_new right_new : View) (P : List ℕ → List ℕ → Type 0) → PairsNow (two left right) P
+    → LeavesNoMore left left_new → LeavesNoMore right right_new
     → PairsNow (two left_new right_new) P
 fewer left right left_new right_new P now fewer_left fewer_right a b la lb = now a b (fewer_left a la) (fewer_right b lb)
 
@@ -36,7 +37,8 @@ pub as_read : (left right : View) (P : List ℕ → List ℕ → Type 0) → IsT
 as_read left right P timed_left timed_right now = now left.seen right.seen timed_left.stays timed_right.stays
 
 -- The state after the deeds stands.
-pub stands_after : (before base now : State) (deeds ds : List Deed) (left right : List ℕ) → before ≡ base → ds ≡ deeds → IsState base → AreDone base deeds now → StandsFor now left right
+pub stands_after : (before base now : State) (deeds ds : List Deed) (left right : List ℕ) → before ≡ base
+    → ds ≡ deeds → IsState base → AreDone base deeds now → StandsFor now left right
     → IsWithOrWithout before ds left right
 stands_after before base now deeds ds left right was same is done some =
     subst (λ b. IsWithOrWithout b ds left right) (sym was) (subst (λ l. IsWithOrWithout base l left right) (sym same)
@@ -48,10 +50,12 @@ not_full x P (inl full) = absurd (search (rules, full))
 not_full x P (inr p) = p
 
 -- What remains of messages remains of the work of them.
-pub of_work : (work : Work) (messages : Vec (ℕ × Message)) (now : List (ℕ × Message)) → work ≡ works.Messages messages → now ≡ messages.items → (before : State) (store : Store) (down : Bool) (lost ds : List Deed)
+pub of_work : (work : Work) (messages : Vec (ℕ × Message)) (now : List (ℕ × Message)) → work ≡ works.Messages messages
+    → now ≡ messages.items → (before : State) (store : Store) (down : Bool) (lost ds : List Deed)
     → MayRemain (shown before store down lost) (comings now) ds → MayRemain (shown before store down lost) (in_hand work) ds
 of_work work messages now is same before store down lost ds remains =
-    subst (λ w. MayRemain (shown before store down lost) (in_hand w) ds) (sym is) (subst (λ ms. MayRemain (shown before store down lost) (comings ms) ds) same remains)
+    subst (λ w. MayRemain (shown before store down lost) (in_hand w) ds) (sym is)
+    (subst (λ ms. MayRemain (shown before store down lost) (comings ms) ds) same remains)
 
 module _ {B D : Type 0} (unbank : B → D) (disk : D → View) (honest : D → Type 0) where
   -- the left disk and the right one
@@ -64,7 +68,8 @@ module _ {B D : Type 0} (unbank : B → D) (disk : D → View) (honest : D → T
   abbrev AreBothHonest : D × D → Type 0
   AreBothHonest x = honest x.0 × honest x.1
 
-  by_side : (is_right : Bool) (bank : B) (other : D) (P : List ℕ → List ℕ → Type 0) → PairsNow (sides is_right (disk (unbank bank)) (disk other)) P → LeaveNow P (placed is_right bank other)
+  by_side : (is_right : Bool) (bank : B) (other : D) (P : List ℕ → List ℕ → Type 0)
+      → PairsNow (sides is_right (disk (unbank bank)) (disk other)) P → LeaveNow P (placed is_right bank other)
   by_side true bank other P now = now
   by_side false bank other P now = now
 
@@ -72,7 +77,8 @@ module _ {B D : Type 0} (unbank : B → D) (disk : D → View) (honest : D → T
   honest_sides true bank other used beside = (beside, used)
   honest_sides false bank other used beside = (used, beside)
 
-  pub apart : (disks : Disks B D) (x : D × D) (P : List ℕ → List ℕ → Type 0) → Some x ≡ disks_of unbank disks → PairsNow (both (λ b. disk (unbank b)) disk disks) P → LeaveNow P x
+  pub apart : (disks : Disks B D) (x : D × D) (P : List ℕ → List ℕ → Type 0) → Some x ≡ disks_of unbank disks
+      → PairsNow (both (λ b. disk (unbank b)) disk disks) P → LeaveNow P x
   apart (InUse pair) x P same now = subst (LeaveNow P) (sym (same_Some x _ same)) (by_side pair.is_right pair.bank pair.other P now)
   apart (Shut left right) x P same now = subst (LeaveNow P) (sym (same_Some x _ same)) now
   apart Away x P same now = absurd (none-some x (sym same))
@@ -92,10 +98,12 @@ module _ {B D : Type 0} (unbank : B → D) (disk : D → View) (honest : D → T
   honest_joined Away x same are = absurd (none-some x (sym same))
 
 -- Disks whose fuse is set hold what they held.
-module _ {B D H : Type 0} (form : B → Form) (generation end : B → ℕ) (held_bank : B → H) (held : D → H) (view : H → View) (honest_bank : B → Type 0) (honest : D → Type 0)
+module _ {B D H : Type 0} (form : B → Form) (generation end : B → ℕ) (held_bank : B → H) (held : D
+    → H) (view : H → View) (honest_bank : B → Type 0) (honest : D → Type 0)
     (all_banks : (b c : B) → honest_bank b → honest_bank c) (all : (d e : D) → honest d → honest e) where
   abbrev Related : Disks B D → Disks B D → Type 0
-  Related old new = AreRelated (λ b c. (form c ≡ form b) × ((generation c ≡ generation b) × ((end c ≡ end b) × (held_bank c ≡ held_bank b)))) (λ d e. held e ≡ held d) old new
+  Related old new = AreRelated (λ b c. (form c ≡ form b) × ((generation c ≡ generation b) × ((end c ≡ end b) × (held_bank c ≡ held_bank b))))
+      (λ d e. held e ≡ held d) old new
 
   abbrev Kept : Disks B D → State → Type 0
   Kept disks st = IsKeptOn form generation end (λ b. view (held_bank b)) (λ d. view (held d)) honest_bank honest disks st
@@ -103,11 +111,16 @@ module _ {B D H : Type 0} (form : B → Form) (generation end : B → ℕ) (held
   pub kept_same : (old new : Disks B D) (st : State) → Related old new → Kept old st → Kept new st
   kept_same (InUse p) (InUse q) st related kept =
       let so : IsKept (honest_bank p.bank) (honest p.other) (form q.bank) (generation q.bank) (end q.bank) (view (held_bank q.bank)) (view (held q.other)) st =
-      subst (λ f. IsKept (honest_bank p.bank) (honest p.other) f (generation q.bank) (end q.bank) (view (held_bank q.bank)) (view (held q.other)) st) (sym related.0.0)
-      (subst (λ g. IsKept (honest_bank p.bank) (honest p.other) (form p.bank) g (end q.bank) (view (held_bank q.bank)) (view (held q.other)) st) (sym related.0.1.0)
-      (subst (λ e. IsKept (honest_bank p.bank) (honest p.other) (form p.bank) (generation p.bank) e (view (held_bank q.bank)) (view (held q.other)) st) (sym related.0.1.1.0)
-      (subst (λ h. IsKept (honest_bank p.bank) (honest p.other) (form p.bank) (generation p.bank) (end p.bank) (view h) (view (held q.other)) st) (sym related.0.1.1.1)
-      (subst (λ h. IsKept (honest_bank p.bank) (honest p.other) (form p.bank) (generation p.bank) (end p.bank) (view (held_bank p.bank)) (view h) st) (sym related.1.0) kept)))) in
+      subst (λ f. IsKept (honest_bank p.bank) (honest p.other) f (generation q.bank) (end q.bank) (view (held_bank q.bank)) (view (held q.other)) st)
+      (sym related.0.0)
+      (subst (λ g. IsKept (honest_bank p.bank) (honest p.other) (form p.bank) g (end q.bank) (view (held_bank q.bank)) (view (held q.other)) st)
+      (sym related.0.1.0)
+      (subst (λ e. IsKept (honest_bank p.bank) (honest p.other) (form p.bank) (generation p.bank) e (view (held_bank q.bank)) (view (held q.other)) st)
+      (sym related.0.1.1.0)
+      (subst (λ h. IsKept (honest_bank p.bank) (honest p.other) (form p.bank) (generation p.bank) (end p.bank) (view h) (view (held q.other)) st)
+      (sym related.0.1.1.1)
+      (subst (λ h. IsKept (honest_bank p.bank) (honest p.other) (form p.bank) (generation p.bank) (end p.bank) (view (held_bank p.bank)) (view h) st)
+      (sym related.1.0) kept)))) in
       record {
         stored = λ h. so.stored (all_banks q.bank p.bank h);
         durable = λ h. so.durable (all q.other p.other h);

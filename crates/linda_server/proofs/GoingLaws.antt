@@ -20,7 +20,8 @@ module _ {D : Type 0} {g : Ghosts D} (old new : Durable D g) where
       ]
 
   -- How the server went, as the fault of a call says.
-  pub how_of : {A : Type 0} (fault : ServeFault) → (IsErrOf {T = A} (Err fault) faults.Full → new ≡ old) → (IsErrOf {T = A} (Err fault) faults.Down ↔ (old.down ≡ true)) → (old.down ≡ true → new ≡ old)
+  pub how_of : {A : Type 0} (fault : ServeFault) → (IsErrOf {T = A} (Err fault) faults.Full → new ≡ old)
+      → (IsErrOf {T = A} (Err fault) faults.Down ↔ (old.down ≡ true)) → (old.down ≡ true → new ≡ old)
       → (IsErrOf {T = A} (Err fault) faults.Disk → new.down ≡ true) × (IsErrOf {T = A} (Err fault) faults.Memory → new.down ≡ true)
       → (fault ≢ faults.Full → old.down ≡ false → new.down ≡ true → Fall old new) → How
   how_of faults.Down full was_down stays goes_down fall = inl (stays (was_down.0 refl))

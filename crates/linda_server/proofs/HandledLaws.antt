@@ -11,7 +11,7 @@ use Rattle.linda_store.specs.declared.node.NodeFault.TheVariants as nodes
 use Rattle.linda_server.specs.declared.durable.Durable.{Durable}
 use Rattle.linda_server.specs.declared.fault.ServeFault.{ServeFault}
 use Rattle.linda_server.specs.declared.fault.ServeFault.TheVariants as faults
-use Rattle.linda_server.specs.declared.served.Served.{Served}
+use Rattle.linda_store_step.specs.declared.served.Served.{Served}
 use Rattle.linda_server.specs.Calls.{HasHandled}
 use Rattle.linda_server.specs.Lives.{Call, serves, rewrites, at_work, at_rest, amid_rest}
 use Rattle.linda_server.specs.Handled.{Serves, Handles, Rewrites, Fails, Falls}
@@ -30,7 +30,8 @@ same_fault e f is = search (rules, is)
 module _ {D : Type 0} {g : Ghosts D} (old new : Durable D g) (fault : ServeFault) (told : NodeFault) (told_as : IsToldAs fault told) where
   -- It is down where it is said to be.
   went_down : {A : Type 0} → (IsErrOf {T = A} (Err fault) faults.Down ↔ (old.down ≡ true)) → (old.down ≡ true → new ≡ old)
-      → (IsErrOf {T = A} (Err fault) faults.Disk → new.down ≡ true) × (IsErrOf {T = A} (Err fault) faults.Memory → new.down ≡ true) → fault ≢ faults.Full → new.down ≡ true
+      → (IsErrOf {T = A} (Err fault) faults.Disk → new.down ≡ true) × (IsErrOf {T = A} (Err fault) faults.Memory → new.down ≡ true)
+      → fault ≢ faults.Full → new.down ≡ true
   went_down was_down stays goes_down not_full = by fault not_full was_down goes_down
     where
       by : {A : Type 0} (f : ServeFault) → f ≢ faults.Full → (IsErrOf {T = A} (Err f) faults.Down ↔ (old.down ≡ true))
@@ -49,7 +50,8 @@ module _ {D : Type 0} {g : Ghosts D} (old new : Durable D g) (fault : ServeFault
 module _ {D : Type 0} {g : Ghosts D} (timed : (d : D) → g.honest d → IsTimed (g.view d)) (old new : Durable D g) where
   -- ---- messages
 
-  pub handles_well : (ms : List (ℕ × Message)) (served : Served) (sends : Vec (ℕ × Reply)) → sends ≡ served.sends → Serves old ms (Ok served) new → Handles old ms (Ok sends) new
+  pub handles_well : (ms : List (ℕ × Message)) (served : Served) (sends : Vec (ℕ × Reply))
+      → sends ≡ served.sends → Serves old ms (Ok served) new → Handles old ms (Ok sends) new
   handles_well ms served sends same so =
       let items = ap (λ (v : Vec (ℕ × Reply)). v.items) same in
       record {
@@ -71,7 +73,8 @@ module _ {D : Type 0} {g : Ghosts D} (timed : (d : D) → g.honest d → IsTimed
             (λ up. cut_at_work timed old new (comings ms) (so.any_moment up));
       }
 
-  pub handles_not : (ms : List (ℕ × Message)) (fault : ServeFault) (told : NodeFault) → IsToldAs fault told → Serves old ms (Err fault) new → Handles old ms (Err told) new
+  pub handles_not : (ms : List (ℕ × Message)) (fault : ServeFault) (told : NodeFault) → IsToldAs fault told
+      → Serves old ms (Err fault) new → Handles old ms (Err told) new
   handles_not ms fault told told_as so = record {
     any_moment = so.any_moment;
     done = tt;
@@ -111,7 +114,8 @@ module _ {D : Type 0} {g : Ghosts D} (timed : (d : D) → g.honest d → IsTimed
     life = goes_on_well timed (λ (x : T). []) old new [] done so.up.0 so.up.1 (rewrites so.same.0) (λ up orderly. ([], amid_rest (so.any_moment up)));
   }
 
-  pub falls_so : {T : Type 0} (fault : ServeFault) (told : NodeFault) → IsToldAs fault told → Rewrites {T = T} old (Err fault) new → Fails {T = T} old (Err fault) new
+  pub falls_so : {T : Type 0} (fault : ServeFault) (told : NodeFault) → IsToldAs fault told
+      → Rewrites {T = T} old (Err fault) new → Fails {T = T} old (Err fault) new
       → (IsErrOf {T = T} (Err fault) faults.Full → new ≡ old) → Falls {T = T} old (Err told) new
   falls_so {T = T} fault told told_as so fails full = record {
     down = λ e. went_down old new fault told told_as fails.was_down fails.stays_down fails.goes_down (told_as.down.0 (same_fault told nodes.Down e));

@@ -24,8 +24,10 @@ use Rattle.linda_server.specs.Lives.{AreLeft}
 
 -- What stands is no bank's lack.
 not_none : (left right : List ℕ) (st : State) → Stands left right st → IsNoBank left × IsNoBank right → ⊥
-not_none left right st (inl first) none = none.0 (is_candidate first.stands.form left first.generation (spell_state first.stands.form first.stands.opening) first.stands.records first.stands.bank)
-not_none left right st (inr first) none = none.1 (is_candidate first.stands.form right first.generation (spell_state first.stands.form first.stands.opening) first.stands.records first.stands.bank)
+not_none left right st (inl first) none =
+    none.0 (is_candidate first.stands.form left first.generation (spell_state first.stands.form first.stands.opening) first.stands.records first.stands.bank)
+not_none left right st (inr first) none =
+    none.1 (is_candidate first.stands.form right first.generation (spell_state first.stands.form first.stands.opening) first.stands.records first.stands.bank)
 
 -- Where there is nothing or the empty state, what stands is that one.
 pub empty_stands : (left right : List ℕ) (st : State) → Stands left right st → IsNothingOr empty_state left right → st ≡ empty_state
@@ -46,11 +48,13 @@ at_work_there old xs all left right orderly happens some = ∥∥₁_map some ar
           done = record { proper = safe.proper; after = safe.after };
           stands = elim x [
             | inl before ↦ inl before
-            | inr after ↦ inr (subst (λ (h : History). Stands left right h.state) (one_outcome old.state old.soft xs after.all all orderly after.happens happens) after.stands)
+            | inr after ↦ inr (subst (λ (h : History). Stands left right h.state)
+                (one_outcome old.state old.soft xs after.all all orderly after.happens happens) after.stands)
           ];
         }
 
-timed_sides : (is_right : Bool) (used other : View) → IsTimed used → IsTimed other → IsTimed (sides is_right used other).left × IsTimed (sides is_right used other).right
+timed_sides : (is_right : Bool) (used other : View) → IsTimed used → IsTimed other
+    → IsTimed (sides is_right used other).left × IsTimed (sides is_right used other).right
 timed_sides true used other timed_used timed = (timed, timed_used)
 timed_sides false used other timed_used timed = (timed_used, timed)
 
@@ -61,10 +65,12 @@ module _ {D : Type 0} {g : Ghosts D} (timed : (d : D) → g.honest d → IsTimed
   timed_both Away are = absurd are
 
   -- What crashes since leave, two disks after them leave.
-  pub left_since : (old new : Both) (P : List ℕ → List ℕ → Type 0) (left right : D) → PairsSince old new P → AreLeft g old new left right → PairsNow (two (g.view left) (g.view right)) P
+  pub left_since : (old new : Both) (P : List ℕ → List ℕ → Type 0) (left right : D) → PairsSince old new P
+      → AreLeft g old new left right → PairsNow (two (g.view left) (g.view right)) P
   left_since old new P left right since are a b la rb = since.each a b (are.left_was a la) (are.right_was b rb)
 
-  pub left_now : (disks : Disks (Bank D g) D) (P : List ℕ → List ℕ → Type 0) (left right : D) → BothHonest disks → PairsNow (both_of disks) P → AreLeft g (both_of disks) (both_of disks) left right
+  pub left_now : (disks : Disks (Bank D g) D) (P : List ℕ → List ℕ → Type 0) (left right : D)
+      → BothHonest disks → PairsNow (both_of disks) P → AreLeft g (both_of disks) (both_of disks) left right
       → PairsNow (two (g.view left) (g.view right)) P
   left_now disks P left right honest now are a b la rb =
       let times = timed_both disks honest in

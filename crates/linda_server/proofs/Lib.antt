@@ -1,11 +1,10 @@
 pub mod PairLaws
-pub mod ServedLaws
 pub mod CallLaws
 pub mod EmptyLaws
 pub mod OpeningLaws
 mod ReopeningLaws
 mod SwitchLaws
-mod AheadLaws
+mod PreallocationLaws
 mod NextLaws
 mod SteppingLaws
 mod RewritesLaws
@@ -14,6 +13,7 @@ pub mod NodeLaws
 pub mod FallenLaws
 mod AgainLaws
 mod LeftLaws
+mod KnownLaws
 mod LivesLaws
 mod GoingLaws
 mod HandledLaws

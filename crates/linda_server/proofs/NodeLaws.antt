@@ -1,5 +1,6 @@
 -- What a durable server answers as a node.
-use Rattle.std.proofs.Common.{◌≡◌, ◌≢◌, ℕ, inl, inr, Bool, true, false, List, [], ◌∷◌, ◌++◌, length, Result, Ok, Err, IfOk, OnOk, OnErr, IsErrOf, None, refl, sym, ap, ◌∙◌, subst, append-nil, arith}
+use Rattle.std.proofs.Common.{◌≡◌, ◌≢◌, ℕ, inl, inr, Bool, true, false, List, [], ◌∷◌, ◌++◌, length, Result, Ok, Err}
+use Rattle.std.proofs.Common.{IfOk, OnOk, OnErr, IsErrOf, None, refl, sym, ap, ◌∙◌, subst, append-nil, arith}
 use Rattle.std.proofs.lemmas.Bool.{cond-true, cond-false}
 use Rattle.std.proofs.lemmas.List.Elements.{All-nil}
 use Rattle.linda_tuple.specs.declared.form.Form.{Form}
@@ -50,7 +51,8 @@ module _ (before after : State) (old new : Store) (was_down is_down : Bool) (los
   state_of_new up = cond-false is_down _ _ up
 
   -- What came was done.
-  pub has_done_it : (xs : List Coming) (ds : List Deed) (sends : List (ℕ × Reply)) → was_down ≡ false → is_down ≡ false → Happens old.state old.soft xs (history_of new.state new.soft ds sends)
+  pub has_done_it : (xs : List Coming) (ds : List Deed) (sends : List (ℕ × Reply)) → was_down ≡ false
+      → is_down ≡ false → Happens old.state old.soft xs (history_of new.state new.soft ds sends)
       → IsDone Old xs ds sends New
   has_done_it xs ds sends was_up is_up happens = record {
     was_up = was_up;
@@ -61,7 +63,8 @@ module _ (before after : State) (old new : Store) (was_down is_down : Bool) (los
   }
 
   -- It is down.
-  pub has_gone_down : (xs : List Coming) → is_down ≡ true → (was_down ≡ true → New ≡ Old) → (was_down ≡ false → after ≡ old.state) → (was_down ≡ false → MayRemain Old xs still_lost)
+  pub has_gone_down : (xs : List Coming) → is_down ≡ true → (was_down ≡ true → New ≡ Old)
+      → (was_down ≡ false → after ≡ old.state) → (was_down ≡ false → MayRemain Old xs still_lost)
       → WentDown Old xs New
   has_gone_down xs down same before_is remains = record {
     is_down = down;
@@ -111,8 +114,10 @@ module _ (before after : State) (old new : Store) (was_down is_down : Bool) (los
         by (Err faults.Down) e = ([], (has_gone_down xs (down e) (λ d. (stays d).1) (λ u. before_is u (down e)) (λ u. remains u (down e)), refl))
 
   -- The closing of a client.
-  pub closes : (client : ℕ) (r : Result (Vec (ℕ × Reply)) NodeFault) → IfOk r (λ sends. record { sends = sends.items; soft = new.soft } ≡ on_close old.state.bag client old.soft) → new.state ≡ old.state
-      → OnOk r ((was_down ≡ false) × (is_down ≡ false)) → (IsErrOf r faults.Full → ⊥) → (IsErrOf r faults.Down → is_down ≡ true) → (was_down ≡ true → IsErrOf r faults.Down × (New ≡ Old))
+  pub closes : (client : ℕ) (r : Result (Vec (ℕ × Reply)) NodeFault)
+      → IfOk r (λ sends. record { sends = sends.items; soft = new.soft } ≡ on_close old.state.bag client old.soft) → new.state ≡ old.state
+      → OnOk r ((was_down ≡ false) × (is_down ≡ false)) → (IsErrOf r faults.Full → ⊥)
+      → (IsErrOf r faults.Down → is_down ≡ true) → (was_down ≡ true → IsErrOf r faults.Down × (New ≡ Old))
       → (was_down ≡ false → is_down ≡ true → after ≡ old.state) → (was_down ≡ false → is_down ≡ true → MayRemain Old (hangs_up client ∷ []) still_lost)
       → Closes Old client (node_answer r) New
   closes client (Ok sends) done same up full down stays before_is remains =
@@ -123,7 +128,8 @@ module _ (before after : State) (old new : Store) (was_down is_down : Bool) (los
       has_gone_down (hangs_up client ∷ []) (down refl) (λ d. (stays d).1) (λ u. before_is u (down refl)) (λ u. remains u (down refl))
 
   -- A snapshot.
-  pub snaps : (r : Result (Unit {0}) NodeFault) → new ≡ old → (was_down ≡ false → lost ≡ []) → (is_down ≡ false → still_lost ≡ []) → OnOk r ((was_down ≡ false) × (is_down ≡ false))
+  pub snaps : (r : Result (Unit {0}) NodeFault) → new ≡ old → (was_down ≡ false → lost ≡ [])
+      → (is_down ≡ false → still_lost ≡ []) → OnOk r ((was_down ≡ false) × (is_down ≡ false))
       → (IsErrOf r faults.Full → New ≡ Old) → (IsErrOf r faults.Down → is_down ≡ true) → (was_down ≡ true → IsErrOf r faults.Down × (New ≡ Old))
       → (was_down ≡ false → is_down ≡ true → (after ≡ old.state) × (still_lost ≡ [])) → Snaps Old r New
   snaps (Ok done) same none still_none up full down stays falls = (up.0, by_up up.0 up.1)
@@ -169,7 +175,8 @@ module _ (before after : State) (old new : Store) (was_down is_down : Bool) (los
     still_down mid was so =
         has_gone_down xs so.0 (λ d. same_node mid d so.2 (was d) so.0 so.1 so.3) (λ u. so.1 ∙ base_up u) (λ u. subst (MayRemain Old xs) (sym so.3) (remains u))
 
-    pub stops : (mid : Store) (r : Result (Vec Deed) NodeFault) → (was_down ≡ true → mid ≡ old) → IfOk r (λ ds. IsReopened base cut ds.items new) → OnOk r (is_down ≡ false)
+    pub stops : (mid : Store) (r : Result (Vec Deed) NodeFault) → (was_down ≡ true → mid ≡ old)
+        → IfOk r (λ ds. IsReopened base cut ds.items new) → OnOk r (is_down ≡ false)
         → OnErr r ((is_down ≡ true) × (after ≡ base) × (new ≡ mid) × (still_lost ≡ cut)) → (IsErrOf r faults.Full → ⊥) → Stops Old xs r New
     stops mid (Ok ds) was reopened up down full = opened ds.items up reopened
     stops mid (Err faults.Full) was reopened up down full = absurd (full refl)

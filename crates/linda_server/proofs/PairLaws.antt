@@ -57,29 +57,51 @@ beside_lesser form generation end used other st up timed beside left =
 
 -- ---- records more
 
-deeds_more : (opening : State) (records : List (List Deed)) (deeds : List Deed) (more : List (List Deed)) (now : State) → AreIn deeds more → AreDone opening (deeds_in records ++ deeds) now → AreDone opening (deeds_in (records ++ more)) now
+deeds_more : (opening : State) (records : List (List Deed)) (deeds : List Deed) (more : List (List Deed)) (now : State)
+    → AreIn deeds more → AreDone opening (deeds_in records ++ deeds) now → AreDone opening (deeds_in (records ++ more)) now
 deeds_more opening records deeds more now are =
     subst (λ ds. AreDone opening ds now) (sym (flat_map-append (λ (ds : List Deed). ds) records more ∙ ap (λ l. deeds_in records ++ l) are.all))
 
-module _ (form : Form) (generation end : ℕ) (used other : View) (st now : State) (deeds : List Deed) (up : IsUp form generation end used other st) (leads : LeadTo st deeds now) where
+module _ (form : Form) (generation end : ℕ) (used other : View) (st now : State) (deeds : List Deed)
+    (up : IsUp form generation end used other st) (leads : LeadTo st deeds now) where
   done_more : (more : List (List Deed)) → AreIn deeds more → AreDone up.stored.opening (deeds_in (up.stored.records ++ more)) now
   done_more more are =
       deeds_more up.stored.opening up.stored.records deeds more now are
       (leads up.stored.opening (deeds_in up.stored.records) up.stored.ranges up.stored.done)
 
-  used_for : (image beside : List ℕ) → IsLesser generation beside → IsOldOrAll form generation (spell_state form up.stored.opening) up.stored.records deeds image → IsUsedFor st now image beside
+  used_for : (image beside : List ℕ) → IsLesser generation beside
+      → IsOldOrAll form generation (spell_state form up.stored.opening) up.stored.records deeds image → IsUsedFor st now image beside
   used_for image beside lesser (inl bank) = inl record {
     generation = generation;
-    stands = record { form = form; opening = up.stored.opening; ranges = up.stored.ranges; fits = up.stored.fits; records = up.stored.records; bank = bank; done = up.stored.done };
+    stands = record {
+      form = form;
+      opening = up.stored.opening;
+      ranges = up.stored.ranges;
+      fits =
+          up.stored.fits;
+      records = up.stored.records;
+      bank = bank;
+      done = up.stored.done;
+    };
     lesser = lesser;
   }
   used_for image beside lesser (inr new) = inr record {
     generation = generation;
-    stands = record { form = form; opening = up.stored.opening; ranges = up.stored.ranges; fits = up.stored.fits; records = up.stored.records ++ new.0; bank = new.2; done = done_more new.0 new.1 };
+    stands = record {
+      form = form;
+      opening = up.stored.opening;
+      ranges = up.stored.ranges;
+      fits =
+          up.stored.fits;
+      records = up.stored.records ++ new.0;
+      bank = new.2;
+      done = done_more new.0 new.1;
+    };
     lesser = lesser;
   }
 
-  one_more : (is_right : Bool) (new : View) → IsTimed other → LeavesOnly used new (IsOldOrAll form generation (spell_state form up.stored.opening) up.stored.records deeds)
+  one_more : (is_right : Bool) (new : View) → IsTimed other
+      → LeavesOnly used new (IsOldOrAll form generation (spell_state form up.stored.opening) up.stored.records deeds)
       → PairsSince (sides is_right used other) (sides is_right new other) (IsOldOrNew st now)
   one_more is_right new timed run =
       on_sides is_right used new other (IsUsedFor st now) (IsOldOrNew st now) run.later
@@ -87,19 +109,23 @@ module _ (form : Form) (generation end : ℕ) (used other : View) (st now : Stat
       (either_same st now) (either_turned st now)
 
 -- No record more.
-pub stored_same : (form : Form) (generation end : ℕ) (used : View) (st now : State) → LeadTo st [] now → IsStored form generation end used st → IsStored form generation end used now
+pub stored_same : (form : Form) (generation end : ℕ) (used : View) (st now : State) → LeadTo st [] now
+    → IsStored form generation end used st → IsStored form generation end used now
 stored_same form generation end used st now leads stored = record {
   opening = stored.opening;
   ranges = stored.ranges;
   fits = stored.fits;
   records = stored.records;
   settled = stored.settled;
-  done = subst (λ ds. AreDone stored.opening ds now) (append-nil (deeds_in stored.records)) (leads stored.opening (deeds_in stored.records) stored.ranges stored.done);
+  done = subst (λ ds. AreDone stored.opening ds now) (append-nil (deeds_in stored.records))
+      (leads stored.opening (deeds_in stored.records) stored.ranges stored.done);
 }
 
 -- Records more.
-pub stored_more : (form : Form) (generation end : ℕ) (used : View) (st now : State) (deeds : List Deed) → (stored : IsStored form generation end used st) → LeadTo st deeds now
-    → (new_form : Form) (new_generation new_end : ℕ) (new : View) → new_form ≡ form → IsSettledWithAll new_form new_generation (spell_state form stored.opening) stored.records deeds new_end new
+pub stored_more : (form : Form) (generation end : ℕ) (used : View) (st now : State) (deeds : List Deed)
+    → (stored : IsStored form generation end used st) → LeadTo st deeds now
+    → (new_form : Form) (new_generation new_end : ℕ) (new : View) → new_form ≡ form
+    → IsSettledWithAll new_form new_generation (spell_state form stored.opening) stored.records deeds new_end new
     → IsStored new_form new_generation new_end new now
 stored_more form generation end used st now deeds stored leads new_form new_generation new_end new same with_all =
     subst (λ f. IsStored f new_generation new_end new now) (sym same) (record {
@@ -108,7 +134,8 @@ stored_more form generation end used st now deeds stored leads new_form new_gene
       fits = stored.fits;
       records = stored.records ++ with_all.more;
       settled = subst (λ f. IsSettled f new_generation (spell_state form stored.opening) (stored.records ++ with_all.more) new_end new) same with_all.settled;
-      done = deeds_more stored.opening stored.records deeds with_all.more now with_all.are (leads stored.opening (deeds_in stored.records) stored.ranges stored.done);
+      done = deeds_more stored.opening stored.records deeds with_all.more now with_all.are
+          (leads stored.opening (deeds_in stored.records) stored.ranges stored.done);
     })
 
 -- What stands now.
@@ -117,7 +144,15 @@ pub left_for : (form : Form) (generation end : ℕ) (used other : View) (st : St
 left_for form generation end used other st up image beside l o = record {
   generation = generation;
   stands = subst (λ file. StandsOn file generation st) (sym (up.stored.settled.durable image l))
-      (record { form = form; opening = up.stored.opening; ranges = up.stored.ranges; fits = up.stored.fits; records = up.stored.records; bank = up.stored.settled.file; done = up.stored.done });
+      (record {
+        form = form;
+        opening = up.stored.opening;
+        ranges = up.stored.ranges;
+        fits = up.stored.fits;
+        records = up.stored.records;
+        bank = up.stored.settled.file;
+        done = up.stored.done;
+      });
   lesser = subst (IsLesser generation) (sym (up.durable beside o)) up.lesser;
 }
 
@@ -140,8 +175,10 @@ module _ {D : Type 0} {g : Ghosts D} (timed : (d : D) → g.honest d → IsTimed
   pub still : (disks : Disks (Bank D g) D) (st : State) → BothHonest disks → IsUpFor disks st
       → PairsSince (both_of disks) (both_of disks) (λ left right. Stands left right st)
   still (InUse pair) st are up =
-      on_sides pair.is_right (g.view pair.bank.disk) (g.view pair.bank.disk) (g.view pair.other) (λ image beside. IsInUse image beside st) (λ left right. Stands left right st) (omega arith)
-      (stands_for pair.bank.form pair.bank.generation pair.bank.end (g.view pair.bank.disk) (g.view pair.other) st up (timed pair.bank.disk are.0) (timed pair.other are.1))
+      on_sides pair.is_right (g.view pair.bank.disk) (g.view pair.bank.disk) (g.view pair.other)
+      (λ image beside. IsInUse image beside st) (λ left right. Stands left right st) (omega arith)
+      (stands_for pair.bank.form pair.bank.generation pair.bank.end (g.view pair.bank.disk)
+      (g.view pair.other) st up (timed pair.bank.disk are.0) (timed pair.other are.1))
       (λ image beside x. inl x) (λ image beside x. inr x)
   still (Shut left right) st are up = absurd up
   still Away st are up = absurd up
@@ -149,7 +186,8 @@ module _ {D : Type 0} {g : Ghosts D} (timed : (d : D) → g.honest d → IsTimed
   -- Now it stands.
   pub stands_now : (disks : Disks (Bank D g) D) (st : State) → IsUpFor disks st → PairsNow (both_of disks) (λ left right. Stands left right st)
   stands_now (InUse pair) st up =
-      now_on_sides pair.is_right (g.view pair.bank.disk) (g.view pair.other) st (left_for pair.bank.form pair.bank.generation pair.bank.end (g.view pair.bank.disk) (g.view pair.other) st up)
+      now_on_sides pair.is_right (g.view pair.bank.disk) (g.view pair.other) st
+      (left_for pair.bank.form pair.bank.generation pair.bank.end (g.view pair.bank.disk) (g.view pair.other) st up)
   stands_now (Shut left right) st up = absurd up
   stands_now Away st up = absurd up
 
@@ -168,7 +206,8 @@ module _ {D : Type 0} {g : Ghosts D} (timed : (d : D) → g.honest d → IsTimed
   pub kept_still : (disks : Disks (Bank D g) D) (st now : State) (deeds : List Deed) → deeds ≡ [] → IsKeptFor disks st → LeadTo st deeds now
       → IsKeptFor disks now
   kept_still (InUse pair) st now deeds none kept leads = record {
-    stored = λ h. stored_same pair.bank.form pair.bank.generation pair.bank.end (g.view pair.bank.disk) st now (subst (λ ds. LeadTo st ds now) none leads) (kept.stored h);
+    stored = λ h. stored_same pair.bank.form pair.bank.generation pair.bank.end (g.view pair.bank.disk) st now
+        (subst (λ ds. LeadTo st ds now) none leads) (kept.stored h);
     durable = kept.durable;
     lesser = kept.lesser;
   }
@@ -177,7 +216,8 @@ module _ {D : Type 0} {g : Ghosts D} (timed : (d : D) → g.honest d → IsTimed
 
   -- Deeds go onto the bank in use.
   pub put_on : (disks : Disks (Bank D g) D) (pair : Pair (Bank D g) D) (new : View) (deeds : List Deed) → disks ≡ InUse pair
-      → ((body : List ℕ) (records : List (List Deed)) → g.honest pair.bank.disk → IsSettled pair.bank.form pair.bank.generation body records pair.bank.end (g.view pair.bank.disk)
+      → ((body : List ℕ) (records : List (List Deed)) → g.honest pair.bank.disk
+      → IsSettled pair.bank.form pair.bank.generation body records pair.bank.end (g.view pair.bank.disk)
       → LeavesOnly (g.view pair.bank.disk) new (IsOldOrAll pair.bank.form pair.bank.generation body records deeds))
       → (st now : State) → BothHonest disks → IsUpFor disks st → LeadTo st deeds now
       → PairsSince (both_of disks) (sides pair.is_right new (g.view pair.other)) (IsOldOrNew st now)
@@ -185,13 +225,16 @@ module _ {D : Type 0} {g : Ghosts D} (timed : (d : D) → g.honest d → IsTimed
       let are_so : BothHonest (InUse pair) = subst (BothHonest) is are in
       let up_so : IsUpFor (InUse pair) st = subst (λ d. IsUpFor d st) is up in
       subst (λ d. PairsSince (both_of d) (sides pair.is_right new (g.view pair.other)) (IsOldOrNew st now)) (sym is)
-      (one_more pair.bank.form pair.bank.generation pair.bank.end (g.view pair.bank.disk) (g.view pair.other) st now deeds up_so leads pair.is_right new (timed pair.other are_so.1)
+      (one_more pair.bank.form pair.bank.generation pair.bank.end (g.view pair.bank.disk)
+      (g.view pair.other) st now deeds up_so leads pair.is_right new (timed pair.other are_so.1)
       (any_moment (spell_state pair.bank.form up_so.stored.opening) up_so.stored.records are_so.0 up_so.stored.settled))
 
-  pub kept_on : (disks : Disks (Bank D g) D) (pair : Pair (Bank D g) D) (is_new_honest : Type 0) (new_form : Form) (new_generation new_end : ℕ) (new : View) (deeds : List Deed) → disks ≡ InUse pair
+  pub kept_on : (disks : Disks (Bank D g) D) (pair : Pair (Bank D g) D) (is_new_honest : Type 0)
+      (new_form : Form) (new_generation new_end : ℕ) (new : View) (deeds : List Deed) → disks ≡ InUse pair
       → new_form ≡ pair.bank.form → new_generation ≡ pair.bank.generation
       → (is_new_honest → g.honest pair.bank.disk)
-      → ((body : List ℕ) (records : List (List Deed)) → g.honest pair.bank.disk → IsSettled pair.bank.form pair.bank.generation body records pair.bank.end (g.view pair.bank.disk)
+      → ((body : List ℕ) (records : List (List Deed)) → g.honest pair.bank.disk
+      → IsSettled pair.bank.form pair.bank.generation body records pair.bank.end (g.view pair.bank.disk)
       → IsSettledWithAll new_form new_generation body records deeds new_end new)
       → (st now : State) → IsKeptFor disks st → LeadTo st deeds now
       → IsKept is_new_honest (g.honest pair.other) new_form new_generation new_end new (g.view pair.other) now
@@ -200,7 +243,8 @@ module _ {D : Type 0} {g : Ghosts D} (timed : (d : D) → g.honest d → IsTimed
       record {
         stored = λ h.
             let stored = so.stored (was h) in
-            stored_more pair.bank.form pair.bank.generation pair.bank.end (g.view pair.bank.disk) st now deeds stored leads new_form new_generation new_end new same_form
+            stored_more pair.bank.form pair.bank.generation pair.bank.end (g.view pair.bank.disk) st
+            now deeds stored leads new_form new_generation new_end new same_form
             (done (spell_state pair.bank.form stored.opening) stored.records (was h) stored.settled);
         durable = so.durable;
         lesser = λ h o. subst (λ n. IsLesser n (g.view pair.other).seen) (sym same) (so.lesser (was h) o);

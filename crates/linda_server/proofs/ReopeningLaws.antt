@@ -1,12 +1,14 @@
 -- The last number that is kept of one client says whether the deeds of a call were lost.
-use Rattle.std.proofs.Common.{◌≡◌, ℕ, suc, ◌-◌, ◌<◌, ◌≤◌, ◌⊎◌, inl, inr, Bool, true, false, nat_le, if◌then◌else◌, List, [], ◌∷◌, ◌++◌, length, Some, refl, sym, ap, subst, ◌∙◌, append_assoc, append-nil, arith, true≢false}
+use Rattle.std.proofs.Common.{◌≡◌, ℕ, suc, ◌-◌, ◌<◌, ◌≤◌, ◌⊎◌, inl, inr, Bool, true, false, nat_le, if◌then◌else◌, List}
+use Rattle.std.proofs.Common.{[], ◌∷◌, ◌++◌, length, Some, refl, sym, ap, subst, ◌∙◌, append_assoc, append-nil, arith}
+use Rattle.std.proofs.Common.{true≢false}
 use Rattle.std.proofs.Math.Logic.{∥∥₁_elim}
 use Rattle.std.proofs.lemmas.Bool.{cases_eq, le-leb, lt-leb}
 use Rattle.std.specs.Coded.{Coded-set, coded_option, coded_ℕ, coded×}
 use Rattle.std.specs.List.{slice_get}
 use Rattle.std.specs.FinMap.{get}
 use Rattle.linda_tuple.specs.Codes.{tuple_code}
-use Rattle.linda_maps.proofs.MapLaws.{get_same, get_other}
+use Rattle.linda_map_laws.proofs.MapLaws.{get_same, get_other}
 use Rattle.linda_book.specs.Entries.{number_in}
 use Rattle.linda_book.specs.Codes.{kept_code}
 use Rattle.linda_store_state.specs.declared.deed.Deed.{Deed}
@@ -45,7 +47,8 @@ one_rises st d c allowed =
     ]
 
 -- Over deeds that may be done no number falls.
-rises : (st : State) (c : ℕ) → IsState st → (before rest : List Deed) (mid new : State) → AreDone st before mid → AreDone st (before ++ rest) new → number_at c mid ≤ number_at c new
+rises : (st : State) (c : ℕ) → IsState st → (before rest : List Deed) (mid new : State) → AreDone st before mid
+    → AreDone st (before ++ rest) new → number_at c mid ≤ number_at c new
 rises st c is before [] mid new at_mid all =
     let same : mid ≡ new = one_after st before mid new at_mid.after (subst (λ l. IsAfter st l new) (append-nil before) all.after) in
     let at_c = ap (number_at c) same in
@@ -130,7 +133,8 @@ by_test before new st (d ∷ ds) false e is all (inr same) =
     absurd (true≢false (sym (subst (λ s. has_done s (d ∷ ds) ≡ true) same (done_then before new d ds is all)) ∙ e))
 
 -- It is so of two disks that represent one of the two.
-pub reopened : (before st : State) (lost : List Deed) (left right : List ℕ) (b : Bool) → has_done st lost ≡ b → IsWithOrWithout before lost left right → Stands left right st
+pub reopened : (before st : State) (lost : List Deed) (left right : List ℕ) (b : Bool) → has_done st lost ≡ b
+    → IsWithOrWithout before lost left right → Stands left right st
     → IsAfter before (if b then lost else []) st
 reopened before st lost left right b e some stands = record {
   bag = λ id. ∥∥₁_elim some (Coded-set (coded_option tuple_code) _ _) (λ x. (so x).bag id);
@@ -146,8 +150,10 @@ reopened before st lost left right b e some stands = record {
     so x = by_test before x.new st lost b e x.ranges x.done (which x.new x.stands)
 
 -- What comes back, as the test says.
-pub came_back : (before : State) (lost mine ds : List Deed) (server : Store) (left right : List ℕ) (st : State) (b result : Bool) → result ≡ has_done st mine → result ≡ b → st ≡ server.state → mine ≡ lost
-    → ds ≡ if b then lost else [] → IsWithOrWithout before lost left right → Stands left right server.state → server.soft ≡ no_asks → IsReopened before lost ds server
+pub came_back : (before : State) (lost mine ds : List Deed) (server : Store) (left right : List ℕ) (st : State) (b result : Bool)
+    → result ≡ has_done st mine → result ≡ b → st ≡ server.state → mine ≡ lost
+    → ds ≡ if b then lost else [] → IsWithOrWithout before lost left right → Stands left right server.state
+    → server.soft ≡ no_asks → IsReopened before lost ds server
 came_back before lost mine ds server left right st b result test is state_is lost_is ds_is some stands soft = record {
   which = by_side b ds_is;
   after = subst (λ l. IsAfter before l server.state) (sym ds_is) (reopened before server.state lost left right b told some stands);

@@ -95,7 +95,19 @@ module _ (D : Type 0) (g : Ghosts D) (s : Durable D g) where
       one_fallen = hlevel props
 
   abbrev kept_here : Keeps s.disks s.copy
-  kept_here = record { there = s.there; bounded = s.bounded; live = s.live; ready = s.ready; limited = s.limited; none_lost = s.none_lost; kept = s.kept; begun = s.begun; copied = s.copied; fallen = s.fallen }
+  kept_here = record {
+    there = s.there;
+    bounded = s.bounded;
+    live = s.live;
+    ready = s.ready;
+    limited =
+        s.limited;
+    none_lost = s.none_lost;
+    kept = s.kept;
+    begun = s.begun;
+    copied = s.copied;
+    fallen = s.fallen;
+  }
 
   -- With the same disks and the same copy it is the same server.
   pub same_with : (disks : Disks (Bank D g) D) (copy : Option BookCopy) → s.disks ≡ disks → s.copy ≡ copy → (k : Keeps disks copy) → with_disks disks copy k ≡ s

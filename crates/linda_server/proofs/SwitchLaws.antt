@@ -24,7 +24,6 @@ use Rattle.linda_server.specs.Disks.{sides, IsKept}
 use Rattle.linda_server.specs.Calls.{StandsFor, IsWithOrWithout}
 use Rattle.linda_server.specs.Switch.{IsOtherDurable}
 use Rattle.linda_server.specs.Server.{both_of, BothHonest, IsUpFor, IsKeptFor}
-use Rattle.linda_server.proofs.CallLaws.{from_some, up_for}
 
 abbrev For : State → List ℕ → List ℕ → Type 0
 For st left right = Stands left right st
@@ -36,12 +35,14 @@ swapped left right st (inr is) = inl is
 
 module _ (form : Form) (generation end : ℕ) (used other : View) (st : State) (up : IsUp form generation end used other st) (timed : IsTimed used) where
   -- The bank in use is as it was, whenever it crashes.
-  stands_with : (new : View) → LeavesOnly other new (StandsBeside used.seen st) → (image beside : List ℕ) → used.left_since used.moment image → new.left_since other.moment beside
+  stands_with : (new : View) → LeavesOnly other new (StandsBeside used.seen st) → (image beside : List ℕ)
+      → used.left_since used.moment image → new.left_since other.moment beside
       → Stands image beside st
   stands_with new run image beside left later =
       subst (λ file. Stands file beside st) (sym (up.stored.settled.durable image (timed.only_now image left))) (run.each beside later)
 
-  beside_used : (is_right : Bool) (new : View) → LeavesOnly other new (StandsBeside used.seen st) → PairsSince (sides is_right used other) (sides is_right used new) (For st)
+  beside_used : (is_right : Bool) (new : View) → LeavesOnly other new (StandsBeside used.seen st)
+      → PairsSince (sides is_right used other) (sides is_right used new) (For st)
   beside_used true new run = record {
     left_later = run.later;
     right_later = omega arith;
@@ -59,10 +60,12 @@ turned : (is_right : Bool) (used other new : View) (st : State) → PairsSince (
 turned true used other new st since = since
 turned false used other new st since = since
 
-module _ {D : Type 0} {g : Ghosts D} (timed : (d : D) → g.honest d → IsTimed (g.view d)) (disks : Disks (Bank D g) D) (pair : Pair (Bank D g) D) (is : disks ≡ InUse pair) (st : State) where
+module _ {D : Type 0} {g : Ghosts D} (timed : (d : D) → g.honest d → IsTimed (g.view d))
+    (disks : Disks (Bank D g) D) (pair : Pair (Bank D g) D) (is : disks ≡ InUse pair) (st : State) where
   -- Of the other disk a run leaves what stands beside the bank in use.
   abbrev LeavesBeside : View → Type 0
-  LeavesBeside new = g.honest pair.bank.disk → g.honest pair.other → IsUp pair.bank.form pair.bank.generation pair.bank.end (g.view pair.bank.disk) (g.view pair.other) st
+  LeavesBeside new = g.honest pair.bank.disk → g.honest pair.other
+      → IsUp pair.bank.form pair.bank.generation pair.bank.end (g.view pair.bank.disk) (g.view pair.other) st
       → LeavesOnly (g.view pair.other) new (StandsBeside (g.view pair.bank.disk).seen st)
 
   -- It is written, and is not in use still;
@@ -72,7 +75,8 @@ module _ {D : Type 0} {g : Ghosts D} (timed : (d : D) → g.honest d → IsTimed
       let are_so : BothHonest (InUse pair) = subst (BothHonest) is are in
       let up_so : IsUpFor (InUse pair) st = subst (λ d. IsUpFor d st) is up in
       subst (λ d. PairsSince (both_of d) (sides pair.is_right (g.view pair.bank.disk) new) (For st)) (sym is)
-      (beside_used pair.bank.form pair.bank.generation pair.bank.end (g.view pair.bank.disk) (g.view pair.other) st up_so (timed pair.bank.disk are_so.0) pair.is_right new (run are_so.0 are_so.1 up_so))
+      (beside_used pair.bank.form pair.bank.generation pair.bank.end (g.view pair.bank.disk)
+      (g.view pair.other) st up_so (timed pair.bank.disk are_so.0) pair.is_right new (run are_so.0 are_so.1 up_so))
 
   -- or it is taken into use.
   pub taken : (new : View) → LeavesBeside new → BothHonest disks → IsUpFor disks st
@@ -85,7 +89,9 @@ module _ {D : Type 0} {g : Ghosts D} (timed : (d : D) → g.honest d → IsTimed
   -- What is known of a new bank on it, beside the disk of the old one.
   pub kept_taken : (is_new_honest : Type 0) (new_form : Form) (new_generation new_end : ℕ) (new : View)
       → (is_new_honest → g.honest pair.other) → (is_new_honest → IsStored new_form new_generation new_end new st)
-      → (g.honest pair.bank.disk → g.honest pair.other → IsUp pair.bank.form pair.bank.generation pair.bank.end (g.view pair.bank.disk) (g.view pair.other) st → IsUp new_form new_generation new_end new (g.view pair.bank.disk) st)
+      → (g.honest pair.bank.disk → g.honest pair.other
+      → IsUp pair.bank.form pair.bank.generation pair.bank.end (g.view pair.bank.disk) (g.view pair.other) st
+      → IsUp new_form new_generation new_end new (g.view pair.bank.disk) st)
       → IsKeptFor disks st
       → IsKept is_new_honest (g.honest pair.bank.disk) new_form new_generation new_end new (g.view pair.bank.disk) st
   kept_taken is_new_honest new_form new_generation new_end new was stored up_next kept =
@@ -97,7 +103,8 @@ module _ {D : Type 0} {g : Ghosts D} (timed : (d : D) → g.honest d → IsTimed
       }
 
 -- A disk that is emptied stands beside the bank in use, at each moment.
-pub emptied_beside : (form : Form) (generation end : ℕ) (used other new : View) (st : State) → IsUp form generation end used other st → LeavesOnly other new (IsSameOrNone other.seen) → LeavesOnly other new (StandsBeside used.seen st)
+pub emptied_beside : (form : Form) (generation end : ℕ) (used other new : View) (st : State) → IsUp form generation end used other st
+    → LeavesOnly other new (IsSameOrNone other.seen) → LeavesOnly other new (StandsBeside used.seen st)
 emptied_beside form generation end used other new st up run = weaker other new (IsSameOrNone other.seen) (StandsBeside used.seen st) run by
   where
     by : (image : List ℕ) → IsSameOrNone other.seen image → StandsBeside used.seen st image
@@ -105,12 +112,14 @@ emptied_beside form generation end used other new st up run = weaker other new (
     by image (inr none) = inl record { generation = generation; stands = stands_on form generation end used st up.stored; lesser = inl none }
 
 -- So it is written, and is not in use still.
-pub changed_by : {D : Type 0} {g : Ghosts D} (timed : (d : D) → g.honest d → IsTimed (g.view d)) (disks : Disks (Bank D g) D) (pair : Pair (Bank D g) D) → disks ≡ InUse pair → (st : State) (new : D)
+pub changed_by : {D : Type 0} {g : Ghosts D} (timed : (d : D) → g.honest d → IsTimed (g.view d)) (disks : Disks (Bank D g) D) (pair : Pair (Bank D g) D)
+    → disks ≡ InUse pair → (st : State) (new : D)
     → (g.honest pair.other → LeavesOnly (g.view pair.other) (g.view new) (IsSameOrNone (g.view pair.other).seen)) → BothHonest disks → IsUpFor disks st
     → PairsSince (both_of disks) (sides pair.is_right (g.view pair.bank.disk) (g.view new)) (For st)
 changed_by {g = g} timed disks pair is st new run =
     changed timed disks pair is st (g.view new)
-    (λ used other was. emptied_beside pair.bank.form pair.bank.generation pair.bank.end (g.view pair.bank.disk) (g.view pair.other) (g.view new) st was (run other))
+    (λ used other was. emptied_beside pair.bank.form pair.bank.generation pair.bank.end (g.view pair.bank.disk)
+    (g.view pair.other) (g.view new) st was (run other))
 
 -- ---- where only that some bank is in use is known
 
@@ -121,6 +130,7 @@ module _ {D : Type 0} {g : Ghosts D} (timed : (d : D) → g.honest d → IsTimed
   other_durable Away st kept = not_there kept (λ k. k)
 
 -- What represents a state, represents it and no deed.
-pub with_none : (st : State) (deeds : List Deed) → deeds ≡ [] → IsState st → (left right : List ℕ) → StandsFor st left right → IsWithOrWithout st deeds left right
+pub with_none : (st : State) (deeds : List Deed) → deeds ≡ [] → IsState st → (left right : List ℕ)
+    → StandsFor st left right → IsWithOrWithout st deeds left right
 with_none st deeds none is left right some =
     ∥∥₁_map some (λ x. record { new = st; ranges = is; done = subst (λ ds. AreDone st ds st) (sym none) (none_done st is); stands = inl x })

@@ -16,7 +16,7 @@ use Rattle.linda_store.specs.Node.{MayRemain}
 use Rattle.linda_server.specs.declared.durable.Durable.{Durable}
 use Rattle.linda_server.specs.declared.fault.ServeFault.{ServeFault}
 use Rattle.linda_server.specs.declared.fault.ServeFault.TheVariants as faults
-use Rattle.linda_server.specs.declared.served.Served.{Served}
+use Rattle.linda_store_step.specs.declared.served.Served.{Served}
 use Rattle.linda_server.specs.declared.progress.Progress.{Progress}
 use Rattle.linda_server.specs.declared.progress.Progress.TheVariants.{Idle, Going, Done}
 use Rattle.linda_server.specs.Calls.{IsBeforeOrAfter, HasHandled, HasNoRoom, StandsFor}
@@ -25,7 +25,7 @@ use Rattle.linda_server.specs.Next.{HasGrown}
 use Rattle.linda_server.specs.declared.next.NextBank.{NextBank}
 use Rattle.linda_snap.specs.declared.entry.TheConstants.{MAX_KEPT_BYTES}
 use Rattle.linda_server.specs.Node.{shown}
-use Rattle.linda_server.specs.Served.{IsServed}
+use Rattle.linda_store_step.specs.Served.{IsServed}
 use Rattle.linda_server.specs.Switch.{HasNoNext, IsTakenOver}
 use Rattle.linda_server.specs.Server.{form_in_use, end_in_use, generation_in_use, BothHonest}
 use Rattle.linda_server.specs.Server.{failures_of}
@@ -56,10 +56,10 @@ module _ {D : Type 0} {g : Ghosts D} where
     -- At no moment crashes leave anything but the state of before, or the one after all deeds;
     pub any_moment : old.down ≡ false
         → AlwaysLeave old.disks new.disks (IsBeforeOrAfter old.store (comings ms))
-    -- at Ok it did what they ask, each has its portion, and crashes now leave the state after that.
+    -- at Ok it did what they ask, each has its counts, and crashes now leave the state after that.
     pub done : IfOk result
         (λ served. IsServed old.store.state old.store.soft ms served new.store.state new.store.soft)
-    pub each : IfOk result (λ served. vec_len served.portions ≡ length ms)
+    pub each : IfOk result (λ served. vec_len served.counts ≡ length ms)
     pub now : OnOk result (StandNow new.disks new.store.state)
     pub up : OnOk result ((old.down ≡ false) × (new.down ≡ false))
     -- It is Full exactly where the deeds have no room on the bank in use; nothing changed then.
@@ -105,7 +105,7 @@ module _ {D : Type 0} {g : Ghosts D} where
     pub life : GoesOn (λ (sends : Vec (ℕ × Reply)). sends.items) old result new
 
   -- It wrote the same state anew, or a part of it, or room for it (`renew`, `clear`, `snapshot`,
-  -- `trim`, `begin_steps`, `step`, `lengthen`, `write_ahead`).
+  -- `trim`, `begin_snapshot`, `continue_snapshot`, `lengthen`, `preallocate`).
   pub record Rewrites {T E : Type 0} (old : Durable D g) (result : Result T E)
       (new : Durable D g) : Type 0 where
     -- At no moment crashes leave anything but the state.
@@ -129,7 +129,8 @@ module _ {D : Type 0} {g : Ghosts D} where
     pub cause : IfErr result
         (λ fault. TellsFailures faults.Disk fault (failures_of old.disks) (failures_of new.disks))
 
-  -- At Ok a snapshot in steps is begun, and the bank in use is as it was (`start`, `begin_steps`).
+  -- At Ok a snapshot in steps is begun, and the bank in use is as it was (`start`,
+  -- `begin_snapshot`).
   abbrev pub HasBegun : Durable D g → Durable D g → Type 0
   HasBegun old new = IsSome new.next × IsBankStill old.disks new.disks
 
@@ -139,18 +140,19 @@ module _ {D : Type 0} {g : Ghosts D} where
     pub was : NextBank
     pub were : old.next ≡ Some was
     pub none : new.next ≡ None
-    pub taken : IsTakenOver was.successor.records old.disks new.disks
+    pub taken : IsTakenOver was.writer.records old.disks new.disks
     pub few : end_in_use new.disks < was.at + (most + MAX_KEPT_BYTES)
 
-  -- A step of a snapshot, of so many bytes, came to this (`advance`, `step`): none is begun, and
-  -- nothing changed; one that is begun goes on, beside the bank in use; or it came to its end.
+  -- A step of a snapshot, of so many bytes, came to this (`advance`, `continue_snapshot`): none is
+  -- begun, and nothing changed; one that is begun goes on, beside the bank in use; or it came to
+  -- its end.
   abbrev pub CameTo : ℕ → Durable D g → Durable D g → Progress → Type 0
   CameTo most old new Idle = (old.next ≡ None) × (new.next ≡ None) × (new.disks ≡ old.disks)
   CameTo most old new Going = HasGrown most old.next new.next × IsBankStill old.disks new.disks
   CameTo most old new Done = HasEnded most old new
 
   -- It is down where it says so, and says so where it was, as a node does; and every life goes on
-  -- by it (`snapshot`, `trim`, `begin_steps`, `step`, `write_ahead`).
+  -- by it (`snapshot`, `trim`, `begin_snapshot`, `continue_snapshot`, `preallocate`).
   pub record Falls {T : Type 0} (old : Durable D g) (result : Result T NodeFault)
       (new : Durable D g) : Type 0 where
     pub down : IsErrOf result nodes.Down → new.down ≡ true

@@ -1,13 +1,13 @@
 pub mod Pairs
 pub mod Disks
-pub mod Served
+pub mod Messages
 pub mod Calls
 pub mod Server
 pub mod Opening
 pub mod Node
 pub mod Reopening
 pub mod Switch
-pub mod Ahead
+pub mod Preallocation
 pub mod Next
 pub mod Lives
 pub mod Handled

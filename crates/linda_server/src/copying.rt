@@ -1,5 +1,6 @@
 //! A copy of the clients for a snapshot in steps, which is made in pieces before that begins. What
-//! is done meanwhile is copied again; if memory runs out, the copy is given up, and nothing else is.
+//! is done meanwhile is copied again; if memory runs out, the copy is given up, and nothing else
+//! is.
 
 ghost use Rattle.std.specs.Prelude.{◌≡◌, None, true};
 ghost use Rattle.linda_store_state.specs.State as states;

@@ -1,10 +1,10 @@
 //! A server whose deeds are on a disk before it answers.
 
-mod ahead;
 mod create;
 mod fall;
 mod handle;
 mod open;
+mod preallocation;
 mod serve;
 mod snapshot;
 mod steps;
@@ -28,9 +28,9 @@ use crate::limits::SNAPSHOT_RECORDS;
 use crate::next::NextBank;
 use linda_bag::IndexBag;
 use linda_disk::Disk;
+use linda_ghost::Moment;
 use linda_hold::{Holds, Waits};
 use linda_journal::Bank;
-use linda_moment::Moment;
 use linda_snap::BookCopy;
 use linda_store_state::{Deed, State};
 use linda_store_step::Store;

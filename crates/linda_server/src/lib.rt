@@ -1,7 +1,6 @@
 //! The durable server.
 #![tactic(auto)]
 
-mod ahead;
 mod clearing;
 mod commit;
 mod copying;
@@ -12,17 +11,17 @@ mod fault;
 mod laws;
 mod limits;
 mod next;
+mod preallocation;
 mod progress;
 mod renewal;
-mod send;
-mod served;
 mod serving;
 mod stepping;
+mod thread_safety;
 
 pub use disks::InUse;
 pub use durable::Durable;
 pub use fault::{OpenFault, ServeFault};
 pub use laws::servers_keep_their_word;
 pub use limits::{MAX_LIMIT, MIN_LIMIT, SNAPSHOT_RECORDS};
+pub use linda_store_step::{Served, StepCounts};
 pub use progress::Progress;
-pub use served::{Portion, Served};

@@ -5,7 +5,7 @@
 //! no room for them in it, it is given up, and in no other case: the bank in use has everything.
 
 ghost use Rattle.std.specs.Prelude.{◌≡◌, ◌≤◌, ℕ, List, length, true, None, OnOk, IfOk, IfErr};
-ghost use Rattle.std.specs.Prelude.{IfSome, IfNone, All};
+ghost use Rattle.std.specs.Prelude.{IfSome, IfNone};
 ghost use Rattle.std.specs.Option.{is_some};
 ghost use Rattle.linda_wire.specs.declared.message.Message as messages;
 ghost use Rattle.linda_store_state.specs.State as states;
@@ -13,13 +13,13 @@ ghost use Rattle.linda_store_state.specs.State.{IsState};
 ghost use Rattle.linda_store_state.specs.Deed.{is_taken};
 ghost use Rattle.linda_store_step.specs.declared.size.TheConstants.{MAX_GROUP};
 ghost use Rattle.linda_snap.specs.Replay.{GoesOn};
-ghost use Rattle.linda_snap.specs.Successor.{Follows, HasNoRoomFor};
+ghost use Rattle.linda_snap.specs.BankWriter.{Follows, HasNoRoomFor};
 ghost use Rattle.linda_server.specs.Next.{IsSafeIn, IsSpared, AreSpared, KeepsUp};
-ghost use Rattle.linda_server.specs.Served.{messages_of};
+ghost use Rattle.linda_server.specs.Messages.{messages_of};
 
-use crate::serving::Batch;
+use crate::serving::Messages;
 use linda_bag::IndexBag;
-use linda_snap::Successor;
+use linda_snap::BankWriter;
 use linda_store_state::{Deed, State};
 use linda_wire::Message;
 use std::alloc::{AllocError, Global};
@@ -27,7 +27,7 @@ use std::alloc::{AllocError, Global};
 /// The next bank, and the offset behind what is written of it.
 #[derive(Drop)]
 pub(crate) struct NextBank {
-    pub(crate) successor: Successor,
+    pub(crate) writer: BankWriter,
     pub(crate) at: usize,
 }
 
@@ -41,92 +41,92 @@ pub(crate) fn unless_spent(next: Result<Option<NextBank>, AllocError>) -> Option
     }
 }
 
-/// Puts aside a copy of each tuple that a message of the batch may take. If there is a next bank, it
+/// Puts aside a copy of each tuple that a message may take. If there is a next bank, it
 /// is handed back.
 ///
 /// # Errors
 ///
 /// `AllocError` if memory runs out: it is given up.
-pub(crate) fn spared(
+pub(crate) fn with_taken_copied(
     next: Option<NextBank>,
     alloc: Global,
     state: &State<IndexBag>,
-    batch: Batch<'_>,
+    batch: Messages<'_>,
 ) -> Result<Option<NextBank>, AllocError>
     ensures follows { IfOk result (λ o. IfSome o (λ n. KeepsUp next state.now n state.now)) }
     ensures safe { IfOk result (λ o. IfSome o (λ n.
-        AreSpared n.successor state.now.bag (messages_of batch.entry))) }
+        AreSpared n.writer state.now.bag (messages_of batch.entry))) }
     ensures kept { IfOk result (λ o. is_some o ≡ is_some next) }
 {
     match next {
         None => Ok(None),
         Some(next) => {
-            let NextBank { mut successor, at } = next;
-            spare_batch(&mut successor, alloc, state, batch)?;
-            Ok(Some(NextBank { successor, at }))
+            let NextBank { mut writer, at } = next;
+            copy_taken(&mut writer, alloc, state, batch)?;
+            Ok(Some(NextBank { writer, at }))
         }
     }
 }
 
 // The same of the bank itself.
-fn spare_batch(
-    successor: &mut Successor,
+fn copy_taken(
+    writer: &mut BankWriter,
     alloc: Global,
     state: &State<IndexBag>,
-    batch: Batch<'_>,
+    batch: Messages<'_>,
 ) -> Result<(), AllocError>
-    ensures follows { (front : List ℕ) → Follows successor.old front state.now
-        → Follows successor.new front state.now }
+    ensures follows { (front : List ℕ) → Follows writer.old front state.now
+        → Follows writer.new front state.now }
     ensures safe { OnOk result
-        (AreSpared successor.new state.now.bag (messages_of batch.entry)) }
-    ensures same { (successor.new.generation ≡ successor.old.generation)
-        × (successor.new.limit ≡ successor.old.limit) }
+        (AreSpared writer.new state.now.bag (messages_of batch.entry)) }
+    ensures same { (writer.new.generation ≡ writer.old.generation)
+        × (writer.new.limit ≡ writer.old.limit) }
 {
     match batch {
-        Batch::One(client, message) => {
+        Messages::One(client, message) => {
             let _ = client;
-            spare(successor, alloc, state, message)
+            copy_taken_of(writer, alloc, state, message)
         }
-        Batch::Many(messages) => spare_each(successor, alloc, state, messages),
+        Messages::Many(messages) => copy_taken_of_each(writer, alloc, state, messages),
     }
 }
 
 // The same for each of several messages.
-fn spare_each(
-    successor: &mut Successor,
+fn copy_taken_of_each(
+    writer: &mut BankWriter,
     alloc: Global,
     state: &State<IndexBag>,
     messages: &[(u32, Message)],
 ) -> Result<(), AllocError>
-    ensures follows { (front : List ℕ) → Follows successor.old front state.now
-        → Follows successor.new front state.now }
-    ensures safe { OnOk result (AreSpared successor.new state.now.bag messages.now) }
-    ensures same { (successor.new.generation ≡ successor.old.generation)
-        × (successor.new.limit ≡ successor.old.limit) }
+    ensures follows { (front : List ℕ) → Follows writer.old front state.now
+        → Follows writer.new front state.now }
+    ensures safe { OnOk result (AreSpared writer.new state.now.bag messages.now) }
+    ensures same { (writer.new.generation ≡ writer.old.generation)
+        × (writer.new.limit ≡ writer.old.limit) }
 {
     for message in messages {
-        spare(successor, alloc, state, &message.1)?;
+        copy_taken_of(writer, alloc, state, &message.1)?;
     }
     Ok(())
 }
 
 // The same for one message.
-fn spare(
-    successor: &mut Successor,
+fn copy_taken_of(
+    writer: &mut BankWriter,
     alloc: Global,
     state: &State<IndexBag>,
     message: &Message,
 ) -> Result<(), AllocError>
-    ensures follows { (front : List ℕ) → Follows successor.old front state.now
-        → Follows successor.new front state.now }
-    ensures safe { OnOk result (IsSpared successor.new state.now.bag message.now) }
-    ensures same { (successor.new.generation ≡ successor.old.generation)
-        × (successor.new.limit ≡ successor.old.limit) }
+    ensures follows { (front : List ℕ) → Follows writer.old front state.now
+        → Follows writer.new front state.now }
+    ensures safe { OnOk result (IsSpared writer.new state.now.bag message.now) }
+    ensures same { (writer.new.generation ≡ writer.old.generation)
+        × (writer.new.limit ≡ writer.old.limit) }
     ensures others { (ms : List (ℕ × messages.Message))
-        → AreSpared successor.old state.now.bag ms → AreSpared successor.new state.now.bag ms }
+        → AreSpared writer.old state.now.bag ms → AreSpared writer.new state.now.bag ms }
 {
     match message {
-        Message::Accept { id, .. } => successor.put_aside(alloc, state, *id),
+        Message::Accept { id, .. } => writer.put_aside(alloc, state, *id),
         Message::Hello { .. }
         | Message::Out { .. }
         | Message::Ask { .. }
@@ -141,7 +141,7 @@ fn spare(
 /// # Errors
 ///
 /// `AllocError` if memory runs out: it is given up.
-pub(crate) fn noted(
+pub(crate) fn with_deeds_logged(
     next: Option<NextBank>,
     alloc: Global,
     deeds: &[Deed],
@@ -151,14 +151,14 @@ pub(crate) fn noted(
         → ((id : ℕ) → is_taken id deeds.now ≡ true → IsSafeIn next st.bag id)
         → IfOk result (λ o. IfSome o (λ n. KeepsUp next st n new)) }
     ensures kept { IfOk result (λ o. IfNone o
-        (IfSome next (λ n. HasNoRoomFor n.successor deeds.now))) }
+        (IfSome next (λ n. HasNoRoomFor n.writer deeds.now))) }
 {
     match next {
         None => Ok(None),
         Some(next) => {
-            let NextBank { mut successor, at } = next;
-            match successor.note(alloc, deeds) {
-                Ok(true) => Ok(Some(NextBank { successor, at })),
+            let NextBank { mut writer, at } = next;
+            match writer.note(alloc, deeds) {
+                Ok(true) => Ok(Some(NextBank { writer, at })),
                 Ok(false) => Ok(None),
                 Err(fault) => Err(fault),
             }

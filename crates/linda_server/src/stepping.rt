@@ -22,7 +22,7 @@ use crate::renewal::of_switch;
 use linda_bag::Bag;
 use linda_disk::{Disk, DiskFault};
 use linda_journal::{Bank, Filling, shut};
-use linda_snap::{BookCopy, Part, Successor, take_over};
+use linda_snap::{BankWriter, BookCopy, Chunk, take_over};
 use linda_store_state::State;
 use std::alloc::Global;
 
@@ -32,8 +32,8 @@ use std::alloc::Global;
 ///
 /// # Errors
 ///
-/// `Full` if the next bank would pass its limit or no generation is left: nothing changed. `Disk` if
-/// the device failed, and `Memory`: neither bank is to be used.
+/// `Full` if the next bank would pass its limit or no generation is left: nothing changed. `Disk`
+/// if the device failed, and `Memory`: neither bank is to be used.
 pub(crate) fn start<B: Bag, D: Disk>(
     disks: &mut Disks<Bank<D>, D>,
     alloc: Global,
@@ -88,7 +88,7 @@ fn start_on<B: Bag, D: Disk>(
     ensures durable { D.honest other → OnOk result.0 (IsDurable (D.view result.1)) }
     ensures begun { IfOk result.0 (λ next.
         IsBegun next (D.honest result.1) (D.view result.1) state.now
-        × (next.successor.generation ≡ generation + 1) × (next.successor.limit ≡ limit)) }
+        × (next.writer.generation ≡ generation + 1) × (next.writer.limit ≡ limit)) }
     ensures full { IsErrOf result.0 ServeFault.Full → (result.1 ≡ other)
         × HasNoNext state.now limit generation }
     ensures room { OnOk result.0 (HasNoNext state.now limit generation → ⊥) }
@@ -100,11 +100,11 @@ fn start_on<B: Bag, D: Disk>(
     let Some(generation) = generation.checked_add(1) else {
         return (Err(ServeFault::Full), other);
     };
-    match Successor::begin(alloc, state, generation, limit, copy) {
+    match BankWriter::begin(alloc, state, generation, limit, copy) {
         Err(fault) => (Err(of_switch(fault)), other),
-        Ok((successor, bytes)) => match lay(other, &bytes) {
+        Ok((writer, bytes)) => match lay(other, &bytes) {
             (Err(fault), other) => (Err(of_disk(fault)), other),
-            (Ok(at), other) => (Ok(NextBank { successor, at }), other),
+            (Ok(at), other) => (Ok(NextBank { writer, at }), other),
         },
     }
 }
@@ -151,14 +151,14 @@ pub(crate) fn advance<B: Bag, D: Disk>(
     ensures steps { StepsOn most next disks.old result disks.new }
     ensures known { (IsErrOf result ServeFault.Full → ⊥) × (IsErrOf result ServeFault.Down → ⊥) }
 {
-    let NextBank { mut successor, at } = next;
-    match successor.next(alloc, state, most) {
+    let NextBank { mut writer, at } = next;
+    match writer.next(alloc, state, most) {
         Err(_) => Err(ServeFault::Memory),
-        Ok(Part::More(bytes)) => match write_on(disks, at, &bytes) {
+        Ok(Chunk::More(bytes)) => match write_on(disks, at, &bytes) {
             Err(fault) => Err(of_disk(fault)),
-            Ok(at) => Ok(Some(NextBank { successor, at })),
+            Ok(at) => Ok(Some(NextBank { writer, at })),
         },
-        Ok(Part::Last(bytes)) => match end(disks, at, &successor, &bytes) {
+        Ok(Chunk::Last(bytes)) => match end(disks, at, &writer, &bytes) {
             Err(fault) => Err(fault),
             Ok(()) => Ok(None),
         },
@@ -175,7 +175,8 @@ fn write_on<D: Disk>(
     requires behind { 1 ≤ at }
     requires within { IsWithin at disks.old }
     ensures runs { (st : states.State) (front : List ℕ)
-        → RunsOnBoth (IsFilledOn front at disks.old) st DiskFault.Device disks.old result disks.new }
+        → RunsOnBoth (IsFilledOn front at disks.old) st DiskFault.Device disks.old result
+        disks.new }
     ensures filled { (front : List ℕ) → IsFilledOn front at disks.old
         → IfOk result (λ next. IsFilledOn (front ++ bytes.now) next disks.new) }
     ensures place { IfOk result (λ next. next ≡ at + length bytes.now) }
@@ -208,24 +209,24 @@ fn write_on<D: Disk>(
     }
 }
 
-// Writes the last bytes of the next bank at this offset of the disk that is not in use, and takes it
-// into use.
+// Writes the last bytes of the next bank at this offset of the disk that is not in use, and takes
+// it into use.
 fn end<D: Disk>(
     disks: &mut Disks<Bank<D>, D>,
     at: usize,
-    successor: &Successor,
+    writer: &BankWriter,
     bytes: &[u8],
 ) -> Result<(), ServeFault>
     requires ready { is_usable disks.old ≡ true }
     requires behind { 1 ≤ at }
     requires within { IsWithin at disks.old }
-    requires generation { successor.now.generation ≡ generation_in_use disks.old + 1 }
+    requires generation { writer.now.generation ≡ generation_in_use disks.old + 1 }
     requires fits { at + length bytes.now ≤ limit_in_use disks.old }
-    requires counted { successor.now.records < at + length bytes.now }
+    requires counted { writer.now.records < at + length bytes.now }
     ensures runs { (st : states.State) (front : List ℕ)
-        → RunsOnBoth (IsLastOn successor.now front bytes.now at disks.old st) st ServeFault.Disk
+        → RunsOnBoth (IsLastOn writer.now front bytes.now at disks.old st) st ServeFault.Disk
         disks.old result disks.new }
-    ensures switched { OnOk result (IsTakenOver successor.now.records disks.old disks.new) }
+    ensures switched { OnOk result (IsTakenOver writer.now.records disks.old disks.new) }
     ensures place { OnOk result (end_in_use disks.new + 1 ≡ at + length bytes.now) }
     ensures known { (IsErrOf result ServeFault.Full → ⊥) × (IsErrOf result ServeFault.Down → ⊥) }
 {
@@ -234,7 +235,7 @@ fn end<D: Disk>(
         other,
         is_right,
     } = disks.lend();
-    match take_over(bank, Filling::resume(other, at), successor, bytes) {
+    match take_over(bank, Filling::resume(other, at), writer, bytes) {
         Err((fault, bank, other)) => {
             *disks = Disks::InUse(Pair {
                 bank,

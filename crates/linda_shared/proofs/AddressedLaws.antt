@@ -8,7 +8,8 @@ use Rattle.linda_shared.specs.Addressed.{up_to}
 one_more : (i : ℕ) → i + 1 ≡ suc i
 one_more i = omega arith
 
-pub message_added : {A M : Type 0} (message : A → M) (ms : List M) (i : ℕ) (m : M) (old new : List A) (x : A) → i < length ms → m ≡ slice_index_or ms i m → message x ≡ m
+pub message_added : {A M : Type 0} (message : A → M) (ms : List M) (i : ℕ) (m : M) (old new : List A) (x : A)
+    → i < length ms → m ≡ slice_index_or ms i m → message x ≡ m
     → new ≡ old ++ x ∷ [] → map message old ≡ take i ms → map message new ≡ take (i + 1) ms
 message_added message ms i m old new x below at its added before =
     ap (λ l. map message l) added
@@ -17,7 +18,8 @@ message_added message ms i m old new x below at its added before =
     ∙ ap (λ y. take i ms ++ y ∷ []) (its ∙ at)
     ∙ sym (ap (λ k. take k ms) (one_more i) ∙ take-suc ms i m below)
 
-pub place_added : {A : Type 0} (place : A → ℕ) (i : ℕ) (old new : List A) (x : A) → place x ≡ i → new ≡ old ++ x ∷ [] → map place old ≡ up_to i → map place new ≡ up_to (i + 1)
+pub place_added : {A : Type 0} (place : A → ℕ) (i : ℕ) (old new : List A) (x : A) → place x ≡ i
+    → new ≡ old ++ x ∷ [] → map place old ≡ up_to i → map place new ≡ up_to (i + 1)
 place_added place i old new x its added before =
     ap (λ l. map place l) added
     ∙ map-append place old (x ∷ [])

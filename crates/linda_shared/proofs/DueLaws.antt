@@ -1,5 +1,6 @@
 -- A deed that is reported of a message is one that it asks for.
-use Rattle.std.proofs.Common.{◌≡◌, ◌⊎◌, inl, inr, ℕ, ◌+◌, zero, suc, arith, List, [], ◌∷◌, ◌++◌, Option, Some, None, All, map, replicate, length, reverse, refl, sym, ap, subst, ◌∙◌}
+use Rattle.std.proofs.Common.{◌≡◌, ◌⊎◌, inl, inr, ℕ, ◌+◌, zero, suc, arith, List, [], ◌∷◌, ◌++◌, Option, Some, None}
+use Rattle.std.proofs.Common.{All, map, replicate, length, reverse, refl, sym, ap, subst, ◌∙◌}
 use Rattle.std.proofs.Common.{Result, Ok, Err, OnOk, IfErr, IsErrOf, Bool, true, not}
 use Rattle.std.proofs.lemmas.List.{reverse-reverse, reverse-append, replicate-append-replicate}
 use Rattle.std.proofs.lemmas.List.Elements.{All-nil, All-cons}
@@ -13,7 +14,7 @@ use Rattle.linda_store_step.specs.Soft.{Soft}
 use Rattle.linda_store_step.specs.Answer.{Answer}
 use Rattle.linda_store_step.specs.Reported.{IsDeedOf}
 use Rattle.linda_store_step.proofs.AskedLaws.{step_deed}
-use Rattle.linda_server.specs.Served.{AreAnswered}
+use Rattle.linda_store_step.specs.Served.{AreAnswered}
 use Rattle.linda_server.specs.declared.durable.Durable.{Durable}
 use Rattle.linda_shared_accounts.specs.declared.receipt.Receipt.{Receipt}
 use Rattle.linda_shared_accounts.specs.declared.effect.Effect.{Effect}
@@ -115,7 +116,8 @@ pub own_of : {A D : Type 0} {g : Ghosts D} (read : A → Effect Receipt) (ps : L
     → (up : Bool) → map (λ p. p.0) ps ≡ ms → AreTold D g up ms (map (λ p. read p.1) ps) → All (IsOwn read) ps
 own_of read ps ms up each (inl served) =
     effects_of read ps served.receipts
-    (subst (λ (l : List (ℕ × Message)). AreOf l served.receipts) (sym each) (taken_of served.before served.count ms served.receipts served.waited served.waits served.after served.taken))
+    (subst (λ (l : List (ℕ × Message)). AreOf l served.receipts) (sym each)
+    (taken_of served.before served.count ms served.receipts served.waited served.waits served.after served.taken))
     served.told_is
 own_of read ps ms up each (inr failed) = failed_of read ps failed.0 (length ms) failed.1.1
 

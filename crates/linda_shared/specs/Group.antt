@@ -1,5 +1,6 @@
 -- Groups of messages that are served together, and what came of them, as contracts see both.
-use Rattle.std.specs.Prelude.{◌≡◌, ◌⊎◌, ℕ, Bool, false, List, [], ◌∷◌, map, length, replicate, Option}
+use Rattle.std.specs.Prelude.{◌≡◌, ◌⊎◌, ℕ, Bool, false, List, [], ◌∷◌, map, length, replicate}
+use Rattle.std.specs.Prelude.{Option}
 use Rattle.linda_wire.specs.declared.message.Message.{Message}
 use Rattle.linda_wire.specs.declared.reply.Reply.{Reply}
 use Rattle.linda_store_step.specs.Reported.{IsDeedOf}

@@ -1,6 +1,6 @@
 //! Answers of a group, once it is settled whether all have their copies.
 
-ghost use Rattle.std.specs.Prelude.{◌≡◌, true, false, not, All, IsTrue, map, vec_len, vec_capacity};
+ghost use Rattle.std.specs.Prelude.{◌≡◌, true, false, not, map, vec_len, vec_capacity};
 ghost use Rattle.linda_shared.specs.Batch.{has_copy, all_true};
 
 use linda_disk::Disk;

@@ -19,9 +19,9 @@ mod greeted;
 mod group;
 mod locked;
 mod seat;
-mod send;
 mod served;
 mod shared;
+mod thread_safety;
 mod worker;
 mod workers;
 
@@ -29,7 +29,7 @@ pub use gate::Gate;
 pub use greeted::Greeted;
 pub use group::MessageGroup;
 pub use linda_shared_accounts::{Account, Ack, MOST_ASKED, Receipt, SharedFault};
-pub use linda_shared_held::{Gauge, Progress, Report};
+pub use linda_shared_held::{Admission, Gauge, Progress, Report};
 pub use linda_shared_listing::{
     ClientPage, Gathered, KindPage, ListedClient, ListedKind, ListedReply, ListedTuple, Longest,
     MOST_KINDS, MOST_LOOKED, TakenCount, TuplePage, TupleQuery,
@@ -38,8 +38,8 @@ pub use linda_shared_outbox::Sent;
 pub use linda_shared_queue::{Outlet, hear_answer, outlet_crosses};
 pub use linda_store_step::MAX_GROUP;
 pub use seat::Seat;
-pub use send::{seat_crosses, shared_may_be_lent};
 pub use served::ServedGroup;
 pub use shared::{ReplySink, Shared};
+pub use thread_safety::{seat_crosses, shared_may_be_lent};
 pub use worker::{MOST_TURNS, Next, Worker};
 pub use workers::{Worked, run_workers};

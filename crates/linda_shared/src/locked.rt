@@ -1,6 +1,6 @@
 //! The server, and the batch in hand.
 
-ghost use Rattle.std.specs.Prelude.{◌≡◌, ◌++◌, ◌+◌, ◌-◌, ◌*◌, ◌^◌, ℕ, [], true, false, None, All};
+ghost use Rattle.std.specs.Prelude.{◌≡◌, ◌+◌, ◌-◌, ◌*◌, ◌^◌, ℕ, [], true, false, None, All};
 ghost use Rattle.std.specs.Prelude.{IsTrue, IfNone, min};
 ghost use Rattle.linda_shared.specs.declared.locked.TheConstants.{LET_GO};
 ghost use Rattle.linda_shared_outbox.specs.Waiting.{waits_for};

@@ -90,17 +90,17 @@ impl<D: Disk, L: Ledger> Shared<D, L> {
         self.locked.lock(rt).held.needs_snapshot()
     }
 
-    /// Whether a snapshot is to be taken, as `Held::pays` says: for the program that serves, and
-    /// takes them.
-    pub fn pays<R: Wait>(&self, rt: &R) -> bool {
-        self.locked.lock(rt).held.pays()
+    /// Whether a snapshot is to be taken, as `Held::snapshot_due` says: for the program that
+    /// serves, and takes them.
+    pub fn snapshot_due<R: Wait>(&self, rt: &R) -> bool {
+        self.locked.lock(rt).held.snapshot_due()
     }
 
     /// Has no snapshot that pays tried before there are 1,024 records more, or records of `room`
     /// bytes, 32 MiB at most, whichever come first; one that a deed asks for which was refused for
     /// room is taken all the same. For a server that was opened, and may have gone down in one.
-    pub fn put_off<R: Wait>(&self, rt: &R, room: usize) {
-        self.locked.lock(rt).held.put_off(room);
+    pub fn defer_snapshot<R: Wait>(&self, rt: &R, room: usize) {
+        self.locked.lock(rt).held.defer_snapshot(room);
     }
 
     /// Has bytes counted from `base` on, which the bank in use took when it was new. For a server
@@ -164,9 +164,9 @@ impl<D: Disk, L: Ledger> Shared<D, L> {
     /// # Errors
     ///
     /// `Down`: the server is down. `Full`: nothing changed.
-    pub fn begin_steps<R: Wait>(&self, rt: &R) -> Result<(), SharedFault> {
+    pub fn begin_snapshot<R: Wait>(&self, rt: &R) -> Result<(), SharedFault> {
         let mut guard = self.locked.lock(rt);
-        let answer = guard.held.begin_steps(self.alloc);
+        let answer = guard.held.begin_snapshot(self.alloc);
         let is_down = guard.held.is_down();
         drop(guard);
         self.end_where(rt, is_down);
@@ -178,9 +178,9 @@ impl<D: Disk, L: Ledger> Shared<D, L> {
     /// # Errors
     ///
     /// `Down`: the server is down.
-    pub fn step<R: Wait>(&self, rt: &R, most: usize) -> Result<Progress, SharedFault> {
+    pub fn continue_snapshot<R: Wait>(&self, rt: &R, most: usize) -> Result<Progress, SharedFault> {
         let mut guard = self.locked.lock(rt);
-        let answer = guard.held.step(self.alloc, most);
+        let answer = guard.held.continue_snapshot(self.alloc, most);
         let is_down = guard.held.is_down();
         drop(guard);
         self.end_where(rt, is_down);
@@ -193,9 +193,9 @@ impl<D: Disk, L: Ledger> Shared<D, L> {
     /// # Errors
     ///
     /// `Down`: the server is down.
-    pub fn write_ahead<R: Wait>(&self, rt: &R, to: usize) -> Result<bool, SharedFault> {
+    pub fn preallocate<R: Wait>(&self, rt: &R, to: usize) -> Result<bool, SharedFault> {
         let mut guard = self.locked.lock(rt);
-        let answer = guard.held.write_ahead(self.alloc, to);
+        let answer = guard.held.preallocate(self.alloc, to);
         let is_down = guard.held.is_down();
         drop(guard);
         self.end_where(rt, is_down);

@@ -1,5 +1,6 @@
 -- How the sums over all places go with one place.
-use Rattle.std.proofs.Common.{◌≡◌, ℕ, ◌+◌, ◌-◌, ◌≤◌, ◌<◌, ◌^◌, ◌==◌, min, true, false, true≢false, cond, All, Option, Some, None, IfSome, refl, sym, ap, subst, ◌∙◌, nat_cmp, arith}
+use Rattle.std.proofs.Common.{◌≡◌, ℕ, ◌+◌, ◌-◌, ◌≤◌, ◌<◌, ◌^◌, ◌==◌, min, true, false, true≢false, cond, All, Option}
+use Rattle.std.proofs.Common.{Some, None, IfSome, refl, sym, ap, subst, ◌∙◌, nat_cmp, arith}
 use Rattle.std.specs.Option.{unwrap_or, option_map}
 use Rattle.std.specs.List.{sum_by}
 use Rattle.std.specs.Map.{values_of}
@@ -7,8 +8,8 @@ use Rattle.std.specs.Cmp.{unsigned_Decides}
 use Rattle.std.specs.FinMap.{empty, get, insert, remove, entries, len-entries, len-empty}
 use Rattle.std.proofs.lemmas.List.{nil_from_length}
 use Rattle.std.proofs.lemmas.List.Elements.{All-nil, All-weaker}
-use Rattle.linda_maps.proofs.MapLaws.{get_empty, get_inserted, get_removed, get_removed_same, get_removed_other, get_same, get_other, same_map_by_key}
-use Rattle.linda_maps.proofs.SumLaws.{sum_inserted}
+use Rattle.linda_map_laws.proofs.MapLaws.{get_empty, get_inserted, get_removed, get_removed_same, get_removed_other, get_same, get_other, same_map_by_key}
+use Rattle.linda_map_laws.proofs.SumLaws.{sum_inserted}
 use Rattle.linda_shared_accounts.specs.declared.place.Place.{Place}
 use Rattle.linda_shared_accounts.specs.declared.place.Place.TheVariants as places
 use Rattle.linda_shared_accounts.specs.declared.receipt.Receipt.{Receipt}
@@ -20,7 +21,8 @@ abbrev pub at_place : (Place → ℕ) → Option Place → ℕ
 at_place f o = unwrap_or (option_map f o) 0
 
 -- Of a place that is put in holds what is said of it, and of the others what held before.
-own_put : (ps : Places) (c : ℕ) (p : Place) → IsPlaceOf c p → ((q : ℕ) → IfSome (get ps q) (IsPlaceOf q)) → (q : ℕ) → IfSome (get (insert ps c p) q) (IsPlaceOf q)
+own_put : (ps : Places) (c : ℕ) (p : Place) → IsPlaceOf c p → ((q : ℕ) → IfSome (get ps q) (IsPlaceOf q))
+    → (q : ℕ) → IfSome (get (insert ps c p) q) (IsPlaceOf q)
 own_put ps c p here own q =
     subst (λ o. IfSome o (IsPlaceOf q)) (sym (get_inserted ps c p q))
     (elim (q == c) as (λ b. (q == c) ≡ b → IfSome (cond b (Some p) (get ps q)) (IsPlaceOf q)) [
@@ -56,7 +58,8 @@ sum_removed f ps c p there =
 
 -- No place adds anything.
 none_there : (f : Place → ℕ) → sum_of f (empty {X = Place} {R = nat_cmp}) ≡ 0
-none_there f = ap (λ es. sum_by f (values_of es)) (nil_from_length (entries (empty {X = Place} {R = nat_cmp})) (sym (len-entries empty) ∙ len-empty nat_cmp Place))
+none_there f = ap (λ es. sum_by f (values_of es))
+    (nil_from_length (entries (empty {X = Place} {R = nat_cmp})) (sym (len-entries empty) ∙ len-empty nat_cmp Place))
 
 pub nothing_yet : Tallies 0 0 empty
 nothing_yet = record {
@@ -115,7 +118,8 @@ gives_up out back ps c t is =
     }
 
 -- A place comes for another one that weighs the same.
-pub put_over : (out back : ℕ) (ps : Places) (c : ℕ) (p q : Place) → Tallies out back ps → get ps c ≡ Some p → weight_out q ≡ weight_out p → deeds_at q ≡ deeds_at p → IsPlaceOf c q
+pub put_over : (out back : ℕ) (ps : Places) (c : ℕ) (p q : Place) → Tallies out back ps → get ps c ≡ Some p
+    → weight_out q ≡ weight_out p → deeds_at q ≡ deeds_at p → IsPlaceOf c q
     → Tallies out back (insert ps c q)
 put_over out back ps c p q t is weighs counts here =
     let outs = sum_put weight_out ps c q (Some p) is in
@@ -137,7 +141,8 @@ pub comes_back_counted : (out back counted amount total : ℕ) (ps : Places) (c 
     → counted ≡ min amount (2 ^ 64 - 1) → (amount ≤ total) × (total < 2 ^ 64) → weight_out p ≡ 0 → deeds_at p ≡ counted → IsPlaceOf c p
     → Tallies (out - 1) (back + amount) (insert ps c p)
 comes_back_counted out back counted amount total ps c p t is counts most parked deeds here =
-    subst (λ n. Tallies (out - 1) (back + n) (insert ps c p)) (deeds ∙ counted_whole counted amount total counts most.0 most.1) (comes_back out back ps c p t is parked here)
+    subst (λ n. Tallies (out - 1) (back + n) (insert ps c p)) (deeds ∙ counted_whole counted amount total counts most.0 most.1)
+    (comes_back out back ps c p t is parked here)
 
 -- A seat comes back and is given up, since nothing was counted.
 pub gives_up_uncounted : (out back counted amount total : ℕ) (ps : Places) (c : ℕ) → Tallies out back ps → get ps c ≡ Some places.Out

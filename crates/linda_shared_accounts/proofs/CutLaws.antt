@@ -77,7 +77,8 @@ cut_first r rs several =
     record { many = length rs; some = several; is = sym (ap (λ i. drop i (r ∷ rs)) one) }
 
 -- The first of several goes, whose number is not above the floor.
-pub one_less : (floor rest : ℕ) (old rs new : List Receipt) → IsCut old rs → KeepsAbove floor old rs → 1 < length rs → number_at (slice_get rs 0) ≤ floor → rest ≡ length rs - 1 → new ≡ keep_last rest rs
+pub one_less : (floor rest : ℕ) (old rs new : List Receipt) → IsCut old rs → KeepsAbove floor old rs
+    → 1 < length rs → number_at (slice_get rs 0) ≤ floor → rest ≡ length rs - 1 → new ≡ keep_last rest rs
     → IsCut old new × KeepsAbove floor old new
 one_less floor rest old [] new cut kept several below is left = absurd (omega (arith, several))
 one_less floor rest old (r ∷ rs) new cut kept several below is left =
@@ -85,5 +86,6 @@ one_less floor rest old (r ∷ rs) new cut kept several below is left =
     let all : new ≡ rs = left ∙ ap (λ i. drop i (r ∷ rs)) one in (
       subst (IsCut old) (sym all) (cut_again old (r ∷ rs) rs cut (cut_first r rs (omega (arith, several)))),
       subst (KeepsAbove floor old) (sym all)
-          (λ q there above. Contains-tail r rs q (λ same. let number : number_in r ≡ number_in q = ap number_in same in absurd (omega (arith, number, below, above))) (kept q there above)),
+          (λ q there above. Contains-tail r rs q (λ same. let number : number_in r ≡ number_in q =
+          ap number_in same in absurd (omega (arith, number, below, above))) (kept q there above)),
     )

@@ -1,10 +1,11 @@
 -- Places that are shortened, and numbers that are remembered.
-use Rattle.std.proofs.Common.{◌≡◌, ◌≢◌, ℕ, ◌==◌, inl, inr, true, false, cond, List, Option, Some, None, IfSome, BTreeMap, refl, sym, ap, subst, ◌∙◌, nat_cmp, arith}
+use Rattle.std.proofs.Common.{◌≡◌, ◌≢◌, ℕ, ◌==◌, inl, inr, true, false, cond, List, Option, Some, None, IfSome}
+use Rattle.std.proofs.Common.{BTreeMap, refl, sym, ap, subst, ◌∙◌, nat_cmp, arith}
 use Rattle.std.specs.BTreeMap as tree
 use Rattle.std.specs.Cmp.{nat_cmp_total, eq_by_cmp_equiv, unsigned_ties, unsigned_Decides}
 use Rattle.std.specs.FinMap.{get, insert}
 use Rattle.std.proofs.lemmas.Bool.{cases_eq}
-use Rattle.linda_maps.proofs.MapLaws.{get_same, get_other, same_map_by_key}
+use Rattle.linda_map_laws.proofs.MapLaws.{get_same, get_other, same_map_by_key}
 use Rattle.linda_store_state.specs.State.{State}
 use Rattle.linda_store_step.specs.Answer.{last_number}
 use Rattle.linda_shared_accounts.specs.declared.place.Place.{Place}
@@ -32,15 +33,19 @@ its_place c (places.Parked ring deeds true) own = own
 its_place c (places.Parked ring deeds false) own = (own.0, kept_ring ring.client 1 ring.receipts own.1)
 
 -- Where one place is shortened, the tallies stay.
-pub tallies_stay : (out back : ℕ) (ps qs : Places) (c : ℕ) → Tallies out back ps → get qs c ≡ shortened_at (get ps c) → ((q : ℕ) → q ≢ c → get qs q ≡ get ps q) → Tallies out back qs
+pub tallies_stay : (out back : ℕ) (ps qs : Places) (c : ℕ) → Tallies out back ps → get qs c ≡ shortened_at (get ps c)
+    → ((q : ℕ) → q ≢ c → get qs q ≡ get ps q) → Tallies out back qs
 tallies_stay out back ps qs c t here others = by (get ps c) refl
   where
     by : (o : Option Place) → get ps c ≡ o → Tallies out back qs
     by None is =
         subst (Tallies out back) (same_map_by_key ps qs c (is ∙ sym (here ∙ ap shortened_at is)) (λ q apart. sym (others q apart))) t
     by (Some p) is =
-        let all : insert ps c (shortened p) ≡ qs = same_map_by_key _ _ c (get_same ps c (shortened p) ∙ sym (here ∙ ap shortened_at is)) (λ q apart. get_other ps c (shortened p) q apart ∙ sym (others q apart)) in
-        subst (Tallies out back) all (put_over out back ps c p (shortened p) t is (weighs_same p) (counts_same p) (its_place c p (subst (λ o. IfSome o (IsPlaceOf c)) is (t.own c))))
+        let all : insert ps c (shortened p) ≡ qs =
+        same_map_by_key _ _ c (get_same ps c (shortened p) ∙ sym (here ∙ ap shortened_at is))
+        (λ q apart. get_other ps c (shortened p) q apart ∙ sym (others q apart)) in
+        subst (Tallies out back) all (put_over out back ps c p (shortened p) t is (weighs_same p)
+        (counts_same p) (its_place c p (subst (λ o. IfSome o (IsPlaceOf c)) is (t.own c))))
 
 -- Where the number that the book keeps for a client is noted, each is one that it keeps.
 pub noted : (st : State) (old new : BTreeMap ℕ ℕ) (k : ℕ) → tree.Updates nat_cmp old new k (Some (last_number st k)) → AreKept st old → AreKept st new
@@ -62,7 +67,8 @@ shortened_twice (Some (places.Parked ring deeds false)) =
     ap (λ (rs : List Receipt). Some (places.Parked (ring_of ring.client rs) deeds false)) (kept_all 1 1 ring.receipts (omega arith))
 
 -- One place more is shortened.
-pub shorten_more : (ps qs rs : Places) (c : ℕ) → AreShortened ps qs → get rs c ≡ shortened_at (get qs c) → ((q : ℕ) → q ≢ c → get rs q ≡ get qs q) → AreShortened ps rs
+pub shorten_more : (ps qs rs : Places) (c : ℕ) → AreShortened ps qs → get rs c ≡ shortened_at (get qs c)
+    → ((q : ℕ) → q ≢ c → get rs q ≡ get qs q) → AreShortened ps rs
 shorten_more ps qs rs c are here others q =
     elim (cases_eq q c) [
       | inl same ↦

@@ -1,5 +1,6 @@
 -- What a ring is when a receipt comes to it.
-use Rattle.std.proofs.Common.{◌≡◌, ℕ, ◌+◌, ◌-◌, ◌≤◌, ◌<◌, nat_lt, true, false, List, [], ◌∷◌, ◌++◌, length, length-append, drop, Some, refl, sym, ap, subst, ◌∙◌, arith, ltb-true, ltb-false}
+use Rattle.std.proofs.Common.{◌≡◌, ℕ, ◌+◌, ◌-◌, ◌≤◌, ◌<◌, nat_lt, true, false, List, [], ◌∷◌, ◌++◌, length}
+use Rattle.std.proofs.Common.{length-append, drop, Some, refl, sym, ap, subst, ◌∙◌, arith, ltb-true, ltb-false}
 use Rattle.std.specs.List.{slice_get, slice_index_or}
 use Rattle.std.proofs.lemmas.List.{length-drop, get_or_append_left, get_or-drop, get_or-append_right}
 use Rattle.std.proofs.lemmas.List.Elements.{All-push, All-drop}
@@ -15,7 +16,8 @@ use Rattle.linda_shared_accounts.specs.Ring.{AreRising, IsRing, IsNext, number_a
 -- One more with a number above the last.
 rising_more : (rs : List Receipt) (r : Receipt) → AreRising rs → last_number rs < number_in r → AreRising (rs ++ r ∷ [])
 rising_more rs r up above k d below =
-    elim (nat_lt (k + 1) (length rs)) as (λ b. nat_lt (k + 1) (length rs) ≡ b → number_in (slice_index_or (rs ++ r ∷ []) k d) < number_in (slice_index_or (rs ++ r ∷ []) (k + 1) d)) [
+    elim (nat_lt (k + 1) (length rs)) as (λ b. nat_lt (k + 1) (length rs) ≡ b
+    → number_in (slice_index_or (rs ++ r ∷ []) k d) < number_in (slice_index_or (rs ++ r ∷ []) (k + 1) d)) [
       | true ↦ λ e.
           let inside : k + 1 < length rs = ltb-true (k + 1) (length rs) e in
           let here : k < length rs = omega (arith, inside) in
@@ -43,7 +45,8 @@ rising_less n rs up k d below =
     let there : n + k + 1 < length rs = omega (arith, long, below) in
     let same : n + (k + 1) ≡ n + k + 1 = omega arith in
     subst (λ q. number_in q < number_in (slice_index_or (drop n rs) (k + 1) d)) (sym (get_or-drop n rs k d))
-    (subst (λ q. number_in (slice_index_or rs (n + k) d) < number_in q) (sym (get_or-drop n rs (k + 1) d ∙ ap (λ i. slice_index_or rs i d) same)) (up (n + k) d there))
+    (subst (λ q. number_in (slice_index_or rs (n + k) d) < number_in q)
+    (sym (get_or-drop n rs (k + 1) d ∙ ap (λ i. slice_index_or rs i d) same)) (up (n + k) d there))
 
 -- The ring with the next receipt.
 pub ring_more : (client : ℕ) (rs : List Receipt) (r : Receipt) → IsRing client rs → IsNext client rs r → IsRing client (with_receipt rs r)

@@ -1,5 +1,6 @@
 -- What is told of messages that were answered is true of their deeds.
-use Rattle.std.proofs.Common.{◌≡◌, ℕ, ◌≤◌, cond, drop, List, [], ◌∷◌, ◌++◌, map, length, Option, Some, None, option_to_list, refl, sym, ap, ◌∙◌, subst, append-nil, append_assoc, arith}
+use Rattle.std.proofs.Common.{◌≡◌, ℕ, ◌≤◌, cond, drop, List, [], ◌∷◌, ◌++◌, map, length, Option, Some, None}
+use Rattle.std.proofs.Common.{option_to_list, refl, sym, ap, ◌∙◌, subst, append-nil, append_assoc, arith}
 use Rattle.std.proofs.Math.Seq.{drop-append_seam}
 use Rattle.std.proofs.lemmas.List.{length-map, drop_all}
 use Rattle.linda_wire.specs.declared.message.Message.{Message}
@@ -20,9 +21,9 @@ use Rattle.linda_store_step.specs.Promises.{IsAnsweredAsKept}
 use Rattle.linda_store_step.proofs.AnswerLaws.{step_proper}
 use Rattle.linda_store_step.proofs.KeptLaws.{answered_as_kept}
 use Rattle.linda_store_step.proofs.AskedLaws.{step_client}
-use Rattle.linda_server.specs.declared.served.Served.{Served}
-use Rattle.linda_server.specs.declared.served.Portion.{Portion}
-use Rattle.linda_server.specs.Served.{AreAnswered, IsServed, deeds_of, sends_of, portion_of}
+use Rattle.linda_store_step.specs.declared.served.Served.{Served}
+use Rattle.linda_store_step.specs.declared.served.StepCounts.{StepCounts}
+use Rattle.linda_store_step.specs.Served.{AreAnswered, IsServed, deeds_of, sends_of, counts_of}
 use Rattle.linda_shared_accounts.specs.declared.receipt.Receipt.{Receipt}
 use Rattle.linda_shared_accounts.specs.Receipts.{deeds_in, AreTrue}
 use Rattle.linda_shared_accounts.specs.Telling.{kept_of, receipt_with, receipt_for, receipt_of, receipts_in, told_by, HasTold, IsTrueOf}
@@ -38,20 +39,22 @@ kept_again n kept.Left = refl
 abbrev answer_with : Option Deed → List (ℕ × Reply) → Soft → Answer
 answer_with deed sends soft = record { deed = deed; sends = sends; soft = soft }
 
--- What is told of answers, also by their portions.
+-- What is told of answers, also by their counts.
 record IsGood (base : State) (ds : List Deed) (answers : List Answer) (new : State) : Type 0 where
   pub is_true : IsTrueOf base ds answers new
-  pub told : told_by (map portion_of answers) (deeds_of answers) (sends_of answers) ≡ map receipt_of answers
+  pub told : told_by (map counts_of answers) (deeds_of answers) (sends_of answers) ≡ map receipt_of answers
 
-one_good : (base st mid new : State) (ds : List Deed) (c : ℕ) (m : Message) (soft behind : Soft) (o : Option Deed) (sends : List (ℕ × Reply)) (later : List Answer)
-    → IsState base → AreDone base ds st → IsStep st soft c m (answer_with o sends behind) mid → IsGood base (ds ++ option_to_list o) later new → IsGood base ds (answer_with o sends behind ∷ later) new
+one_good : (base st mid new : State) (ds : List Deed) (c : ℕ) (m : Message) (soft behind : Soft)
+    (o : Option Deed) (sends : List (ℕ × Reply)) (later : List Answer)
+    → IsState base → AreDone base ds st → IsStep st soft c m (answer_with o sends behind) mid
+    → IsGood base (ds ++ option_to_list o) later new → IsGood base ds (answer_with o sends behind ∷ later) new
 one_good base st mid new ds c m soft behind None sends later is done step rest = record {
   is_true = record {
     done = subst (λ l. AreDone base (l ++ deeds_of later) new) (append-nil ds) rest.is_true.done;
     deeds = rest.is_true.deeds;
     replies = subst (λ l. AreTrue base l (receipts_in (map receipt_of later))) (append-nil ds) rest.is_true.replies;
   };
-  told = ap (λ l. None ∷ told_by (map portion_of later) (deeds_of later) l) (drop-append_seam sends (sends_of later)) ∙ ap (λ l. None ∷ l) rest.told;
+  told = ap (λ l. None ∷ told_by (map counts_of later) (deeds_of later) l) (drop-append_seam sends (sends_of later)) ∙ ap (λ l. None ∷ l) rest.told;
 }
 one_good base st mid new ds c m soft behind (Some d) sends later is done step rest =
     let a : Answer = answer_with (Some d) sends behind in
@@ -61,8 +64,10 @@ one_good base st mid new ds c m soft behind (Some d) sends later is done step re
     let r : Receipt = record { deed = d; reply = entry.1 } in
     let more : List (ℕ × Reply) = sends_of later in
     let told_one : receipt_for (Some d) sends ≡ Some r = ap (receipt_for (Some d)) told.first ∙ ap (receipt_with d) (kept_again entry.0 entry.1) in
-    let told_first : receipt_for (Some d) (sends ++ more) ≡ Some r = ap (λ l. receipt_for (Some d) (l ++ more)) told.first ∙ ap (receipt_with d) (kept_again entry.0 entry.1) in
-    let receipts : receipts_in (map receipt_of (a ∷ later)) ≡ r ∷ receipts_in (map receipt_of later) = ap (λ o. option_to_list o ++ receipts_in (map receipt_of later)) told_one in
+    let told_first : receipt_for (Some d) (sends ++ more) ≡ Some r = ap (λ l. receipt_for (Some d) (l ++ more)) told.first
+    ∙ ap (receipt_with d) (kept_again entry.0 entry.1) in
+    let receipts : receipts_in (map receipt_of (a ∷ later)) ≡ r ∷ receipts_in (map receipt_of later) =
+    ap (λ o. option_to_list o ++ receipts_in (map receipt_of later)) told_one in
     let mine : client_of d ≡ c = step_client st mid c soft m a d step refl in
     let reply : entry.1 ≡ reply_of_deed base ds d = entry_behind st mid d c entry step.state_is mine told.kept ∙ reply_behind base st ds d st_is done.after in
     record {
@@ -71,8 +76,9 @@ one_good base st mid new ds c m soft behind (Some d) sends later is done step re
         deeds = ap deeds_in receipts ∙ ap (λ l. d ∷ l) rest.is_true.deeds;
         replies = subst (AreTrue base ds) (sym receipts) (reply, rest.is_true.replies);
       };
-      told = ap (λ l. receipt_for (Some d) (sends ++ more) ∷ told_by (map portion_of later) (deeds_of later) l) (drop-append_seam sends more)
-          ∙ (ap (λ o. o ∷ told_by (map portion_of later) (deeds_of later) more) (told_first ∙ sym told_one) ∙ ap (λ l. receipt_for (Some d) sends ∷ l) rest.told);
+      told = ap (λ l. receipt_for (Some d) (sends ++ more) ∷ told_by (map counts_of later) (deeds_of later) l) (drop-append_seam sends more)
+          ∙ (ap (λ o. o ∷ told_by (map counts_of later) (deeds_of later) more) (told_first ∙ sym told_one)
+          ∙ ap (λ l. receipt_for (Some d) sends ∷ l) rest.told);
     }
 
 -- ---- all of them
@@ -105,17 +111,19 @@ pub true_of_all : (base st new : State) (soft behind : Soft) (ms : List (ℕ × 
 true_of_all base st new soft behind ms ds answers is done are = (all_good base is ms st new soft behind ds answers done are).is_true
 
 -- What is told of what was served is what its answers come to.
-pub told_of_served : (st new : State) (soft behind : Soft) (ms : List (ℕ × Message)) (served : Served) (told : List (Option Receipt)) → told ≡ told_by served.portions.items served.deeds.items served.sends.items
+pub told_of_served : (st new : State) (soft behind : Soft) (ms : List (ℕ × Message)) (served : Served) (told : List (Option Receipt))
+    → told ≡ told_by served.counts.items served.deeds.items served.sends.items
     → IsState st → (has : IsServed st soft ms served new behind) → told ≡ map receipt_of has.answers
 told_of_served st new soft behind ms served told told_is is has =
     let good : IsGood st [] has.answers new = all_good st is ms st new soft behind [] has.answers (none_done st is) has.answered in
     let tells = has.tells in
     told_is
-    ∙ (ap (λ l. told_by l served.deeds.items served.sends.items) tells.portions
-    ∙ (ap (λ l. told_by (map portion_of has.answers) l served.sends.items) tells.deeds
-    ∙ (ap (λ l. told_by (map portion_of has.answers) (deeds_of has.answers) l) tells.sends ∙ good.told)))
+    ∙ (ap (λ l. told_by l served.deeds.items served.sends.items) tells.counts
+    ∙ (ap (λ l. told_by (map counts_of has.answers) l served.sends.items) tells.deeds
+    ∙ (ap (λ l. told_by (map counts_of has.answers) (deeds_of has.answers) l) tells.sends ∙ good.told)))
 
-pub has_told : (st new : State) (soft behind : Soft) (ms : List (ℕ × Message)) (served : Served) (told : List (Option Receipt)) → told ≡ told_by served.portions.items served.deeds.items served.sends.items
+pub has_told : (st new : State) (soft behind : Soft) (ms : List (ℕ × Message)) (served : Served) (told : List (Option Receipt))
+    → told ≡ told_by served.counts.items served.deeds.items served.sends.items
     → IsState st → IsServed st soft ms served new behind → HasTold st soft ms told served.sends.items new behind
 has_told st new soft behind ms served told told_is is has = record {
   answers = has.answers;
@@ -132,14 +140,15 @@ more_true st ds (r ∷ rs) qs first later =
 
 -- ---- how many
 
--- Each portion is told of once.
-pub told_each : (ss : List Portion) (ds : List Deed) (sends : List (ℕ × Reply)) → length (told_by ss ds sends) ≡ length ss
+-- Each count is told of once.
+pub told_each : (ss : List StepCounts) (ds : List Deed) (sends : List (ℕ × Reply)) → length (told_by ss ds sends) ≡ length ss
 told_each [] ds sends = refl
 told_each (s ∷ ss) ds sends =
     let rest = told_each ss (cond s.has_deed (drop 1 ds) ds) (drop s.sends sends) in
     omega (arith, rest)
 
-answered_each : (ms : List (ℕ × Message)) (st new : State) (soft behind : Soft) (answers : List Answer) → AreAnswered st soft ms answers new behind → length answers ≡ length ms
+answered_each : (ms : List (ℕ × Message)) (st new : State) (soft behind : Soft) (answers : List Answer)
+    → AreAnswered st soft ms answers new behind → length answers ≡ length ms
 answered_each [] st new soft behind answers are = ap length are.0
 answered_each (m ∷ ms) st new soft behind answers are =
     let rest = answered_each ms are.1.0 new are.0.soft behind are.1.1.0 are.1.1.1.1.0 in
@@ -147,10 +156,12 @@ answered_each (m ∷ ms) st new soft behind answers are =
     omega (arith, same, rest)
 
 -- Each message is told of once.
-pub told_once : (st new : State) (soft behind : Soft) (ms : List (ℕ × Message)) (told : List (Option Receipt)) (sends : List (ℕ × Reply)) → HasTold st soft ms told sends new behind → length told ≡ length ms
+pub told_once : (st new : State) (soft behind : Soft) (ms : List (ℕ × Message)) (told : List (Option Receipt)) (sends : List (ℕ × Reply))
+    → HasTold st soft ms told sends new behind → length told ≡ length ms
 told_once st new soft behind ms told sends has =
     ap length has.told_is ∙ (length-map has.answers receipt_of ∙ answered_each ms st new soft behind has.answers has.answered)
 
--- At the end of the portions nothing is left to be told.
-pub told_whole : (told : List (Option Receipt)) (ss : List Portion) (n : ℕ) (ds : List Deed) (sends : List (ℕ × Reply)) (all : List (Option Receipt)) → length ss ≤ n → told ++ told_by (drop n ss) ds sends ≡ all → told ≡ all
+-- At the end of the counts nothing is left to be told.
+pub told_whole : (told : List (Option Receipt)) (ss : List StepCounts) (n : ℕ) (ds : List Deed) (sends : List (ℕ × Reply)) (all : List (Option Receipt))
+    → length ss ≤ n → told ++ told_by (drop n ss) ds sends ≡ all → told ≡ all
 told_whole told ss n ds sends all past is = sym (append-nil told) ∙ (ap (λ l. told ++ told_by l ds sends) (sym (drop_all n ss past)) ∙ is)

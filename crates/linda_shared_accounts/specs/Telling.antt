@@ -12,8 +12,8 @@ use Rattle.linda_store_state.specs.State.{State}
 use Rattle.linda_store_state.specs.Proper.{AreDone}
 use Rattle.linda_store_step.specs.Soft.{Soft}
 use Rattle.linda_store_step.specs.Answer.{Answer}
-use Rattle.linda_server.specs.declared.served.Portion.{Portion}
-use Rattle.linda_server.specs.Served.{AreAnswered, deeds_of, sends_of}
+use Rattle.linda_store_step.specs.declared.served.StepCounts.{StepCounts}
+use Rattle.linda_store_step.specs.Served.{AreAnswered, deeds_of, sends_of}
 use Rattle.linda_shared_accounts.specs.declared.receipt.Receipt.{Receipt}
 use Rattle.linda_shared_accounts.specs.Receipts.{deeds_in, AreTrue}
 
@@ -47,8 +47,8 @@ receipt_of a = receipt_for a.deed a.sends
 abbrev pub receipts_in : List (Option Receipt) → List Receipt
 receipts_in told = flat_map option_to_list told
 
--- what each message led to, given by its portion of all deeds and sends
-abbrev pub told_by : List Portion → List Deed → List (ℕ × Reply) → List (Option Receipt)
+-- what each message led to, given by its counts
+abbrev pub told_by : List StepCounts → List Deed → List (ℕ × Reply) → List (Option Receipt)
 told_by [] ds sends = []
 told_by (s ∷ ss) ds sends =
     (if s.has_deed then receipt_for (slice_get ds 0) sends else None)

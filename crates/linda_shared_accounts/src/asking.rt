@@ -1,6 +1,6 @@
 //! Test whether a deed is one that a message asks for.
 
-ghost use Rattle.std.specs.Prelude.{◌≡◌, ◌↔◌, IsTrue};
+ghost use Rattle.std.specs.Prelude.{◌↔◌, IsTrue};
 ghost use Rattle.linda_store_step.specs.Reported.{IsDeedOf};
 
 use linda_store_state::Deed;

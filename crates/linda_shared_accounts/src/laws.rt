@@ -9,7 +9,7 @@ ghost use Rattle.linda_store_state.specs.State.{State, IsState};
 ghost use Rattle.linda_store_state.specs.Proper.{AreDone};
 ghost use Rattle.linda_store_step.specs.Soft.{Soft};
 ghost use Rattle.linda_store_step.specs.Answer.{Answer};
-ghost use Rattle.linda_server.specs.Served.{AreAnswered};
+ghost use Rattle.linda_store_step.specs.Served.{AreAnswered};
 ghost use Rattle.linda_shared_accounts.specs.declared.receipt.Receipt.{Receipt};
 ghost use Rattle.circular_buffer.specs.Buffer.{last_item};
 ghost use Rattle.linda_shared_accounts.specs.Receipts.{deeds_in, AreTrue};

@@ -1,8 +1,8 @@
 //! Accounts of what was reported to each session, beside what was stored.
 //!
 //! A session carries an `Account`: of how many deeds it heard, its last receipts, and its parts of
-//! a ledger. Each message goes to the server with one part (`PendingAck`) and comes back with what was
-//! reported (`Ack`), which the `Accounts` under the server's lock has written into the ledger.
+//! a ledger. Each message goes to the server with one part (`PendingAck`) and comes back with what
+//! was reported (`Ack`), which the `Accounts` under the server's lock has written into the ledger.
 //! So once all accounts are back, what was reported in all is what was reported to them; and
 //! `Accounts::compare` says whether that is what was stored.
 //!
@@ -21,9 +21,9 @@ mod place;
 mod places;
 mod receipt;
 mod ring;
-mod send;
 mod shared_receipt;
 mod telling;
+mod thread_safety;
 mod tokens;
 
 pub use account::Account;
@@ -40,6 +40,6 @@ pub use pending_ack::{Ack, PendingAck};
 pub use place::Place;
 pub use receipt::Receipt;
 pub use ring::Ring;
-pub use send::{account_crosses, accounts_cross, jobs_cross};
 pub use shared_receipt::SharedReceipt;
 pub use telling::receipts_of;
+pub use thread_safety::{account_crosses, accounts_cross, jobs_cross};

@@ -1,6 +1,6 @@
 //! A message on its way to the server and back, with a part of the ledger.
 
-ghost use Rattle.std.specs.Prelude.{◌≡◌, ◌≢◌, ◌+◌, ◌<◌, ◌^◌};
+ghost use Rattle.std.specs.Prelude.{◌≡◌, ◌+◌, ◌<◌, ◌^◌};
 ghost use Rattle.linda_shared_accounts.specs.Accounts.{accounts_of};
 ghost use Rattle.linda_shared_accounts.specs.Effect.{weight};
 

@@ -1,6 +1,6 @@
 //! The last receipts of one client.
 
-ghost use Rattle.std.specs.Prelude.{◌≡◌, ◌≢◌, ◌<◌, ◌≤◌, true, false, All, IfOk, Contains, []};
+ghost use Rattle.std.specs.Prelude.{◌≡◌, ◌<◌, ◌≤◌, true, false, IfOk, []};
 ghost use Rattle.std.specs.Prelude.{option_copied, length};
 ghost use Rattle.std.specs.Prelude.{slice_get};
 ghost use Rattle.circular_buffer.specs.Buffer.{keep_last, last_item};

@@ -7,13 +7,13 @@ ghost use Rattle.linda_wire.specs.declared.message.Message.{Message};
 ghost use Rattle.linda_store_state.specs.State as states;
 ghost use Rattle.linda_store_state.specs.State.{IsState};
 ghost use Rattle.linda_store_step.specs.Soft.{Soft};
-ghost use Rattle.linda_server.specs.Served.{IsServed};
+ghost use Rattle.linda_store_step.specs.Served.{IsServed};
 ghost use Rattle.linda_shared_accounts.specs.Telling as spec;
 ghost use Rattle.linda_shared_accounts.specs.Telling.{HasTold, kept_of, told_by};
 
 use crate::receipt::Receipt;
 use crate::shared_receipt::SharedReceipt;
-use linda_server::{Portion, Served};
+use linda_server::{Served, StepCounts};
 use linda_store_state::{Deed, KeptReply};
 use linda_wire::Reply;
 use std::alloc::{AllocError, Global};
@@ -30,8 +30,8 @@ pub fn receipts_of(
     served: Served,
 ) -> Result<(Vec<Option<SharedReceipt>>, Vec<(u32, Reply)>), AllocError>
     ensures told { IfOk result (λ r. r.0.items
-        ≡ told_by served.portions.items served.deeds.items served.sends.items) }
-    ensures each { IfOk result (λ r. length r.0.items ≡ length served.portions.items) }
+        ≡ told_by served.counts.items served.deeds.items served.sends.items) }
+    ensures each { IfOk result (λ r. length r.0.items ≡ length served.counts.items) }
     ensures answers { IfOk result (λ r. (st new : states.State) (soft behind : Soft)
         (ms : List (ℕ × Message))
         → IsState st → IsServed st soft ms served new behind
@@ -41,33 +41,33 @@ pub fn receipts_of(
     let Served {
         deeds,
         sends,
-        portions,
+        counts,
     } = served;
     let mut deeds = deeds.into_iter();
-    let told = tell_all(alloc, &mut deeds, &sends, &portions)?;
+    let told = tell_all(alloc, &mut deeds, &sends, &counts)?;
     Ok((told, sends))
 }
 
-// For each portion the receipt of its deed, if it has one.
+// For each count the receipt of its deed, if it has one.
 fn tell_all(
     alloc: Global,
     deeds: &mut IntoIter<Deed>,
     sends: &[(u32, Reply)],
-    portions: &[Portion],
+    counts: &[StepCounts],
 ) -> Result<Vec<Option<SharedReceipt>>, AllocError>
     ensures { IfOk result (λ told.
-        told.items ≡ told_by portions.now (into_iter_items deeds.old) sends.now) }
+        told.items ≡ told_by counts.now (into_iter_items deeds.old) sends.now) }
 {
-    let mut told = Vec::with_capacity(alloc, portions.len())?;
+    let mut told = Vec::with_capacity(alloc, counts.len())?;
     let mut rest = sends;
-    for portion in portions {
-        if portion.has_deed {
+    for count in counts {
+        if count.has_deed {
             let deed = next_of(deeds);
             told.push(receipt_for(alloc, deed, rest)?)?;
         } else {
             told.push(None)?;
         }
-        rest = behind(rest, portion.sends);
+        rest = behind(rest, count.sends);
     }
     Ok(told)
 }

@@ -1,6 +1,6 @@
 //! The tokens of the ledger that are under a lock.
 
-ghost use Rattle.std.specs.Prelude.{◌≡◌, ◌≢◌, ◌+◌, ◌-◌, ◌*◌, ◌<◌, ◌≤◌, ◌^◌, true, false};
+ghost use Rattle.std.specs.Prelude.{◌≡◌, ◌+◌, ◌-◌, ◌*◌, ◌<◌, ◌≤◌, ◌^◌, true, false};
 ghost use Rattle.linda_shared_accounts.specs.Tokens as seen;
 ghost use Rattle.linda_shared_accounts.specs.Tokens.{tokens_of};
 

@@ -1,5 +1,7 @@
 -- Messages that go one by one.
-use Rattle.std.proofs.Common.{◌≡◌, ℕ, ◌+◌, ◌≤◌, Bool, true, false, true≢false, cond, List, [], ◌∷◌, ◌++◌, map, length, Option, Some, None, option_to_list, refl, sym, ap, ◌∙◌, subst, append-nil, append_assoc, length-append, arith, rules, ◌<◌, ◌^◌, ◌⊎◌, inl, inr, Ok, Err}
+use Rattle.std.proofs.Common.{◌≡◌, ℕ, ◌+◌, ◌≤◌, Bool, true, false, true≢false, cond, List, [], ◌∷◌, ◌++◌, map, length}
+use Rattle.std.proofs.Common.{Option, Some, None, option_to_list, refl, sym, ap, ◌∙◌, subst, append-nil, append_assoc}
+use Rattle.std.proofs.Common.{length-append, arith, rules, ◌<◌, ◌^◌, ◌⊎◌, inl, inr, Ok, Err}
 use Rattle.std.proofs.lemmas.List.{map-append}
 use Rattle.std.proofs.lemmas.List.Elements.{All-nil, All-cons}
 use Rattle.linda_wire.specs.declared.message.Message.{Message}
@@ -65,7 +67,8 @@ take_true st ds [] qs are = tt
 take_true st ds (r ∷ rs) qs are = (are.0, take_true st (ds ++ r.deed ∷ []) rs qs are.1)
 
 -- The last receipts are told to nobody, and the server is down.
-takes_back : (opening base : State) (rs qs : List Receipt) (count : ℕ) (st : State) → IsInOrder opening base (rs ++ qs) (count + length qs) true st → IsInOrder opening base rs count true st
+takes_back : (opening base : State) (rs qs : List Receipt) (count : ℕ) (st : State)
+    → IsInOrder opening base (rs ++ qs) (count + length qs) true st → IsInOrder opening base rs count true st
 takes_back opening base rs qs count st so =
     let long = length-append rs qs in
     let counted = so.counted in
@@ -74,7 +77,8 @@ takes_back opening base rs qs count st so =
       earlier = so.earlier;
       to_base = so.to_base;
       untold = deeds_in qs ++ so.untold;
-      to_state = subst (λ l. AreDone base l st) (ap (λ l. l ++ so.untold) (map-append (λ (r : Receipt). r.deed) rs qs) ∙ append_assoc (deeds_in rs) (deeds_in qs) so.untold) so.to_state;
+      to_state = subst (λ l. AreDone base l st) (ap (λ l. l ++ so.untold) (map-append (λ (r : Receipt). r.deed) rs qs)
+          ∙ append_assoc (deeds_in rs) (deeds_in qs) so.untold) so.to_state;
       none_untold = λ up. absurd (true≢false up);
       replies = take_true base [] rs qs so.replies;
       counted = omega (arith, counted, long);
@@ -89,7 +93,8 @@ took_back opening base rs0 rs1 rs2 qs count true st is more back so =
     (takes_back opening base rs0 qs count st (subst (λ l. IsInOrder opening base l (count + length qs) true st) more so))
 
 -- A refusal reports no deed.
-pub refusal_covered : (client : ℕ) (refusal : Refusal) (old new : Outboxes) → ((c : ℕ) → waits_for new c ≡ with_more (replies_to c ((client, refused refusal) ∷ [])) (waits_for old c)) → KeepCovered old new
+pub refusal_covered : (client : ℕ) (refusal : Refusal) (old new : Outboxes)
+    → ((c : ℕ) → waits_for new c ≡ with_more (replies_to c ((client, refused refusal) ∷ [])) (waits_for old c)) → KeepCovered old new
 refusal_covered client refusal old new posted st covered =
     boxes_more st st ((client, refused refusal) ∷ []) (λ q. waits_for old q) (λ q. waits_for new q) (λ send is. is)
     (All-cons (IsCovered st) (client, refused refusal) [] (λ reports. absurd (true≢false (sym reports))) (All-nil (IsCovered st))) posted covered
@@ -102,7 +107,8 @@ module _ {D : Type 0} {g : Ghosts D} where
   -- ---- one message by itself
 
   -- It was refused.
-  pub refused_one : {old new : Kept D g} {count : ℕ} {m : ℕ × Message} (refusal : Refusal) → new.receipts ≡ old.receipts → IsWhy old.server count m refusal → count < 2 ^ 64
+  pub refused_one : {old new : Kept D g} {count : ℕ} {m : ℕ × Message} (refusal : Refusal)
+      → new.receipts ≡ old.receipts → IsWhy old.server count m refusal → count < 2 ^ 64
       → TurnsAway old.server old.boxes m.0 refusal (Ok tt) new.server new.boxes → TakesOne old count m (Ok None) new
   refused_one {old} {new} {count} {m} refusal same why fits turned = record {
     keeps = record {
@@ -124,7 +130,8 @@ module _ {D : Type 0} {g : Ghosts D} where
   }
 
   -- The server has no room for it, and it was refused.
-  pub full_one : {old mid new : Kept D g} {count : ℕ} {m : ℕ × Message} {ms : List (ℕ × Message)} {fault : SharedFault} → ServesAll old ms (Err fault) mid → ms ≡ m ∷ [] → fault ≡ faults.Full → new.receipts ≡ mid.receipts
+  pub full_one : {old mid new : Kept D g} {count : ℕ} {m : ℕ × Message} {ms : List (ℕ × Message)} {fault : SharedFault}
+      → ServesAll old ms (Err fault) mid → ms ≡ m ∷ [] → fault ≡ faults.Full → new.receipts ≡ mid.receipts
       → count < 2 ^ 64 → TurnsAway mid.server mid.boxes m.0 refusals.Full (Ok tt) new.server new.boxes → TakesOne old count m (Ok None) new
   full_one {old} {mid} {new} {count} {m} {ms} serves only is_full same fits turned =
       let full = serves.full (ap Err is_full) in
@@ -133,7 +140,8 @@ module _ {D : Type 0} {g : Ghosts D} where
       (refused_one refusals.Full same (inl (refl, subst (λ s. HasNoRoomFor s (m ∷ [])) (sym full.0) lacks)) fits turned)
 
   -- It failed, and the server is given up.
-  pub failed_one : {old mid : Kept D g} {t : Durable D g} {count : ℕ} {m : ℕ × Message} {ms : List (ℕ × Message)} {fault : SharedFault} → ServesAll old ms (Err fault) mid → IsKnownStill mid.server t → t.down ≡ true
+  pub failed_one : {old mid : Kept D g} {t : Durable D g} {count : ℕ} {m : ℕ × Message} {ms : List (ℕ × Message)} {fault : SharedFault}
+      → ServesAll old ms (Err fault) mid → IsKnownStill mid.server t → t.down ≡ true
       → TakesOne old count m (Err faults.Down) (record { server = t; receipts = mid.receipts; boxes = mid.boxes })
   failed_one {old} {mid} {t} serves still down =
       let new : Kept D g = record { server = t; receipts = mid.receipts; boxes = mid.boxes } in
@@ -155,7 +163,8 @@ module _ {D : Type 0} {g : Ghosts D} where
       }
 
   -- It was answered.
-  pub answered_one : {old new : Kept D g} {count : ℕ} {m : ℕ × Message} {ms : List (ℕ × Message)} {told : Vec (Option Receipt)} {one : Option Receipt} → ServesAll old ms (Ok told) new → ms ≡ m ∷ [] → told.items ≡ one ∷ []
+  pub answered_one : {old new : Kept D g} {count : ℕ} {m : ℕ × Message} {ms : List (ℕ × Message)} {told : Vec (Option Receipt)} {one : Option Receipt}
+      → ServesAll old ms (Ok told) new → ms ≡ m ∷ [] → told.items ≡ one ∷ []
       → count < 2 ^ 64 → CanCount old.server.store.state count m → TakesOne old count m (Ok one) new
   answered_one {old} {new} {count} {m} {ms} {told} {one} serves only is fits can =
       let went : GoTogether old.server (m ∷ []) (one ∷ []) (λ q. waits_for old.boxes q) (λ q. waits_for new.boxes q) new.server =
@@ -177,7 +186,8 @@ module _ {D : Type 0} {g : Ghosts D} where
         countable =
             elim can [
               | inl none ↦
-                  let made = none_made old.server.store.state old.server.store.soft m (one ∷ []) has.sends new.server.store.state new.server.store.soft none.0 none.1 has.has_told in
+                  let made = none_made old.server.store.state old.server.store.soft m
+                  (one ∷ []) has.sends new.server.store.state new.server.store.soft none.0 none.1 has.has_told in
                   let zero : length (receipts_in (one ∷ [])) ≡ 0 = ap length made in
                   omega (arith, zero, fits)
               | inr room ↦ omega (arith, few, room)
@@ -194,19 +204,24 @@ module _ {D : Type 0} {g : Ghosts D} where
     err = tt;
     down = λ e. search (rules, e);
     memory = λ e. search (rules, e);
-    ok_order = λ opening base n so. subst (λ l. InOrder opening base (n + length (receipts_in l)) old) (sym is) (subst (λ k. InOrder opening base k old) (omega arith) so);
+    ok_order = λ opening base n so. subst (λ l. InOrder opening base (n + length (receipts_in l)) old)
+        (sym is) (subst (λ k. InOrder opening base k old) (omega arith) so);
     err_order = λ opening base n so. tt;
     covered = λ opening base n so covered. covered;
   }
 
   -- One more.
-  pub keeps_more : {old mid new : Kept D g} {told next : Vec (Option Receipt)} {one : Option Receipt} → KeepsAll old (Ok told) mid → Keeps (λ o. o ∷ []) mid (Ok one) new → next.items ≡ told.items ++ one ∷ []
+  pub keeps_more : {old mid new : Kept D g} {told next : Vec (Option Receipt)} {one : Option Receipt}
+      → KeepsAll old (Ok told) mid → Keeps (λ o. o ∷ []) mid (Ok one) new → next.items ≡ told.items ++ one ∷ []
       → KeepsAll old (Ok next) new
   keeps_more {old} {mid} {new} {told} {next} {one} before more all =
       let receipts : receipts_in next.items ≡ receipts_in told.items ++ receipts_in (one ∷ []) = ap receipts_in all ∙ receipts_more told.items one in
-      let long : length (receipts_in next.items) ≡ length (receipts_in told.items) + length (receipts_in (one ∷ [])) = ap length receipts ∙ length-append (receipts_in told.items) (receipts_in (one ∷ [])) in
+      let long : length (receipts_in next.items) ≡ length (receipts_in told.items) + length (receipts_in (one ∷ [])) =
+      ap length receipts ∙ length-append (receipts_in told.items) (receipts_in (one ∷ [])) in
       record {
-        receipts = more.receipts ∙ (ap (λ l. l ++ receipts_in (one ∷ [])) before.receipts ∙ (append_assoc old.receipts (receipts_in told.items) (receipts_in (one ∷ [])) ∙ ap (λ l. old.receipts ++ l) (sym receipts)));
+        receipts = more.receipts
+            ∙ (ap (λ l. l ++ receipts_in (one ∷ [])) before.receipts
+            ∙ (append_assoc old.receipts (receipts_in told.items) (receipts_in (one ∷ [])) ∙ ap (λ l. old.receipts ++ l) (sym receipts)));
         err = tt;
         down = λ e. search (rules, e);
         memory = λ e. search (rules, e);
@@ -214,11 +229,13 @@ module _ {D : Type 0} {g : Ghosts D} where
             let there = more.ok_order opening base (n + length (receipts_in told.items)) (before.ok_order opening base n so) in
             subst (λ k. InOrder opening base k new) (omega (arith, long)) there;
         err_order = λ opening base n so. tt;
-        covered = λ opening base n so covered. more.covered opening base (n + length (receipts_in told.items)) (before.ok_order opening base n so) (before.covered opening base n so covered);
+        covered = λ opening base n so covered. more.covered opening base (n + length (receipts_in told.items))
+            (before.ok_order opening base n so) (before.covered opening base n so covered);
       }
 
   -- The next one took the server down: the receipts of those before it are told to nobody.
-  pub keeps_back : {old mid new last : Kept D g} {told : Vec (Option Receipt)} {count : ℕ} {m : ℕ × Message} {fault : SharedFault} → KeepsAll old (Ok told) mid → TakesOne mid count m (Err fault) new
+  pub keeps_back : {old mid new last : Kept D g} {told : Vec (Option Receipt)} {count : ℕ} {m : ℕ × Message} {fault : SharedFault}
+      → KeepsAll old (Ok told) mid → TakesOne mid count m (Err fault) new
       → last.server ≡ new.server → last.boxes ≡ new.boxes → last.receipts ≡ old.receipts → KeepsAll old (Err faults.Down) last
   keeps_back {old} {mid} {new} {last} {told} before fails server boxes back =
       let qs = receipts_in told.items in
@@ -231,8 +248,10 @@ module _ {D : Type 0} {g : Ghosts D} where
         err_order = λ opening base n so.
             let there : InOrder opening base (n + length qs) new = fails.keeps.err_order opening base (n + length qs) (before.ok_order opening base n so) in
             subst (λ s. IsInOrder opening base last.receipts n s.down (known_of s)) (sym server)
-            (took_back opening base old.receipts new.receipts last.receipts qs n new.server.down (known_of new.server) fails.err.0 (fails.keeps.err ∙ before.receipts) back there);
+            (took_back opening base old.receipts new.receipts last.receipts qs n new.server.down
+            (known_of new.server) fails.err.0 (fails.keeps.err ∙ before.receipts) back there);
         covered = λ opening base n so covered.
             let there = fails.keeps.covered opening base (n + length qs) (before.ok_order opening base n so) (before.covered opening base n so covered) in
-            subst (λ s. BoxesCovered (known_of s) (λ q. waits_for last.boxes q)) (sym server) (subst (λ b. BoxesCovered (known_of new.server) (λ q. waits_for b q)) (sym boxes) there);
+            subst (λ s. BoxesCovered (known_of s) (λ q. waits_for last.boxes q)) (sym server)
+            (subst (λ b. BoxesCovered (known_of new.server) (λ q. waits_for b q)) (sym boxes) there);
       }

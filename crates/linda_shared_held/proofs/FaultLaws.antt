@@ -8,7 +8,7 @@ use Rattle.linda_disk.specs.declared.disk.Disk.{Ghosts}
 use Rattle.linda_server.specs.declared.durable.Durable.{Durable}
 use Rattle.linda_shared_accounts.specs.declared.fault.SharedFault.{SharedFault}
 use Rattle.linda_shared_held.specs.Order.{known}
-use Rattle.linda_shared_held.specs.Kept.{known_of, IsKnownStill}
+use Rattle.linda_shared_held.specs.Kept.{IsKnownStill}
 
 still_known : (old_before new_before : State) (old new : Store) (was_down is_down : Bool) → is_down ≡ true
     → (was_down ≡ true → (new_before ≡ old_before)) → (was_down ≡ false → new_before ≡ old.state)
@@ -18,7 +18,8 @@ still_known old_before new_before old new false is_down down same before = cond-
 
 module _ {D : Type 0} {g : Ghosts D} where
   -- It was down before, and nothing changed; or it went down, and the state before is the one that it had.
-  pub fallen_still : (s t : Durable D g) → t.down ≡ true → (s.down ≡ true → t.before.value ≡ s.before.value) → (s.down ≡ false → t.before.value ≡ s.store.state) → IsKnownStill s t
+  pub fallen_still : (s t : Durable D g) → t.down ≡ true → (s.down ≡ true → t.before.value ≡ s.before.value)
+      → (s.down ≡ false → t.before.value ≡ s.store.state) → IsKnownStill s t
   fallen_still s t down same before =
       (still_known s.before.value t.before.value s.store t.store s.down t.down down same before, λ up. absurd (true≢false (sym down ∙ up)))
 
@@ -31,6 +32,7 @@ module _ {D : Type 0} {g : Ghosts D} where
   still_both r s t first second = (second.0 ∙ first.0, λ up. first.1 (second.1 up))
 
   -- So it is of one that took a step or a snapshot, or did not.
-  pub still_taken : (s t : Durable D g) {T : Type 0} (r : Result T SharedFault) → OnErr r (IsKnownStill s t) → OnOk r ((s.down ≡ false) × (t.down ≡ false)) → t.store ≡ s.store → IsKnownStill s t
+  pub still_taken : (s t : Durable D g) {T : Type 0} (r : Result T SharedFault) → OnErr r (IsKnownStill s t)
+      → OnOk r ((s.down ≡ false) × (t.down ≡ false)) → t.store ≡ s.store → IsKnownStill s t
   still_taken s t (Ok done) still up store = still_up s t up.0 up.1 (ap (λ (x : Store). x.state) store)
   still_taken s t (Err fault) still up store = still

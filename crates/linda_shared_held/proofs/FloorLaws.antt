@@ -2,7 +2,7 @@
 use Rattle.std.proofs.Common.{◌≡◌, ℕ, Bool, ◌==◌, true, false, cond, Option, Some, None, IfSome, sym, ap, subst, ◌∙◌, nat_cmp}
 use Rattle.std.specs.BTreeMap as tree
 use Rattle.std.specs.FinMap.{empty, get}
-use Rattle.linda_maps.proofs.MapLaws.{get_empty, get_is_lookup, get_removed}
+use Rattle.linda_map_laws.proofs.MapLaws.{get_empty, get_is_lookup, get_removed}
 use Rattle.linda_store_state.specs.State.{State}
 use Rattle.linda_store_step.specs.Answer.{last_number}
 use Rattle.linda_shared_accounts.specs.Recall.{AreKept}
@@ -34,4 +34,5 @@ still_there false o P all = all
 pub remembers_less : (st : State) (old new : Recall) (client : ℕ) → IsTaken old client new → Remembers st old → Remembers st new
 remembers_less st old new client taken all c =
     let at : get (floors_of new) c ≡ cond (c == client) None (get (floors_of old) c) = ap (λ m. get m c) taken ∙ get_removed (floors_of old) client c in
-    subst (λ (o : Option ℕ). IfSome o (λ number. number ≡ last_number st c)) (sym at) (still_there (c == client) (get (floors_of old) c) (λ number. number ≡ last_number st c) (all c))
+    subst (λ (o : Option ℕ). IfSome o (λ number. number ≡ last_number st c)) (sym at)
+    (still_there (c == client) (get (floors_of old) c) (λ number. number ≡ last_number st c) (all c))

@@ -1,5 +1,7 @@
 -- A Hello changes nothing, and its answer is the greeting.
-use Rattle.std.proofs.Common.{◌≡◌, ◌≢◌, ℕ, Bool, true, false, not, cond, ◌==◌, ◌&&◌, nat_lt, List, [], ◌∷◌, ◌++◌, Option, Some, None, All, IfSome, option_to_list, sym, ap, ◌∙◌, subst, append-nil, inl, inr, arith}
+use Rattle.std.proofs.Common.{◌≡◌, ◌≢◌, ℕ, Bool, true, false, not, cond, ◌==◌, ◌&&◌, nat_lt, List, [], ◌∷◌, ◌++◌}
+use Rattle.std.proofs.Common.{Option, Some, None, All, IfSome, option_to_list, sym, ap, ◌∙◌, subst, append-nil, inl}
+use Rattle.std.proofs.Common.{inr, arith}
 use Rattle.std.proofs.lemmas.Bool.{cases_eq}
 use Rattle.std.proofs.lemmas.List.Elements.{All-nil}
 use Rattle.linda_wire.specs.declared.message.Message.TheVariants as messages
@@ -22,8 +24,8 @@ use Rattle.linda_store_step.specs.Store.{IsOrderly}
 use Rattle.linda_store_step.specs.History.{History, says}
 use Rattle.linda_store_step.proofs.ExistLaws.{outcome_of}
 use Rattle.linda_store_step.specs.Answer.{Answer, only_reply, greeting, is_one_too_many, last_number, IsStep}
-use Rattle.linda_server.specs.declared.served.Served.{Served}
-use Rattle.linda_server.specs.Served.{sends_of, deeds_of, IsServed}
+use Rattle.linda_store_step.specs.declared.served.Served.{Served}
+use Rattle.linda_store_step.specs.Served.{sends_of, deeds_of, IsServed}
 use Rattle.linda_server.specs.Calls.{IsTooMuch}
 use Rattle.linda_store_step.specs.Covered.{IsCovered}
 use Rattle.linda_shared_held.specs.Covered.{BoxesCovered}
@@ -73,7 +75,8 @@ hello_has_room s c client version fresh orderly lacks =
     let none : later.deeds ≡ [] = ap (λ (h : History). h.deeds) whole.1.1.1.1.1.0 in
     let all : whole.0.deeds ≡ [] =
     ap (λ (h : History). h.deeds) whole.1.1.1.1.1.1
-    ∙ (ap (λ (l : List Deed). option_to_list a.deed ++ l) none ∙ (append-nil (option_to_list a.deed) ∙ ap (λ (x : Answer). option_to_list x.deed) step.answer)) in
+    ∙ (ap (λ (l : List Deed). option_to_list a.deed ++ l) none
+    ∙ (append-nil (option_to_list a.deed) ∙ ap (λ (x : Answer). option_to_list x.deed) step.answer)) in
     elim (subst (λ ds. IsTooMuch (form_in_use s.disks) (end_in_use s.disks) s.limit ds) all (lacks whole.0 whole.1)) [
       | inl unspelled ↦ unspelled (All-nil (SuitsForm (form_in_use s.disks)))
       | inr much ↦ absurd (omega (arith, much.0))
@@ -84,11 +87,13 @@ pub boxes_opened : (st : State) (client : ℕ) (waits0 waits1 : ℕ → Option (
     → ((c : ℕ) → c ≢ client → waits1 c ≡ waits0 c) → BoxesCovered st waits0 → BoxesCovered st waits1
 boxes_opened st client waits0 waits1 at others covered c =
     elim (cases_eq c client) [
-      | inl here ↦ subst (λ c. IfSome (waits1 c) (All (λ (r : Reply). IsCovered st (c, r)))) (sym here) (subst (λ o. IfSome o (All (λ (r : Reply). IsCovered st (client, r)))) (sym at) (there (waits0 client) (covered client)))
+      | inl here ↦ subst (λ c. IfSome (waits1 c) (All (λ (r : Reply). IsCovered st (c, r)))) (sym here)
+          (subst (λ o. IfSome o (All (λ (r : Reply). IsCovered st (client, r)))) (sym at) (there (waits0 client) (covered client)))
       | inr apart ↦ subst (λ o. IfSome o (All (λ (r : Reply). IsCovered st (c, r)))) (sym (others c apart)) (covered c)
     ]
   where
-    there : (o : Option (List Reply)) → IfSome o (All (λ (r : Reply). IsCovered st (client, r))) → IfSome (opened o) (All (λ (r : Reply). IsCovered st (client, r)))
+    there : (o : Option (List Reply)) → IfSome o (All (λ (r : Reply). IsCovered st (client, r)))
+        → IfSome (opened o) (All (λ (r : Reply). IsCovered st (client, r)))
     there None none = All-nil (λ (r : Reply). IsCovered st (client, r))
     there (Some rs) some = some
 
@@ -97,7 +102,8 @@ pub boxes_shut : (st : State) (client : ℕ) (waits0 waits1 : ℕ → Option (Li
     → ((c : ℕ) → c ≢ client → waits1 c ≡ waits0 c) → BoxesCovered st waits0 → BoxesCovered st waits1
 boxes_shut st client waits0 waits1 at others covered c =
     elim (cases_eq c client) [
-      | inl here ↦ subst (λ c. IfSome (waits1 c) (All (λ (r : Reply). IsCovered st (c, r)))) (sym here) (subst (λ o. IfSome o (All (λ (r : Reply). IsCovered st (client, r)))) (sym at) tt)
+      | inl here ↦ subst (λ c. IfSome (waits1 c) (All (λ (r : Reply). IsCovered st (c, r)))) (sym here)
+          (subst (λ o. IfSome o (All (λ (r : Reply). IsCovered st (client, r)))) (sym at) tt)
       | inr apart ↦ subst (λ o. IfSome o (All (λ (r : Reply). IsCovered st (c, r)))) (sym (others c apart)) (covered c)
     ]
 
@@ -105,7 +111,9 @@ boxes_shut st client waits0 waits1 at others covered c =
 pub greets : (st : State) (c version : ℕ) (fresh : Bool) → IsGreetingReply (greeting st c version fresh)
 greets st c version fresh = by (not (version == VERSION)) (fresh && nat_lt 0 (last_number st c)) (is_one_too_many st c)
   where
-    by : (a b d : Bool) → IsGreetingReply (cond a (refused refusals.Version) (cond b (refused (refusals.Known (last_number st c))) (cond d (refused refusals.TooManyClients) (replies.Welcome (last_number st c)))))
+    by : (a b d : Bool) → IsGreetingReply
+        (cond a (refused refusals.Version)
+        (cond b (refused (refusals.Known (last_number st c))) (cond d (refused refusals.TooManyClients) (replies.Welcome (last_number st c)))))
     by true b d = tt
     by false true d = tt
     by false false true = tt

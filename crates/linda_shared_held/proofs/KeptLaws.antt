@@ -1,5 +1,5 @@
 -- What calls that take messages keep to, from what was done.
-use Rattle.std.proofs.Common.{◌≡◌, ℕ, ◌+◌, Bool, true, false, List, [], ◌∷◌, ◌++◌, All, Option, length, Result, Err, Ok, IsErrOf, refl, sym, ap, ◌∙◌, subst, inl, inr, arith, rules}
+use Rattle.std.proofs.Common.{◌≡◌, ℕ, ◌+◌, true, false, List, ◌++◌, All, Option, length, Err, Ok, refl, sym, ap, ◌∙◌, subst, inl, inr, arith, rules}
 use Rattle.std.specs.Global.{Vec}
 use Rattle.std.specs.Vec.{vec_len}
 use Rattle.std.proofs.lemmas.List.{length-map}
@@ -11,9 +11,9 @@ use Rattle.linda_store_step.specs.History.{comings, history_of}
 use Rattle.linda_store_step.proofs.CoveredLaws.{all_covered}
 use Rattle.linda_disk.specs.declared.disk.Disk.{Ghosts}
 use Rattle.linda_server.specs.declared.durable.Durable.{Durable}
-use Rattle.linda_server.specs.declared.served.Served.{Served}
-use Rattle.linda_server.specs.Served.{IsServed}
-use Rattle.linda_server.proofs.ServedLaws.{served_happens}
+use Rattle.linda_store_step.specs.declared.served.Served.{Served}
+use Rattle.linda_store_step.specs.Served.{IsServed}
+use Rattle.linda_store_step.proofs.ServedLaws.{served_happens}
 use Rattle.linda_shared_outbox.specs.declared.outboxes.Outboxes.{Outboxes}
 use Rattle.linda_shared_outbox.specs.Waiting.{waits_for}
 use Rattle.linda_shared_outbox.specs.Replies.{replies_to, with_more}
@@ -25,7 +25,7 @@ use Rattle.linda_shared_accounts.specs.Telling.{receipts_in, told_by, HasTold}
 use Rattle.linda_shared_accounts.proofs.TellingLaws.{has_told}
 use Rattle.linda_shared_held.specs.Order.{known, IsInOrder}
 use Rattle.linda_shared_held.specs.Covered.{BoxesCovered}
-use Rattle.linda_shared_held.specs.Kept.{Kept, kept, known_of, IsKnownStill, InOrder, AllCovered, KeepCovered, WaitsSame, Keeps, ServesAll, Attempts}
+use Rattle.linda_shared_held.specs.Kept.{Kept, known_of, IsKnownStill, InOrder, AllCovered, KeepCovered, WaitsSame, Keeps, ServesAll, Attempts}
 use Rattle.linda_shared_held.specs.Posted.{GoTogether}
 use Rattle.linda_shared_held.proofs.OrderLaws.{state_is, stays_so, told_more, told_nobody, deeds_told}
 use Rattle.linda_shared_held.proofs.CoveredLaws.{boxes_more, boxes_same}
@@ -51,8 +51,11 @@ module _ {D : Type 0} {g : Ghosts D} where
 
   -- A server whose store, state of before and standing are the same is known as before.
   pub same_still : (s t : Durable D g) → t.before.value ≡ s.before.value → t.store ≡ s.store → t.down ≡ s.down → IsKnownStill s t
-  same_still s t before store down =
-      (ap (λ b. known b t.store t.down) before ∙ ap (λ x. known s.before.value x t.down) store ∙ ap (λ d. known s.before.value s.store d) down, λ up. sym down ∙ up)
+  same_still s t before store down = (
+    ap (λ b. known b t.store t.down) before ∙ ap (λ x. known s.before.value x t.down) store
+        ∙ ap (λ d. known s.before.value s.store d) down,
+    λ up. sym down ∙ up,
+  )
 
   -- ---- a server that is up
 
@@ -74,16 +77,19 @@ module _ {D : Type 0} {g : Ghosts D} where
   pub is_still : (old : Kept D g) → IsStill old old
   is_still old = record { known = (refl, λ up. up); receipts = refl; boxes = λ q. refl }
 
-  pub stays_in_order : {old new : Kept D g} → IsStill old new → (opening base : State) (count : ℕ) → InOrder opening base count old → InOrder opening base count new
+  pub stays_in_order : {old new : Kept D g} → IsStill old new → (opening base : State) (count : ℕ)
+      → InOrder opening base count old → InOrder opening base count new
   stays_in_order {old} {new} still opening base count so =
       subst (λ l. IsInOrder opening base l count new.server.down (known_of new.server)) (sym still.receipts) (still_order old.server new.server still.known so)
 
   pub all_stays : {old new : Kept D g} → IsStill old new → AllCovered old → AllCovered new
-  all_stays {old} {new} still covered = still_covered old.server new.server old.boxes new.boxes still.known (same_covered old.boxes new.boxes still.boxes) covered
+  all_stays {old} {new} still covered = still_covered old.server new.server old.boxes new.boxes still.known
+      (same_covered old.boxes new.boxes still.boxes) covered
 
   -- With a fault. At `Down` the server is down, and at `Memory` nothing changed.
   pub keeps_still : {A : Type 0} {told : A → List (Option Receipt)} {old new : Kept D g} (fault : SharedFault) → IsStill old new
-      → (fault ≡ faults.Down → new.server.down ≡ true) → (fault ≡ faults.Memory → (new.server ≡ old.server) × (new.boxes ≡ old.boxes)) → Keeps told old (Err fault) new
+      → (fault ≡ faults.Down → new.server.down ≡ true) → (fault ≡ faults.Memory → (new.server ≡ old.server) × (new.boxes ≡ old.boxes))
+      → Keeps told old (Err fault) new
   keeps_still fault still down memory = record {
     receipts = tt;
     err = still.receipts;
@@ -94,7 +100,8 @@ module _ {D : Type 0} {g : Ghosts D} where
     covered = λ opening base count so covered. all_stays still covered;
   }
 
-  pub keeps_nothing : {A : Type 0} {told : A → List (Option Receipt)} {old new : Kept D g} → IsStill old new → new.server.down ≡ true → Keeps told old (Err faults.Down) new
+  pub keeps_nothing : {A : Type 0} {told : A → List (Option Receipt)} {old new : Kept D g} → IsStill old new
+      → new.server.down ≡ true → Keeps told old (Err faults.Down) new
   keeps_nothing still down = keeps_still faults.Down still (λ e. down) (λ e. search (rules, e))
 
   pub keeps_memory : {A : Type 0} {told : A → List (Option Receipt)} {old : Kept D g} → Keeps told old (Err faults.Memory) old
@@ -118,15 +125,18 @@ module _ {D : Type 0} {g : Ghosts D} where
       let there : IsInOrder opening base old.receipts count true mid.store.state =
       told_nobody opening base old.receipts count s.state s.soft ms served mid.store.state mid.store.soft (while_up old so.up order) so.serves in
       subst (λ b. IsInOrder opening base new.receipts count b (known new.server.before.value new.server.store b)) (sym so.down)
-      (subst (λ l. IsInOrder opening base l count true new.server.before.value) (sym so.receipts) (subst (IsInOrder opening base old.receipts count true) (sym so.before) there))
+      (subst (λ l. IsInOrder opening base l count true new.server.before.value) (sym so.receipts)
+      (subst (IsInOrder opening base old.receipts count true) (sym so.before) there))
 
   -- What was covered stays so once these messages were served.
-  once_served : (opening base : State) (count : ℕ) (old : Kept D g) (ms : List (ℕ × Message)) (served : Served) (mid : Durable D g) → old.server.down ≡ false → InOrder opening base count old
+  once_served : (opening base : State) (count : ℕ) (old : Kept D g) (ms : List (ℕ × Message)) (served : Served) (mid : Durable D g)
+      → old.server.down ≡ false → InOrder opening base count old
       → IsServed old.server.store.state old.server.store.soft ms served mid.store.state mid.store.soft
       → ((send : ℕ × Reply) → IsCovered old.server.store.state send → IsCovered mid.store.state send) × All (IsCovered mid.store.state) served.sends.items
   once_served opening base count old ms served mid up order serves =
       let s = old.server.store in
-      all_covered (comings ms) s.state s.soft (history_of mid.store.state mid.store.soft served.deeds.items served.sends.items) (state_is opening base old.receipts count s.state (while_up old up order))
+      all_covered (comings ms) s.state s.soft (history_of mid.store.state mid.store.soft served.deeds.items served.sends.items)
+      (state_is opening base old.receipts count s.state (while_up old up order))
       (served_happens s.state s.soft ms served mid.store.state mid.store.soft serves)
 
   given_up_covered : {old new : Kept D g} {ms : List (ℕ × Message)} {served : Served} {mid : Durable D g} → IsGivenUp old ms served mid new
@@ -135,9 +145,11 @@ module _ {D : Type 0} {g : Ghosts D} where
       let all = once_served opening base count old ms served mid so.up order so.serves in
       subst (λ b. BoxesCovered (known new.server.before.value new.server.store b) (λ q. waits_for new.boxes q)) (sym so.down)
       (subst (λ st. BoxesCovered st (λ q. waits_for new.boxes q)) (sym so.before)
-      (boxes_same old.server.store.state mid.store.state (λ q. waits_for old.boxes q) (λ q. waits_for new.boxes q) all.0 so.boxes (covered_up old so.up covered)))
+      (boxes_same old.server.store.state mid.store.state (λ q. waits_for old.boxes q)
+      (λ q. waits_for new.boxes q) all.0 so.boxes (covered_up old so.up covered)))
 
-  pub serves_given_up : {old new : Kept D g} (ms : List (ℕ × Message)) (served : Served) (mid : Durable D g) → IsGivenUp old ms served mid new → ServesAll old ms (Err faults.Down) new
+  pub serves_given_up : {old new : Kept D g} (ms : List (ℕ × Message)) (served : Served) (mid : Durable D g)
+      → IsGivenUp old ms served mid new → ServesAll old ms (Err faults.Down) new
   serves_given_up ms served mid so = record {
     keeps = record {
       receipts = tt;
@@ -158,15 +170,17 @@ module _ {D : Type 0} {g : Ghosts D} where
   }
 
   -- Each is told of these messages, and what is sent is posted.
-  pub record IsToldOf (old : Kept D g) (ms : List (ℕ × Message)) (served : Served) (told : List (Option Receipt)) (sends : List (ℕ × Reply)) (new : Kept D g) : Type 0 where
+  pub record IsToldOf (old : Kept D g) (ms : List (ℕ × Message)) (served : Served) (told : List (Option Receipt))
+      (sends : List (ℕ × Reply)) (new : Kept D g) : Type 0 where
     pub up : (old.server.down ≡ false) × (new.server.down ≡ false)
     pub serves : IsServed old.server.store.state old.server.store.soft ms served new.server.store.state new.server.store.soft
-    pub tells : told ≡ told_by served.portions.items served.deeds.items served.sends.items
+    pub tells : told ≡ told_by served.counts.items served.deeds.items served.sends.items
     pub receipts : new.receipts ≡ old.receipts ++ receipts_in told
     pub sends_are : sends ≡ served.sends.items
     pub posted_is : (c : ℕ) → waits_for new.boxes c ≡ with_more (replies_to c sends) (waits_for old.boxes c)
 
-  goes_on : {old new : Kept D g} {ms : List (ℕ × Message)} {served : Served} {told : List (Option Receipt)} {sends : List (ℕ × Reply)} → IsToldOf old ms served told sends new
+  goes_on : {old new : Kept D g} {ms : List (ℕ × Message)} {served : Served} {told : List (Option Receipt)} {sends : List (ℕ × Reply)}
+      → IsToldOf old ms served told sends new
       → (opening base : State) (count : ℕ) → InOrder opening base count old → InOrder opening base (count + length (receipts_in told)) new
   goes_on {old} {new} {ms} {served} {told} so opening base count order =
       let s = old.server.store in
@@ -178,32 +192,39 @@ module _ {D : Type 0} {g : Ghosts D} where
       (subst (λ l. IsInOrder opening base l many false t.state) (sym so.receipts)
       (told_more opening base old.receipts count s.state s.soft ms told served.sends.items t.state t.soft before has))
 
-  told_covered : {old new : Kept D g} {ms : List (ℕ × Message)} {served : Served} {told : List (Option Receipt)} {sends : List (ℕ × Reply)} → IsToldOf old ms served told sends new
+  told_covered : {old new : Kept D g} {ms : List (ℕ × Message)} {served : Served} {told : List (Option Receipt)} {sends : List (ℕ × Reply)}
+      → IsToldOf old ms served told sends new
       → (opening base : State) (count : ℕ) → InOrder opening base count old → AllCovered old → AllCovered new
   told_covered {old} {new} {ms} {served} {told} {sends} so opening base count order covered =
       let t = new.server.store in
       let all = once_served opening base count old ms served new.server so.up.0 order so.serves in
       subst (λ b. BoxesCovered (known new.server.before.value t b) (λ q. waits_for new.boxes q)) (sym so.up.1)
-      (boxes_more old.server.store.state t.state sends (λ q. waits_for old.boxes q) (λ q. waits_for new.boxes q) all.0 (subst (All (IsCovered t.state)) (sym so.sends_are) all.1) so.posted_is
+      (boxes_more old.server.store.state t.state sends (λ q. waits_for old.boxes q)
+      (λ q. waits_for new.boxes q) all.0 (subst (All (IsCovered t.state)) (sym so.sends_are) all.1) so.posted_is
       (covered_up old so.up.0 covered))
 
-  told_has : {old new : Kept D g} {ms : List (ℕ × Message)} {served : Served} {told : List (Option Receipt)} {sends : List (ℕ × Reply)} → IsToldOf old ms served told sends new
-      → IsState old.server.store.state → HasTold old.server.store.state old.server.store.soft ms told served.sends.items new.server.store.state new.server.store.soft
+  told_has : {old new : Kept D g} {ms : List (ℕ × Message)} {served : Served} {told : List (Option Receipt)} {sends : List (ℕ × Reply)}
+      → IsToldOf old ms served told sends new
+      → IsState old.server.store.state
+      → HasTold old.server.store.state old.server.store.soft ms told served.sends.items new.server.store.state new.server.store.soft
   told_has {old} {new} {ms} {served} {told} so is =
       let s = old.server.store in
       let t = new.server.store in
       has_told s.state t.state s.soft t.soft ms served told so.tells is so.serves
 
   -- As many deeds were done as are told of.
-  told_deeds : {old new : Kept D g} {ms : List (ℕ × Message)} {served : Served} {told : List (Option Receipt)} {sends : List (ℕ × Reply)} → IsToldOf old ms served told sends new
+  told_deeds : {old new : Kept D g} {ms : List (ℕ × Message)} {served : Served} {told : List (Option Receipt)} {sends : List (ℕ × Reply)}
+      → IsToldOf old ms served told sends new
       → IsState old.server.store.state → served.deeds.items ≡ deeds_in (receipts_in told)
   told_deeds {old} {new} {ms} {served} {told} so is =
       let s = old.server.store in
       let t = new.server.store in
       deeds_told s.state s.soft ms served t.state t.soft told is so.serves so.tells
 
-  together : {old new : Kept D g} {ms : List (ℕ × Message)} {served : Served} {told : List (Option Receipt)} {sends : List (ℕ × Reply)} → IsToldOf old ms served told sends new
-      → IsState old.server.store.state → Attempts old.server ms (Ok served) new.server → GoTogether old.server ms told (λ q. waits_for old.boxes q) (λ q. waits_for new.boxes q) new.server
+  together : {old new : Kept D g} {ms : List (ℕ × Message)} {served : Served} {told : List (Option Receipt)} {sends : List (ℕ × Reply)}
+      → IsToldOf old ms served told sends new
+      → IsState old.server.store.state → Attempts old.server ms (Ok served) new.server
+      → GoTogether old.server ms told (λ q. waits_for old.boxes q) (λ q. waits_for new.boxes q) new.server
   together {old} {new} {ms} {served} {told} {sends} so is attempt =
       let s = old.server.store in
       let t = new.server.store in
@@ -219,11 +240,13 @@ module _ {D : Type 0} {g : Ghosts D} where
         clock = λ some. attempt.clock (omega (arith, long, some));
       }
 
-  pub serves_told : {old new : Kept D g} {ms : List (ℕ × Message)} (served : Served) (told : Vec (Option Receipt)) (sends : List (ℕ × Reply)) → IsToldOf old ms served told.items sends new
-      → IsState old.server.store.state → length told.items ≡ length served.portions.items → Attempts old.server ms (Ok served) new.server → ServesAll old ms (Ok told) new
+  pub serves_told : {old new : Kept D g} {ms : List (ℕ × Message)} (served : Served) (told : Vec (Option Receipt)) (sends : List (ℕ × Reply))
+      → IsToldOf old ms served told.items sends new
+      → IsState old.server.store.state → length told.items ≡ length served.counts.items
+      → Attempts old.server ms (Ok served) new.server → ServesAll old ms (Ok told) new
   serves_told served told sends so is as_many attempt =
       let counted : vec_len told ≡ length told.items = told.ok.0 in
-      let portions : vec_len served.portions ≡ length served.portions.items = served.portions.ok.0 in
+      let counts : vec_len served.counts ≡ length served.counts.items = served.counts.ok.0 in
       let each = attempt.each in
       record {
         keeps = record {
@@ -236,7 +259,7 @@ module _ {D : Type 0} {g : Ghosts D} where
           covered = told_covered so;
         };
         done = together so is attempt;
-        one_each = omega (arith, counted, portions, as_many, each);
+        one_each = omega (arith, counted, counts, as_many, each);
         up = so.up;
         nothing = tt;
         full = λ e. search (rules, e);

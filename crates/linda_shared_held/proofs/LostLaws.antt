@@ -1,5 +1,6 @@
 -- What is covered stays covered while deeds are done of which nobody was told.
-use Rattle.std.proofs.Common.{◌≡◌, ℕ, ◌+◌, ◌<◌, true, false, true≢false, cond, ◌==◌, Bool, List, [], ◌∷◌, Option, Some, None, All, IfSome, inl, inr, refl, sym, ap, ◌∙◌, subst, eqb-true, arith}
+use Rattle.std.proofs.Common.{◌≡◌, ℕ, ◌+◌, ◌<◌, true, false, true≢false, cond, ◌==◌, Bool, List, [], ◌∷◌, Option, Some}
+use Rattle.std.proofs.Common.{None, All, IfSome, inl, inr, refl, sym, ap, ◌∙◌, subst, eqb-true, arith}
 use Rattle.std.proofs.lemmas.Bool.{cases_Bool}
 use Rattle.std.proofs.lemmas.List.Elements.{All-weaker}
 use Rattle.std.specs.FinMap.{get}
@@ -52,8 +53,10 @@ one_covered st d send is allowed covered =
     let after : IsAfter st (d ∷ []) (done st d) = done_after st d is in
     elim (cases_Bool (client_of d == send.0)) [
       | inl own ↦
-          let there : get (done st d).book send.0 ≡ Some (number_of d, reply_of_deed st [] d) = after.book send.0 ∙ ap (λ b. entry_after st send.0 (cond b (Some ([], d)) None)) own in
-          let mine : number_of d ≡ last_number st send.0 + 1 = subst (λ c. number_of d ≡ last_number st c + 1) (eqb-true (client_of d) send.0 own) allowed.number in
+          let there : get (done st d).book send.0 ≡ Some (number_of d, reply_of_deed st [] d) =
+          after.book send.0 ∙ ap (λ b. entry_after st send.0 (cond b (Some ([], d)) None)) own in
+          let mine : number_of d ≡ last_number st send.0 + 1 =
+          subst (λ c. number_of d ≡ last_number st c + 1) (eqb-true (client_of d) send.0 own) allowed.number in
           passed st (done st d) send (ap number_in there ∙ mine) covered
       | inr other ↦ same_entry st (done st d) send (after.book send.0 ∙ ap (λ b. entry_after st send.0 (cond b (Some ([], d)) None)) other) covered
     ]
@@ -66,7 +69,8 @@ all_covered (d ∷ ds) st new send is all covered =
     all_covered ds (done st d) new send (done_state st d is allowed) (behind_one st new d ds is allowed all) (one_covered st d send is allowed covered)
 
 -- So it is of all that waits.
-pub boxes_behind : (ds : List Deed) (st new : State) (waits : ℕ → Option (List Reply)) → IsState st → AreDone st ds new → BoxesCovered st waits → BoxesCovered new waits
+pub boxes_behind : (ds : List Deed) (st new : State) (waits : ℕ → Option (List Reply)) → IsState st
+    → AreDone st ds new → BoxesCovered st waits → BoxesCovered new waits
 boxes_behind ds st new waits is all covered c = at (waits c) (covered c)
   where
     at : (o : Option (List Reply)) → IfSome o (All (λ (r : Reply). IsCovered st (c, r))) → IfSome o (All (λ (r : Reply). IsCovered new (c, r)))
@@ -74,6 +78,7 @@ boxes_behind ds st new waits is all covered c = at (waits c) (covered c)
     at (Some rs) some = All-weaker (λ (r : Reply). IsCovered st (c, r)) (λ (r : Reply). IsCovered new (c, r)) (λ r. all_covered ds st new (c, r) is all) rs some
 
 -- While the server is down, what waits is covered by the state before.
-pub is_covered_down : (waits : ℕ → Option (List Reply)) (is_down : Bool) (before : State) (store : Store) → is_down ≡ true → BoxesCovered (known before store is_down) waits → BoxesCovered before waits
+pub is_covered_down : (waits : ℕ → Option (List Reply)) (is_down : Bool) (before : State) (store : Store)
+    → is_down ≡ true → BoxesCovered (known before store is_down) waits → BoxesCovered before waits
 is_covered_down waits true before store is covered = covered
 is_covered_down waits false before store is covered = absurd (true≢false (sym is))

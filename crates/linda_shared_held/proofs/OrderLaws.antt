@@ -1,5 +1,6 @@
 -- What is always so stays so.
-use Rattle.std.proofs.Common.{◌≡◌, ℕ, ◌+◌, Bool, true, false, true≢false, List, [], ◌++◌, map, length, Option, refl, sym, ap, ◌∙◌, subst, append-nil, length-append, arith}
+use Rattle.std.proofs.Common.{◌≡◌, ℕ, ◌+◌, Bool, true, false, true≢false, List, [], ◌++◌, map, length, Option, refl}
+use Rattle.std.proofs.Common.{sym, ap, ◌∙◌, subst, append-nil, length-append, arith}
 use Rattle.std.proofs.lemmas.List.{map-append}
 use Rattle.linda_wire.specs.declared.message.Message.{Message}
 use Rattle.linda_wire.specs.declared.reply.Reply.{Reply}
@@ -7,12 +8,12 @@ use Rattle.linda_store_state.specs.State.{State, IsState}
 use Rattle.linda_store_state.specs.Proper.{AreDone}
 use Rattle.linda_store_state.proofs.ProperLaws.{none_done, proper_state}
 use Rattle.linda_store_step.specs.Soft.{Soft}
-use Rattle.linda_server.specs.declared.served.Served.{Served}
-use Rattle.linda_server.specs.Served.{deeds_of, IsServed}
+use Rattle.linda_store_step.specs.declared.served.Served.{Served}
+use Rattle.linda_store_step.specs.Served.{deeds_of, IsServed}
 use Rattle.linda_shared_accounts.specs.declared.receipt.Receipt.{Receipt}
 use Rattle.linda_shared_accounts.specs.Receipts.{deeds_in, AreTrue}
 use Rattle.linda_shared_accounts.specs.Telling.{receipt_of, receipts_in, told_by, HasTold}
-use Rattle.linda_shared_accounts.proofs.TellingLaws.{true_of_all, told_of_served, has_told, more_true}
+use Rattle.linda_shared_accounts.proofs.TellingLaws.{true_of_all, told_of_served, more_true}
 use Rattle.linda_store_step.specs.Store.{Store}
 use Rattle.linda_shared_held.specs.Order.{known, IsInOrder}
 
@@ -45,7 +46,8 @@ state_is opening base rs count st so =
     proper_state base st (deeds_in rs) (base_is opening base rs count false st so) told.proper told.after
 
 -- Messages were answered, and those who asked are told.
-pub told_more : (opening base : State) (rs : List Receipt) (count : ℕ) (st : State) (soft : Soft) (ms : List (ℕ × Message)) (told : List (Option Receipt)) (sends : List (ℕ × Reply)) (new : State) (then : Soft)
+pub told_more : (opening base : State) (rs : List Receipt) (count : ℕ) (st : State) (soft : Soft)
+    (ms : List (ℕ × Message)) (told : List (Option Receipt)) (sends : List (ℕ × Reply)) (new : State) (then : Soft)
     → IsInOrder opening base rs count false st → HasTold st soft ms told sends new then
     → IsInOrder opening base (rs ++ receipts_in told) (count + length (receipts_in told)) false new
 told_more opening base rs count st soft ms told sends new then so has =
@@ -68,7 +70,8 @@ told_more opening base rs count st soft ms told sends new then so has =
     }
 
 -- Messages were answered, and nobody is told: the server is down.
-pub told_nobody : (opening base : State) (rs : List Receipt) (count : ℕ) (st : State) (soft : Soft) (ms : List (ℕ × Message)) (served : Served) (new : State) (then : Soft)
+pub told_nobody : (opening base : State) (rs : List Receipt) (count : ℕ) (st : State) (soft : Soft)
+    (ms : List (ℕ × Message)) (served : Served) (new : State) (then : Soft)
     → IsInOrder opening base rs count false st → IsServed st soft ms served new then
     → IsInOrder opening base rs count true new
 told_nobody opening base rs count st soft ms served new then so has =
@@ -86,7 +89,8 @@ told_nobody opening base rs count st soft ms served new then so has =
     }
 
 -- The server did nothing, whether it went down or not.
-pub stays_so : (opening base : State) (rs : List Receipt) (count : ℕ) (was_down is_down : Bool) (st new : State) → new ≡ st → (is_down ≡ false → was_down ≡ false)
+pub stays_so : (opening base : State) (rs : List Receipt) (count : ℕ) (was_down is_down : Bool) (st new : State)
+    → new ≡ st → (is_down ≡ false → was_down ≡ false)
     → IsInOrder opening base rs count was_down st → IsInOrder opening base rs count is_down new
 stays_so opening base rs count was_down is_down st new same up so = record {
   ranges = so.ranges;
@@ -100,15 +104,17 @@ stays_so opening base rs count was_down is_down st new same up so = record {
 }
 
 -- As many deeds were done as are told of.
-pub deeds_told : (st : State) (soft : Soft) (ms : List (ℕ × Message)) (served : Served) (new : State) (then : Soft) (told : List (Option Receipt)) → IsState st → IsServed st soft ms served new then
-    → told ≡ told_by served.portions.items served.deeds.items served.sends.items → served.deeds.items ≡ deeds_in (receipts_in told)
+pub deeds_told : (st : State) (soft : Soft) (ms : List (ℕ × Message)) (served : Served) (new : State) (then : Soft) (told : List (Option Receipt))
+    → IsState st → IsServed st soft ms served new then
+    → told ≡ told_by served.counts.items served.deeds.items served.sends.items → served.deeds.items ≡ deeds_in (receipts_in told)
 deeds_told st soft ms served new then told is has told_is =
     let good = true_of_all st st new soft then ms [] has.answers is (none_done st is) has.answered in
     let same = told_of_served st new soft then ms served told told_is is has in
     has.tells.deeds ∙ (sym good.deeds ∙ sym (ap (λ l. deeds_in (receipts_in l)) same))
 
 -- It begins.
-pub begins : (opening base : State) (rs : List Receipt) (is_down : Bool) (before : State) (store : Store) → is_down ≡ false → opening ≡ store.state → base ≡ store.state → rs ≡ [] → IsState store.state
+pub begins : (opening base : State) (rs : List Receipt) (is_down : Bool) (before : State) (store : Store)
+    → is_down ≡ false → opening ≡ store.state → base ≡ store.state → rs ≡ [] → IsState store.state
     → IsInOrder opening base rs 0 is_down (known before store is_down)
 begins opening base rs true before store is opening_is base_is none st_is = absurd (true≢false is)
 begins opening base rs false before store is opening_is base_is none st_is =

@@ -1,5 +1,5 @@
 -- A client is closed, and its session ends.
-use Rattle.std.specs.Prelude.{◌≡◌, ◌≢◌, ℕ, List, None, true, false, Result, IfOk, IfErr, OnOk}
+use Rattle.std.specs.Prelude.{◌≡◌, ◌≢◌, ℕ, None, true, false, Result, IfOk, IfErr, OnOk}
 use Rattle.std.specs.Prelude.{OnErr}
 use Rattle.std.specs.Prelude.{IsErrOf}
 use Rattle.std.specs.Global.{Vec}

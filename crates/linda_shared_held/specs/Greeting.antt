@@ -14,6 +14,13 @@ use Rattle.linda_store_step.specs.Answer.{greeting}
 use Rattle.linda_shared_accounts.specs.declared.limits.TheConstants.{ACCOUNT_PARTS, PARTS}
 use Rattle.linda_shared_accounts.specs.Account.{Account}
 use Rattle.linda_shared_accounts.specs.Accounts.{Places, is_away, account_at, seats_out}
+use Rattle.linda_shared_held.specs.declared.admission.Admission.{Admission}
+use Rattle.linda_shared_held.specs.declared.admission.Admission.TheVariants as admissions
+
+-- The account and the kept number, or the code and detail.
+abbrev pub admission_of : {L : Type 0} → Admission L → Result (Account × ℕ) (ℕ × ℕ)
+admission_of (admissions.Welcome account last) = Ok (account, last)
+admission_of (admissions.Refused code detail) = Err (code, detail)
 
 -- Its code and detail.
 abbrev pub told_why : Refusal → ℕ × ℕ
@@ -54,9 +61,9 @@ IsGreeted st ps (messages.Hello version client fresh) answer =
 IsGreeted st ps _ answer = answer ≡ Err (told_why refusals.NoHello)
 
 -- What holds where a greeting gave no seat.
-abbrev pub OnNoSeat : {A B E : Type 0} → Result (Result A B) E → Type 0 → Type 0
-OnNoSeat (Ok (Ok got)) P = Unit {0}
-OnNoSeat (Ok (Err why)) P = P
+abbrev pub OnNoSeat : {L E : Type 0} → Result (Admission L) E → Type 0 → Type 0
+OnNoSeat (Ok (admissions.Welcome account last)) P = Unit {0}
+OnNoSeat (Ok (admissions.Refused code detail)) P = P
 OnNoSeat (Err fault) P = P
 
 -- It welcomes or refuses.

@@ -9,8 +9,8 @@ use Rattle.linda_wire.specs.Refusal.{refused}
 use Rattle.linda_store_state.specs.State.{State}
 use Rattle.linda_disk.specs.declared.disk.Disk.{Ghosts}
 use Rattle.linda_server.specs.declared.durable.Durable.{Durable}
-use Rattle.linda_server.specs.declared.served.Served.{Served}
-use Rattle.linda_server.specs.Served.{IsServed}
+use Rattle.linda_store_step.specs.declared.served.Served.{Served}
+use Rattle.linda_store_step.specs.Served.{IsServed}
 use Rattle.linda_server.specs.Handled.{HasNoRoomFor}
 use Rattle.linda_server.specs.Server.{IsPutOn}
 use Rattle.linda_shared_outbox.specs.declared.outboxes.Outboxes.{Outboxes}
@@ -20,10 +20,10 @@ use Rattle.linda_shared_accounts.specs.declared.fault.SharedFault.{SharedFault}
 use Rattle.linda_shared_accounts.specs.declared.fault.SharedFault.TheVariants as faults
 use Rattle.linda_shared_accounts.specs.declared.receipt.Receipt.{Receipt}
 use Rattle.linda_shared_accounts.specs.Telling.{receipts_in}
-use Rattle.linda_shared_held.specs.declared.pace.Pace.{Pace}
+use Rattle.linda_shared_held.specs.declared.snapshot_policy.SnapshotPolicy.{SnapshotPolicy}
 use Rattle.linda_shared_held.specs.Order.{known, IsInOrder}
 use Rattle.linda_shared_held.specs.Covered.{BoxesCovered}
-use Rattle.linda_shared_held.specs.Pace.{refused_for_room}
+use Rattle.linda_shared_held.specs.SnapshotPolicy.{refused_for_room}
 use Rattle.linda_shared_held.specs.Posted.{GoTogether, GoesAlone, WentSome}
 
 -- What takes messages: the server, the receipts of its deeds since the base, and the outboxes.
@@ -147,7 +147,7 @@ module _ {D : Type 0} {g : Ghosts D} where
       (new : Durable D g) : Type 0 where
     pub done : IfOk result
         (λ served. IsServed old.store.state old.store.soft ms served new.store.state new.store.soft)
-    pub each : IfOk result (λ served. vec_len served.portions ≡ length ms)
+    pub each : IfOk result (λ served. vec_len served.counts ≡ length ms)
     pub up : OnOk result ((old.down ≡ false) × (new.down ≡ false))
     -- For all deeds together four device calls were made on the bank in use, and where there are
     -- none no disk was touched.
@@ -160,15 +160,15 @@ module _ {D : Type 0} {g : Ghosts D} where
     -- What is known of a server that did not is as before.
     pub still : OnErr result (IsKnownStill old new)
 
-  -- If the server has no room for all messages, a snapshot is asked for; nothing else of the pace
+  -- If the server has no room for all messages, a snapshot is asked for; nothing else of the policy
   -- changes (`take`).
   pub record Asks {A : Type 0} (old : Durable D g) (count : ℕ) (ms : List (ℕ × Message))
-      (was : Pace)
+      (was : SnapshotPolicy)
       (result : Result A SharedFault)
-      (now : Pace) : Type 0 where
+      (now : SnapshotPolicy) : Type 0 where
     pub lacks : OnOk result (count + length ms < 2 ^ 64 → HasNoRoomFor old ms
         → now.lacks_room ≡ true)
-    pub pace : (now ≡ was) ⊎ (now ≡ refused_for_room was)
+    pub policy : (now ≡ was) ⊎ (now ≡ refused_for_room was)
     pub unasked : (HasNoRoomFor old ms → ⊥) → now ≡ was
     pub first : old.down ≡ true → now ≡ was
 

@@ -3,7 +3,7 @@ pub mod Order
 pub mod Covered
 pub mod Kept
 pub mod Greeting
-pub mod Pace
+pub mod SnapshotPolicy
 pub mod Recall
 pub mod Parked
 pub mod Closing

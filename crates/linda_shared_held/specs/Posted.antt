@@ -103,8 +103,10 @@ module _ {D : Type 0} {g : Ghosts D} where
   -- after those of before, and each place is told what its message led to, the last one first.
   pub record IsHandled (s : Durable D g) (count : ℕ) (ms : List (ℕ × Message))
       (old_receipts : List Receipt)
-      (old_posted : ℕ → Option (List Reply)) (old_told : List (Effect Receipt)) (receipts : List Receipt)
-      (posted : ℕ → Option (List Reply)) (new_told : List (Effect Receipt)) (new : Durable D g) : Type 0 where
+      (old_posted : ℕ → Option (List Reply)) (old_told : List (Effect Receipt))
+      (receipts : List Receipt)
+      (posted : ℕ → Option (List Reply)) (new_told : List (Effect Receipt))
+      (new : Durable D g) : Type 0 where
     pub told : List (Option Receipt)
     pub taken : WereTaken s count ms told old_posted posted new
     pub receipts_are : receipts ≡ old_receipts ++ receipts_in told

@@ -27,7 +27,8 @@ module _ {D : Type 0} {g : Ghosts D} where
     -- What is known of a server that took none is as before.
     pub still : OnErr result (IsKnownStill old new)
 
-  -- The server takes a step of a snapshot, or makes room (`begin_steps`, `step`, `write_ahead`).
+  -- The server takes a step of a snapshot, or makes room (`begin_snapshot`, `continue_snapshot`,
+  -- `preallocate`).
   pub record TakesStep {T : Type 0} (old : Durable D g) (result : Result T SharedFault)
       (new : Durable D g) : Type 0 where
     pub store : new.store ≡ old.store

@@ -1,7 +1,6 @@
 //! Server under its lock, and the group commit of several sessions.
 
 mod age;
-mod ahead;
 mod alone;
 mod base;
 mod copy;
@@ -16,21 +15,22 @@ mod leave;
 mod list;
 mod longest;
 mod measure;
+mod preallocation;
 mod recall;
 mod serve;
 mod steps;
 mod take;
 mod tell;
 
-ghost use Rattle.std.specs.Prelude.{◌≡◌, ◌⊎◌, ℕ, ◌+◌, ◌^◌, ◌<◌, ◌≤◌, ◌++◌, [], true, false, length};
+ghost use Rattle.std.specs.Prelude.{◌≡◌, ℕ, ◌+◌, ◌<◌, ◌≤◌, ◌++◌, [], false, length};
 ghost use Rattle.std.specs.Prelude.{map, reverse};
 ghost use Rattle.std.specs.Prelude.{replicate};
-ghost use Rattle.std.specs.Prelude.{vec_len, vec_capacity, None, IfErr, OnOk, OnErr, IsErrOf};
+ghost use Rattle.std.specs.Prelude.{vec_len, vec_capacity, None, IfErr, OnOk, OnErr};
 ghost use Rattle.linda_store_step.specs.declared.size.TheConstants.{MAX_GROUP};
 ghost use Rattle.linda_shared_held.specs.Order.{known, IsInOrder};
 ghost use Rattle.linda_shared_held.specs.Covered.{BoxesCovered};
 ghost use Rattle.linda_shared_held.specs.Kept.{kept, Asks, Fails};
-ghost use Rattle.linda_shared_held.specs.Pace.{pace_from};
+ghost use Rattle.linda_shared_held.specs.SnapshotPolicy.{policy_from};
 ghost use Rattle.linda_shared_held.specs.Recall.{Remembers};
 ghost use Rattle.linda_shared_held.specs.Posted.{IsHandled, WentSome};
 ghost use Rattle.linda_shared_outbox.specs.Waiting.{waits_for};
@@ -39,11 +39,11 @@ ghost use Rattle.linda_shared_accounts.specs.Accounts.{accounts_of};
 ghost use Rattle.linda_shared_accounts.specs.declared.limits.TheConstants.{PARTS};
 ghost use Rattle.std.specs.FinMap as fin;
 
-use crate::pace::Pace;
+use crate::snapshot_policy::SnapshotPolicy;
 pub use finish::Report;
 use linda_bag::IndexBag;
 use linda_disk::Disk;
-use linda_moment::Moment;
+use linda_ghost::Moment;
 use linda_server::Durable;
 use linda_shared_accounts::{Accounts, Ack, Effect, PendingAck, SharedFault, SharedReceipt};
 use linda_shared_outbox::Outboxes;
@@ -73,7 +73,7 @@ pub struct Held<D: Disk, L: Ledger> {
         (known server.before.value server.store server.down) ∥₁ },
     // For each client that has an outbox the replies that wait there, in order.
     boxes: Outboxes,
-    pace: Pace,
+    policy: SnapshotPolicy,
     recall: Recall,
     // What is remembered for a client was kept for it at the base.
     ghost remembers: { ∥ Remembers base.value recall ∥₁ },
@@ -94,11 +94,11 @@ impl<D: Disk, L: Ledger> Held<D, L> {
             × ((c : ℕ) → waits_for result.boxes c ≡ None) }
         ensures accounts { result.accounts ≡ accounts_of 0 fin.empty }
         // Bytes are counted from what the bank has.
-        ensures pace { result.pace ≡ pace_from 0 (end_in_use server.disks) }
+        ensures policy { result.policy ≡ policy_from 0 (end_in_use server.disks) }
     {
         let opening = Moment::of(server.state());
         let base = Moment::of(server.state());
-        let pace = Pace::new(0, server.used());
+        let policy = SnapshotPolicy::new(0, server.used());
         Held {
             server,
             opening,
@@ -108,7 +108,7 @@ impl<D: Disk, L: Ledger> Held<D, L> {
             count: 0,
             accounts: Accounts::new(alloc, blank),
             boxes: Outboxes::new(alloc),
-            pace,
+            policy,
             recall: Recall::new(alloc),
         }
     }
@@ -165,8 +165,8 @@ impl<D: Disk, L: Ledger> Held<D, L> {
         ensures recall { self.new.recall ≡ self.old.recall }
         // Where the server has no room for all of them, a snapshot is tried once there is a record
         // that the last try did not find.
-        ensures asks { Asks self.old.server self.old.count messages.now self.old.pace result
-            self.new.pace }
+        ensures asks { Asks self.old.server self.old.count messages.now self.old.policy result
+            self.new.policy }
     {
         let _ = self.is_down();
         let Held {
@@ -175,10 +175,10 @@ impl<D: Disk, L: Ledger> Held<D, L> {
             count,
             accounts,
             boxes,
-            pace,
+            policy,
             ..
         } = self;
-        match take(server, receipts, boxes, pace, alloc, *count, messages) {
+        match take(server, receipts, boxes, policy, alloc, *count, messages) {
             Ok(mut told) => {
                 settle_all(accounts, count, asked, answered, &mut told);
                 Ok(())

@@ -7,12 +7,14 @@
 //! were reported as were done.
 #![tactic(auto)]
 
+mod admission;
 mod gauge;
 mod held;
 mod limits;
-mod pace;
-mod send;
+mod snapshot_policy;
+mod thread_safety;
 
+pub use admission::Admission;
 pub use gauge::Gauge;
 pub use held::{Held, Report};
 pub use limits::{MANY_RECEIPTS, SNAPSHOT_BYTES};

@@ -1,5 +1,6 @@
 -- The clients that were listed so far, and the page that ends there.
-use Rattle.std.proofs.Common.{◌≡◌, ◌≤◌, ◌<◌, ◌++◌, ◌+◌, ℕ, suc, true, List, [], ◌∷◌, Option, Some, None, length, length-append, map, max, is_some, refl, sym, ap, ◌∙◌, subst, arith}
+use Rattle.std.proofs.Common.{◌≡◌, ◌≤◌, ◌<◌, ◌++◌, ◌+◌, ℕ, suc, true, List, [], ◌∷◌, Option, Some, None, length}
+use Rattle.std.proofs.Common.{length-append, map, max, is_some, refl, sym, ap, ◌∙◌, subst, arith}
 use Rattle.std.specs.Prelude.{IfSome, IfNone, All, min}
 use Rattle.std.specs.Ordering.{nat_cmp}
 use Rattle.std.specs.FinMap.{FinMap}
@@ -32,7 +33,9 @@ from_first None client above = omega arith
 from_first (Some n) client above = omega (arith, above)
 
 -- The next client that has an outbox, as the outboxes say it.
-pub open_is : (boxes : ℕ → Option (List Reply)) (last next : Option ℕ) → IfSome next (λ n. is_some (boxes n) ≡ true) → IfSome next (λ n. IsAbove last n) → IfSome next (λ n. (c : ℕ) → IsAbove last c → c < n → boxes c ≡ None) → IfNone next ((c : ℕ) → IsAbove last c → boxes c ≡ None) → IsNext (λ c. is_some (boxes c)) (first_after last) next
+pub open_is : (boxes : ℕ → Option (List Reply)) (last next : Option ℕ) → IfSome next (λ n. is_some (boxes n) ≡ true) → IfSome next (λ n. IsAbove last n)
+    → IfSome next (λ n. (c : ℕ) → IsAbove last c → c < n → boxes c ≡ None)
+    → IfNone next ((c : ℕ) → IsAbove last c → boxes c ≡ None) → IsNext (λ c. is_some (boxes c)) (first_after last) next
 open_is boxes last None found above least none = λ c from. ap is_some (none c (above_last last c from))
 open_is boxes last (Some n) found above least none = record {
   above = from_first last n above;
@@ -47,12 +50,15 @@ module _ (book : FinMap nat_cmp Entry) (boxes : ℕ → Option (List Reply)) (ho
     pub all : All (IsClientRow book boxes holds waits) rows
     pub many : length rows ≡ count
 
-  pub none_listed : (from first : ℕ) (next : Option ℕ) (rows : List ListedClient) → rows ≡ [] → first ≡ from → IsNext (is_listed book boxes) first next → AreListed from next 0 rows
+  pub none_listed : (from first : ℕ) (next : Option ℕ) (rows : List ListedClient) → rows ≡ []
+      → first ≡ from → IsNext (is_listed book boxes) first next → AreListed from next 0 rows
   none_listed from first next rows none same is =
       subst (λ (rs : List ListedClient). AreListed from next 0 rs) (sym none)
       (record { first = subst (λ n. IsNext (is_listed book boxes) n next) same is; all = All-nil (IsClientRow book boxes holds waits); many = refl })
 
-  pub one_listed : (from count client : ℕ) (next : Option ℕ) (rows new : List ListedClient) (row : ListedClient) → AreListed from (Some client) count rows → new ≡ rows ++ row ∷ [] → timeless row ≡ client_of book boxes holds waits client → IsNext (is_listed book boxes) (suc client) next → AreListed from next (count + 1) new
+  pub one_listed : (from count client : ℕ) (next : Option ℕ) (rows new : List ListedClient) (row : ListedClient) → AreListed from (Some client) count rows
+      → new ≡ rows ++ row ∷ [] → timeless row ≡ client_of book boxes holds waits client
+      → IsNext (is_listed book boxes) (suc client) next → AreListed from next (count + 1) new
   one_listed from count client next rows new row far put is later =
       let named : row.client ≡ client = ap (λ (r : ListedClient). r.client) is in
       let own : IsClientRow book boxes holds waits row = subst (λ n. timeless row ≡ client_of book boxes holds waits n) (sym named) is in
@@ -66,7 +72,8 @@ module _ (book : FinMap nat_cmp Entry) (boxes : ℕ → Option (List Reply)) (ho
         many = longer;
       })
 
-  some_rows : (next : Option ℕ) (limit count : ℕ) (rows : List ListedClient) → length rows ≡ count → IfSome next (λ n. count ≡ min (max limit 1) MOST_LOOKED) → IfSome next (λ n. 0 < length (numbers rows))
+  some_rows : (next : Option ℕ) (limit count : ℕ) (rows : List ListedClient) → length rows ≡ count
+      → IfSome next (λ n. count ≡ min (max limit 1) MOST_LOOKED) → IfSome next (λ n. 0 < length (numbers rows))
   some_rows None limit count rows many full = tt
   some_rows (Some n) limit count rows many full = omega (arith, many, full, length-map rows (λ (r : ListedClient). r.client))
 
@@ -74,7 +81,8 @@ module _ (book : FinMap nat_cmp Entry) (boxes : ℕ → Option (List Reply)) (ho
   all_rows None most count long many full = tt
   all_rows (Some n) most count long many full = many ∙ full
 
-  pub page_listed : (from limit count : ℕ) (page : ClientPage) → AreListed from page.next count page.rows.items → count ≤ min (max limit 1) MOST_LOOKED → IfSome page.next (λ n. count ≡ min (max limit 1) MOST_LOOKED) → IsClientPage book boxes holds waits from limit page
+  pub page_listed : (from limit count : ℕ) (page : ClientPage) → AreListed from page.next count page.rows.items → count ≤ min (max limit 1) MOST_LOOKED
+      → IfSome page.next (λ n. count ≡ min (max limit 1) MOST_LOOKED) → IsClientPage book boxes holds waits from limit page
   page_listed from limit count page far few full = record {
     first = far.first;
     rows = far.all;

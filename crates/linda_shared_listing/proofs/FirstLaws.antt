@@ -1,11 +1,13 @@
 -- The first numbers of which something is so: one more of them, and those of which one of two things is so.
-use Rattle.std.proofs.Common.{◌≡◌, ◌≤◌, ◌<◌, ◌++◌, ◌||◌, ℕ, suc, Bool, true, false, List, [], ◌∷◌, Option, None, Some, length, inl, inr, refl, ap, subst, ◌∙◌, arith}
+use Rattle.std.proofs.Common.{◌≡◌, ◌≤◌, ◌<◌, ◌++◌, ◌||◌, ℕ, suc, Bool, true, false, List, [], ◌∷◌, Option, None, Some}
+use Rattle.std.proofs.Common.{length, inl, inr, refl, ap, subst, ◌∙◌, arith}
 use Rattle.std.specs.Prelude.{IfSome, min}
 use Rattle.std.proofs.lemmas.Bool.{cases_lt}
 use Rattle.linda_shared_listing.specs.Firsts.{IsLeast, IsNext, AreFirst, lesser_of}
 
 module _ (is_so : ℕ → Bool) where
-  pub one_more : (from : ℕ) (numbers : List ℕ) (number : ℕ) (next : Option ℕ) → AreFirst is_so from numbers (Some number) → IsNext is_so (suc number) next → AreFirst is_so from (numbers ++ number ∷ []) next
+  pub one_more : (from : ℕ) (numbers : List ℕ) (number : ℕ) (next : Option ℕ) → AreFirst is_so from numbers (Some number)
+      → IsNext is_so (suc number) next → AreFirst is_so from (numbers ++ number ∷ []) next
   one_more from [] number next first later = (first, later)
   one_more from (n ∷ ns) number next first later = (first.0, one_more (suc n) ns number next first.1 later)
 
@@ -19,7 +21,8 @@ module _ (is_so : ℕ → Bool) where
   below from (n ∷ ns) number first = omega (arith, first.0.above, below (suc n) ns number first.1)
 
   -- which is above the first one.
-  pub onward : (from : ℕ) (numbers : List ℕ) (next : Option ℕ) → AreFirst is_so from numbers next → IfSome next (λ n. 0 < length numbers) → IfSome next (λ n. from < n)
+  pub onward : (from : ℕ) (numbers : List ℕ) (next : Option ℕ) → AreFirst is_so from numbers next
+      → IfSome next (λ n. 0 < length numbers) → IfSome next (λ n. from < n)
   onward from numbers None first some = tt
   onward from [] (Some n) first some = absurd (omega (arith, some))
   onward from (m ∷ ns) (Some n) first some = omega (arith, first.0.above, below (suc m) ns n first.1)

@@ -1,5 +1,6 @@
 -- The tuples that were listed so far, and the page that ends there.
-use Rattle.std.proofs.Common.{◌≡◌, ◌≤◌, ◌<◌, ◌+◌, ◌++◌, ℕ, suc, Bool, true, List, [], ◌∷◌, Option, Some, None, length, length-append, map, is_some, refl, sym, ap, subst, ◌∙◌, true≢false, arith}
+use Rattle.std.proofs.Common.{◌≡◌, ◌≤◌, ◌<◌, ◌+◌, ◌++◌, ℕ, suc, Bool, true, List, [], ◌∷◌, Option, Some, None, length}
+use Rattle.std.proofs.Common.{length-append, map, is_some, refl, sym, ap, subst, ◌∙◌, true≢false, arith}
 use Rattle.std.specs.Prelude.{IfSome, All, min}
 use Rattle.std.specs.Ordering.{nat_cmp}
 use Rattle.std.specs.FinMap.{FinMap, get}
@@ -41,7 +42,8 @@ module _ (bag : FinMap nat_cmp Tuple) (holds : HeldFor) (tag : Option Atom) wher
     pub all : All (IsRow bag holds) rows
     pub many : length rows ≡ count
 
-  pub none_listed : (found : ℕ → Bool) (from : ℕ) (next : Option ℕ) (rows : List ListedTuple) → rows ≡ [] → ((id : ℕ) → found id ≡ is_wanted bag tag id) → IsNext found from next → AreListed from next 0 rows
+  pub none_listed : (found : ℕ → Bool) (from : ℕ) (next : Option ℕ) (rows : List ListedTuple) → rows ≡ []
+      → ((id : ℕ) → found id ≡ is_wanted bag tag id) → IsNext found from next → AreListed from next 0 rows
   none_listed found from next rows none same is =
       subst (λ (rs : List ListedTuple). AreListed from next 0 rs) (sym none)
       (record { first = same_next found (is_wanted bag tag) same from next is; all = All-nil (IsRow bag holds); many = refl })
@@ -50,14 +52,23 @@ module _ (bag : FinMap nat_cmp Tuple) (holds : HeldFor) (tag : Option Atom) wher
   pub next_there : (from id count : ℕ) (rows : List ListedTuple) → AreListed from (Some id) count rows → is_some (get bag id) ≡ true
   next_there from id count rows far = wanted_there tag (get bag id) (next_so (is_wanted bag tag) from (ids rows) id far.first)
 
-  pub one_listed : (found : ℕ → Bool) (from id count : ℕ) (next : Option ℕ) (rows new : List ListedTuple) → ((k : ℕ) → found k ≡ is_wanted bag tag k) → AreListed from (Some id) count rows → ids new ≡ ids rows ++ id ∷ [] → (All (IsRow bag holds) rows → All (IsRow bag holds) new) → IsNext found (id + 1) next → AreListed from next (count + 1) new
+  pub one_listed : (found : ℕ → Bool) (from id count : ℕ) (next : Option ℕ) (rows new : List ListedTuple) → ((k : ℕ) → found k ≡ is_wanted bag tag k)
+      → AreListed from (Some id) count rows → ids new ≡ ids rows ++ id ∷ []
+      → (All (IsRow bag holds) rows → All (IsRow bag holds) new) → IsNext found (id + 1) next → AreListed from next (count + 1) new
   one_listed found from id count next rows new same far put all is =
       let step : id + 1 ≡ suc id = omega arith in
-      let later : IsNext (is_wanted bag tag) (suc id) next = subst (λ n. IsNext (is_wanted bag tag) n next) step (same_next found (is_wanted bag tag) same (id + 1) next is) in
+      let later : IsNext (is_wanted bag tag) (suc id) next =
+      subst (λ n. IsNext (is_wanted bag tag) n next) step (same_next found (is_wanted bag tag) same (id + 1) next is) in
       record {
         first = subst (λ ns. AreFirst (is_wanted bag tag) from ns next) (sym put) (one_more (is_wanted bag tag) from (ids rows) id next far.first later);
         all = all far.all;
-        many = omega (arith, far.many, sym (length-map new (λ (row : ListedTuple). row.id)) ∙ ap length put ∙ length-append (ids rows) (id ∷ []), length-map rows (λ (row : ListedTuple). row.id));
+        many = omega (
+          arith,
+          far.many,
+          sym (length-map new (λ (row : ListedTuple). row.id)) ∙ ap length put
+              ∙ length-append (ids rows) (id ∷ []),
+          length-map rows (λ (row : ListedTuple). row.id),
+        );
       }
 
 some_rows : (next : Option ℕ) (rows : List ListedTuple) → IfSome next (λ n. 0 < length rows) → IfSome next (λ n. 0 < length (ids rows))
@@ -68,7 +79,9 @@ none_after : (next : Option ℕ) (rows : List ListedTuple) → IfSome next (λ n
 none_after None rows some none = refl
 none_after (Some n) rows some none = absurd (omega (arith, some, ap length none))
 
-pub page_listed : (bag : FinMap nat_cmp Tuple) (holds : HeldFor) (query : TupleQuery) (count : ℕ) (page : TuplePage) → AreListed bag holds query.tag query.from page.next count page.rows.items → count ≤ min query.limit MOST_AT_ONCE → IfSome page.next (λ n. 0 < count) → IsPage bag holds query page
+pub page_listed : (bag : FinMap nat_cmp Tuple) (holds : HeldFor) (query : TupleQuery) (count : ℕ) (page : TuplePage)
+    → AreListed bag holds query.tag query.from page.next count page.rows.items → count ≤ min query.limit MOST_AT_ONCE
+    → IfSome page.next (λ n. 0 < count) → IsPage bag holds query page
 page_listed bag holds query count page far few some =
     let shown : IfSome page.next (λ n. 0 < length page.rows.items) = subst (λ n. IfSome page.next (λ _. 0 < n)) (sym far.many) some in
     record {

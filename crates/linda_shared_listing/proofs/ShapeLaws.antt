@@ -1,5 +1,6 @@
 -- Templates of a tag, one for each number of fields, match the tuples of the tag.
-use Rattle.std.proofs.Common.{◌≡◌, ◌≤◌, ◌<◌, ◌++◌, ◌&&◌, ◌||◌, ℕ, Bool, true, false, cond, List, [], ◌∷◌, Option, Some, None, length, replicate, inl, inr, refl, sym, ap, subst, ◌∙◌, nat_cmp, true≢false, arith}
+use Rattle.std.proofs.Common.{◌≡◌, ◌≤◌, ◌<◌, ◌++◌, ◌&&◌, ◌||◌, ℕ, Bool, true, false, cond, List, [], ◌∷◌, Option, Some}
+use Rattle.std.proofs.Common.{None, length, replicate, inl, inr, refl, sym, ap, subst, ◌∙◌, nat_cmp, true≢false, arith}
 use Rattle.std.proofs.lemmas.Bool.{cases_lt}
 use Rattle.std.proofs.lemmas.List.Folds.{list_any-append}
 use Rattle.std.specs.Option.{is_some}
@@ -17,7 +18,7 @@ use Rattle.linda_tuple.specs.Matching.{are_fit, is_match}
 use Rattle.linda_bag.specs.Candidates.{tag_of, count_of}
 use Rattle.linda_bag.specs.Filing.{row_at, placed}
 use Rattle.linda_bag.specs.FreeMatch.{IsFreeMatch}
-use Rattle.linda_bag.specs.Heads.{IsBefore, with_head}
+use Rattle.linda_bag.specs.TagIndex.{IsBefore, with_head}
 use Rattle.linda_bag.proofs.OrderLaws.{atom_itself, number_itself, atoms_turn}
 use Rattle.linda_shared_listing.specs.Kinds.{HasNone}
 use Rattle.linda_shared_listing.specs.Listing.{is_asked_in, is_wanted}
@@ -49,7 +50,8 @@ or_right false b other = other
 
 shape_matches : (tag : Atom) (tuple : Tuple) → same_atom tag tuple.tag ≡ true → is_match (shape_of tag (length tuple.fields)) tuple ≡ true
 unfolding is_match
-shape_matches tag tuple same = both_true (same_atom tag tuple.tag) (are_fit (replicate (length tuple.fields) patterns.Any) tuple.fields) same (all_fit tuple.fields)
+shape_matches tag tuple same =
+    both_true (same_atom tag tuple.tag) (are_fit (replicate (length tuple.fields) patterns.Any) tuple.fields) same (all_fit tuple.fields)
 
 shape_only : (tag : Atom) (n : ℕ) (tuple : Tuple) → is_match (shape_of tag n) tuple ≡ true → same_atom tag tuple.tag ≡ true
 unfolding is_match
@@ -61,7 +63,8 @@ pub none_matched : (o : Option Tuple) → is_matched_in [] o ≡ false
 none_matched None = refl
 none_matched (Some tuple) = refl
 
-pub more_matched : (shapes : List Template) (shape : Template) (o : Option Tuple) → (is_matched_in shapes o || is_matched_in (shape ∷ []) o) ≡ is_matched_in (shapes ++ shape ∷ []) o
+pub more_matched : (shapes : List Template) (shape : Template) (o : Option Tuple)
+    → (is_matched_in shapes o || is_matched_in (shape ∷ []) o) ≡ is_matched_in (shapes ++ shape ∷ []) o
 more_matched shapes shape None = refl
 more_matched shapes shape (Some tuple) = sym (list_any-append (λ (s : Template). is_match s tuple) shapes (shape ∷ []))
 
@@ -99,10 +102,13 @@ module _ (bag : FinMap nat_cmp Tuple) (tag : Atom) where
   no_head : (n id : ℕ) (tuple : Tuple) → HasNone bag tag n → get bag id ≡ Some tuple → same_atom tag tuple.tag ≡ true → length tuple.fields ≡ n → ⊥
   no_head n id tuple none there same long =
       let own : tag ≡ tuple.tag = (same_atom-decides tag tuple.tag).0 same in
-      let tied : is_eq (atom_ord.ghosts.cmp tuple.tag tag) ≡ true = subst (λ t. is_eq (atom_ord.ghosts.cmp tuple.tag t) ≡ true) (sym own) (atom_itself tuple.tag) in
-      let counted : is_eq (nat_cmp (length tuple.fields) n) ≡ true = subst (λ m. is_eq (nat_cmp (length tuple.fields) m) ≡ true) long (number_itself (length tuple.fields)) in
+      let tied : is_eq (atom_ord.ghosts.cmp tuple.tag tag) ≡ true =
+      subst (λ t. is_eq (atom_ord.ghosts.cmp tuple.tag t) ≡ true) (sym own) (atom_itself tuple.tag) in
+      let counted : is_eq (nat_cmp (length tuple.fields) n) ≡ true =
+      subst (λ m. is_eq (nat_cmp (length tuple.fields) m) ≡ true) long (number_itself (length tuple.fields)) in
       let found : with_head tag_of count_of tag n (get bag) id ≡ Some tuple =
-      ap (λ o. row_at nat_cmp n (placed (λ (row : Tuple). Some (count_of row)) (row_at atom_ord.ghosts.cmp tag (placed (λ (row : Tuple). Some (tag_of row)) o)))) there
+      ap (λ o. row_at nat_cmp n
+      (placed (λ (row : Tuple). Some (count_of row)) (row_at atom_ord.ghosts.cmp tag (placed (λ (row : Tuple). Some (tag_of row)) o)))) there
       ∙ ap (λ b. row_at nat_cmp n (placed (λ (row : Tuple). Some (count_of row)) (cond b (Some tuple) None))) tied
       ∙ ap (λ b. cond b (Some tuple) None) counted in
       some_not_none tuple (sym found ∙ none id)
@@ -116,7 +122,8 @@ module _ (bag : FinMap nat_cmp Tuple) (tag : Atom) where
   one_only n None is = is
   one_only n (Some tuple) is = shape_only tag n tuple (sym (or_false (is_match (shape_of tag n) tuple)) ∙ is)
 
-  one_all : (n id : ℕ) (tuple : Tuple) → get bag id ≡ Some tuple → same_atom tag tuple.tag ≡ true → length tuple.fields ≡ n → is_matched bag (shape_of tag n ∷ []) id ≡ true
+  one_all : (n id : ℕ) (tuple : Tuple) → get bag id ≡ Some tuple → same_atom tag tuple.tag ≡ true
+      → length tuple.fields ≡ n → is_matched bag (shape_of tag n ∷ []) id ≡ true
   one_all n id tuple there same long =
       ap (is_matched_in (shape_of tag n ∷ [])) there
       ∙ or_left (is_match (shape_of tag n) tuple) false (subst (λ m. is_match (shape_of tag m) tuple ≡ true) long (shape_matches tag tuple same))
@@ -128,7 +135,8 @@ module _ (bag : FinMap nat_cmp Tuple) (tag : Atom) where
         all = λ id tuple there same few. one_all 0 id tuple there same (omega (arith, few));
       })
 
-  pub next_shape : (last n : ℕ) (shapes new : List Template) → AreShapes last shapes → new ≡ shapes ++ shape_of tag n ∷ [] → last < n → ((m : ℕ) → last < m → m < n → HasNone bag tag m) → AreShapes n new
+  pub next_shape : (last n : ℕ) (shapes new : List Template) → AreShapes last shapes
+      → new ≡ shapes ++ shape_of tag n ∷ [] → last < n → ((m : ℕ) → last < m → m < n → HasNone bag tag m) → AreShapes n new
   next_shape last n shapes new far is above none = subst (AreShapes n) (sym is) (record { only = only; all = all })
     where
       joined : (id : ℕ) → (is_matched bag shapes id || is_matched bag (shape_of tag n ∷ []) id) ≡ is_matched bag (shapes ++ shape_of tag n ∷ []) id
@@ -141,7 +149,8 @@ module _ (bag : FinMap nat_cmp Tuple) (tag : Atom) where
             | inr now ↦ one_only n (get bag id) now
           ]
 
-      all : (id : ℕ) (tuple : Tuple) → get bag id ≡ Some tuple → same_atom tag tuple.tag ≡ true → length tuple.fields ≤ n → is_matched bag (shapes ++ shape_of tag n ∷ []) id ≡ true
+      all : (id : ℕ) (tuple : Tuple) → get bag id ≡ Some tuple → same_atom tag tuple.tag ≡ true
+          → length tuple.fields ≤ n → is_matched bag (shapes ++ shape_of tag n ∷ []) id ≡ true
       all id tuple there same few =
           elim (cases_lt last (length tuple.fields)) [
             | inr le ↦ sym (joined id) ∙ or_left (is_matched bag shapes id) _ (far.all id tuple there same le)
@@ -152,7 +161,8 @@ module _ (bag : FinMap nat_cmp Tuple) (tag : Atom) where
           ]
 
   -- If no tuple of the tag has more fields, they match all of them, and no others.
-  pub all_shapes : (last : ℕ) (shapes : List Template) → AreShapes last shapes → ((m : ℕ) → last < m → HasNone bag tag m) → (id : ℕ) → is_matched bag shapes id ≡ is_wanted bag (Some tag) id
+  pub all_shapes : (last : ℕ) (shapes : List Template) → AreShapes last shapes → ((m : ℕ) → last < m → HasNone bag tag m)
+      → (id : ℕ) → is_matched bag shapes id ≡ is_wanted bag (Some tag) id
   all_shapes last shapes far none id = same_bool (is_matched bag shapes id) (is_wanted bag (Some tag) id) (far.only id) (by (get bag id) refl)
     where
       same_bool : (a b : Bool) → (a ≡ true → b ≡ true) → (b ≡ true → a ≡ true) → a ≡ b
@@ -178,14 +188,19 @@ all_asked (Some tuple) = refl
 module _ (bag : FinMap nat_cmp Tuple) (own : Atom) (last : ℕ) where
   -- After the last number of fields comes that of the next kind, if that is of the tag.
   pub kind_above : (found : Atom) (n : ℕ) → found ≡ own → IsBefore own last found n → last < n
-  kind_above found n same (inl less) = absurd (atoms_turn own own (subst (λ t. atom_ord.ghosts.cmp own t ≡ Less) same less) (subst (λ t. atom_ord.ghosts.cmp own t ≡ Less) same less))
+  kind_above found n same (inl less) =
+      absurd (atoms_turn own own (subst (λ t. atom_ord.ghosts.cmp own t ≡ Less) same less) (subst (λ t. atom_ord.ghosts.cmp own t ≡ Less) same less))
   kind_above found n same (inr is) = is.1
 
-  pub kind_least : (found : Atom) (n : ℕ) → found ≡ own → ((tag : Atom) (fields : ℕ) → IsBefore own last tag fields → IsBefore tag fields found n → HasNone bag tag fields) → (m : ℕ) → last < m → m < n → HasNone bag own m
+  pub kind_least : (found : Atom) (n : ℕ) → found ≡ own
+      → ((tag : Atom) (fields : ℕ) → IsBefore own last tag fields → IsBefore tag fields found n → HasNone bag tag fields)
+      → (m : ℕ) → last < m → m < n → HasNone bag own m
   kind_least found n same least m above below = least own m (inr (refl, above)) (inr (sym same, below))
 
   -- If it is of a later tag, the tag has no more.
-  pub kind_past : (found : Atom) (n : ℕ) → (found ≡ own → ⊥) → IsBefore own last found n → ((tag : Atom) (fields : ℕ) → IsBefore own last tag fields → IsBefore tag fields found n → HasNone bag tag fields) → (m : ℕ) → last < m → HasNone bag own m
+  pub kind_past : (found : Atom) (n : ℕ) → (found ≡ own → ⊥) → IsBefore own last found n
+      → ((tag : Atom) (fields : ℕ) → IsBefore own last tag fields → IsBefore tag fields found n → HasNone bag tag fields)
+      → (m : ℕ) → last < m → HasNone bag own m
   kind_past found n other (inl less) least m above = least own m (inr (refl, above)) (inl less)
   kind_past found n other (inr is) least m above = absurd (other (sym is.0))
 

@@ -9,7 +9,7 @@ use Rattle.linda_tuple.specs.declared.atom.Atom.{Atom}
 use Rattle.linda_tuple.specs.Tuple.{Tuple}
 use Rattle.linda_bag.specs.Candidates.{tag_of, count_of}
 use Rattle.linda_bag.specs.Filing.{IsBare}
-use Rattle.linda_bag.specs.Heads.{IsBefore, with_head}
+use Rattle.linda_bag.specs.TagIndex.{IsBefore, with_head}
 use Rattle.linda_bag.specs.Ids.{IsCount}
 use Rattle.linda_bag.specs.declared.index_bag.kind.Kind.{Kind}
 use Rattle.linda_shared_listing.specs.declared.limits.TheConstants.{MOST_AT_ONCE}
@@ -59,8 +59,8 @@ last_head last [] = last
 last_head last (row ∷ rows) = last_head (Some (row.tag, row.fields)) rows
 
 -- The page has the first kinds after this one, or of all, none left out between them, each with how
--- many tuples are of it; it is whole if and only if there are no others after them. It has as many as
--- are asked for, 64 at most, unless it is whole.
+-- many tuples are of it; it is whole if and only if there are no others after them. It has as many
+-- as are asked for, 64 at most, unless it is whole.
 pub record IsKindPage (bag : fin.FinMap nat_cmp Tuple) (after : Option (Atom × ℕ)) (limit : ℕ)
     (page : KindPage) : Type 0 where
   pub rows : AreNextKinds bag after page.rows.items

@@ -1,8 +1,6 @@
 //! The tuples that are asked for, one after the other in the order of their ids.
 
-ghost use Rattle.std.specs.Prelude.{◌≡◌, ◌<◌, ℕ, [], ◌∷◌, IfSome, Option, None, Some};
-ghost use Rattle.std.specs.FinMap as maps;
-ghost use Rattle.std.specs.Option.{is_some};
+ghost use Rattle.std.specs.Prelude.{◌<◌, [], ◌∷◌, Option, None, Some};
 ghost use Rattle.linda_shared_listing.specs.Firsts.{IsNext};
 ghost use Rattle.linda_shared_listing.specs.Shapes.{is_found, is_matched, shapes_in};
 

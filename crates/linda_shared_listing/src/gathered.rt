@@ -46,7 +46,7 @@ impl Gathered {
     /// # Errors
     ///
     /// `AllocError` if memory runs out.
-    pub fn add(&mut self, piece: TuplePage) -> Result<bool, AllocError>
+    pub fn add_piece(&mut self, piece: TuplePage) -> Result<bool, AllocError>
         ensures rows { OnOk result (self.new.rows.items ≡ self.old.rows.items ++ piece.rows.items) }
         ensures next { OnOk result (self.new.next ≡ piece.next) }
         ensures tag { OnOk result (self.new.query.tag ≡ self.old.query.tag) }

@@ -7,8 +7,8 @@
 //! on, and `Gathered` puts pieces together, between which the server goes on. `list_clients` gives
 //! the clients so, each with what is kept for it, how many tuples are held for it and how many of
 //! its asks wait. `list_longest` gives the requests that wait for longest and the tuples that are
-//! held for longest. `list_kinds` says how many tuples there are of each tag and number of fields, a
-//! piece at a time, and `count_taken` how many clients are away and took a tuple by their last
+//! held for longest. `list_kinds` says how many tuples there are of each tag and number of fields,
+//! a piece at a time, and `count_taken` how many clients are away and took a tuple by their last
 //! message.
 #![tactic(auto)]
 

@@ -1,6 +1,6 @@
 //! Templates that match the tuples of a tag.
 
-ghost use Rattle.std.specs.Prelude.{◌≡◌, ◌≤◌, ◌<◌, ℕ, length, replicate, IfOk, IfSome, IfNone};
+ghost use Rattle.std.specs.Prelude.{◌≡◌, ◌<◌, ℕ, replicate, IfOk, IfSome, IfNone};
 ghost use Rattle.linda_tuple.specs.declared.limits.TheConstants.{MAX_FIELDS};
 ghost use Rattle.linda_tuple.specs.declared.pattern.Pattern.TheVariants as kinds;
 ghost use Rattle.linda_shared_listing.specs.Kinds.{HasNone};

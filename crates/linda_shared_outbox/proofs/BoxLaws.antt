@@ -1,6 +1,7 @@
 -- Keys and boxes after a change of one of them. What is found under a client, and what stands under a
 -- key, are functions here, so that no law speaks of a map or of a slab.
-use Rattle.std.proofs.Common.{◌≡◌, ◌≢◌, ℕ, Bool, true, false, cond, ◌==◌, List, [], ◌∷◌, ◌++◌, Option, Some, None, is_some, refl, sym, ap, ◌∙◌, subst, inl, inr, eq-eqb, ne_eqb, true≢false}
+use Rattle.std.proofs.Common.{◌≡◌, ◌≢◌, ℕ, Bool, true, false, cond, ◌==◌, List, [], ◌∷◌, ◌++◌, Option, Some, None}
+use Rattle.std.proofs.Common.{is_some, refl, sym, ap, ◌∙◌, subst, inl, inr, eq-eqb, ne_eqb, true≢false}
 use Rattle.std.proofs.lemmas.Bool.{cases_eq}
 use Rattle.std.proofs.Math.Logic.{∥∥₁_map}
 use Rattle.std.specs.Ordering.{nat_cmp}
@@ -31,7 +32,8 @@ Heard find at ws = (c : ℕ) → is_heard ws c (shown (boxed at (find c))) ≡ t
 abbrev pub StillStand : ℕ → List ℕ → List ℕ → Type 0
 StillStand c old new = (q : ℕ) → q ≢ c → stands_in q old ≡ true → stands_in q new ≡ true
 
-still_heard : (c : ℕ) (old new : List ℕ) → StillStand c old new → (q : ℕ) → q ≢ c → (o : Option (List Reply × Bool)) → is_heard old q o ≡ true → is_heard new q o ≡ true
+still_heard : (c : ℕ) (old new : List ℕ) → StillStand c old new → (q : ℕ) → q ≢ c → (o : Option (List Reply × Bool))
+    → is_heard old q o ≡ true → is_heard new q o ≡ true
 still_heard c old new still q differs None is = refl
 still_heard c old new still q differs (Some (rs, true)) is = still q differs is
 still_heard c old new still q differs (Some (rs, false)) is = is
@@ -49,7 +51,8 @@ module _ (find : ℕ → Option ℕ) (old new : ℕ → Option Outbox) (c key : 
       by None is = refl
       by (Some k) is = others k (λ same. differs (apart q c k is (found ∙ ap (λ x. Some x) (sym same))))
 
-  pub heard_after : (ws xs : List ℕ) → Apart find → Heard find old ws → (is_heard ws c (shown (old key)) ≡ true → is_heard xs c (shown (new key)) ≡ true) → StillStand c ws xs → Heard find new xs
+  pub heard_after : (ws xs : List ℕ) → Apart find → Heard find old ws
+      → (is_heard ws c (shown (old key)) ≡ true → is_heard xs c (shown (new key)) ≡ true) → StillStand c ws xs → Heard find new xs
   heard_after ws xs apart heard here still q =
       elim (cases_eq q c) [
         | inl same ↦
@@ -61,7 +64,8 @@ module _ (find : ℕ → Option ℕ) (old new : ℕ → Option Outbox) (c key : 
       ]
 
 -- The list changed, and the client has no box.
-pub heard_without : (find : ℕ → Option ℕ) (at : ℕ → Option Outbox) (c : ℕ) (ws xs : List ℕ) → find c ≡ None → Heard find at ws → StillStand c ws xs → Heard find at xs
+pub heard_without : (find : ℕ → Option ℕ) (at : ℕ → Option Outbox) (c : ℕ) (ws xs : List ℕ) → find c ≡ None
+    → Heard find at ws → StillStand c ws xs → Heard find at xs
 heard_without find at c ws xs none heard still q =
     elim (cases_eq q c) [
       | inl same ↦ ap (λ x. is_heard xs x (shown (boxed at (find x)))) same ∙ ap (λ o. is_heard xs c (shown (boxed at o))) none
@@ -155,7 +159,8 @@ pub heard_posted : (c : ℕ) (ws : List ℕ) (r : Reply) (o : Option (List Reply
 heard_posted c ws r None = refl
 heard_posted c ws r (Some o) = stands_last c ws
 
-pub heard_listed : (c : ℕ) (ws : List ℕ) (r : Reply) (o : Option (List Reply × Bool)) → is_unlisted o ≡ false → is_heard ws c o ≡ true → is_heard ws c (posted r o) ≡ true
+pub heard_listed : (c : ℕ) (ws : List ℕ) (r : Reply) (o : Option (List Reply × Bool)) → is_unlisted o ≡ false
+    → is_heard ws c o ≡ true → is_heard ws c (posted r o) ≡ true
 heard_listed c ws r None listed is = refl
 heard_listed c ws r (Some (rs, true)) listed is = is
 heard_listed c ws r (Some (rs, false)) listed is = absurd (true≢false listed)
@@ -194,7 +199,8 @@ abbrev pub Owned : (ℕ → Option ℕ) → (ℕ → Option Outbox) → Type 0
 Owned find at = (key : ℕ) → is_some (at key) ≡ true → ∥ ((c : ℕ) × (find c ≡ Some key)) ∥₁
 
 -- The box under one client's key changed.
-pub owned_at : (find : ℕ → Option ℕ) (old new : ℕ → Option Outbox) (c key : ℕ) → find c ≡ Some key → ((k : ℕ) → k ≢ key → new k ≡ old k) → Owned find old → Owned find new
+pub owned_at : (find : ℕ → Option ℕ) (old new : ℕ → Option Outbox) (c key : ℕ) → find c ≡ Some key
+    → ((k : ℕ) → k ≢ key → new k ≡ old k) → Owned find old → Owned find new
 owned_at find old new c key found others owned k is =
     elim (cases_eq k key) [
       | inl same ↦ ∣ (c, found ∙ ap (λ x. Some x) (sym same)) ∣₁
@@ -202,7 +208,8 @@ owned_at find old new c key found others owned k is =
     ]
 
 -- A client has lost its key, and the box under it is gone.
-pub owned_without : (find now : ℕ → Option ℕ) (old new : ℕ → Option Outbox) (c key : ℕ) → find c ≡ Some key → new key ≡ None → ((q : ℕ) → q ≢ c → now q ≡ find q)
+pub owned_without : (find now : ℕ → Option ℕ) (old new : ℕ → Option Outbox) (c key : ℕ) → find c ≡ Some key
+    → new key ≡ None → ((q : ℕ) → q ≢ c → now q ≡ find q)
     → ((k : ℕ) → k ≢ key → new k ≡ old k) → Owned find old → Owned now new
 owned_without find now old new c key found gone same others owned k is =
     elim (cases_eq k key) [

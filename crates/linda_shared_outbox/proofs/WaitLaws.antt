@@ -1,5 +1,7 @@
 -- What waits, reply by reply.
-use Rattle.std.proofs.Common.{◌≡◌, ◌≢◌, ℕ, ◌+◌, Bool, true, false, cond, ◌==◌, List, [], ◌∷◌, ◌++◌, Option, Some, None, All, refl, sym, ap, ◌∙◌, subst, append-nil, append_assoc, eq-eqb, ne_eqb, inl, inr, arith, is_some}
+use Rattle.std.proofs.Common.{◌≡◌, ◌≢◌, ℕ, ◌+◌, Bool, true, false, cond, ◌==◌, List, [], ◌∷◌, ◌++◌, Option, Some, None}
+use Rattle.std.proofs.Common.{All, refl, sym, ap, ◌∙◌, subst, append-nil, append_assoc, eq-eqb, ne_eqb, inl, inr, arith}
+use Rattle.std.proofs.Common.{is_some}
 use Rattle.std.proofs.lemmas.Bool.{cases_eq}
 use Rattle.std.proofs.lemmas.List.Elements.{All-weaker}
 use Rattle.linda_wire.specs.declared.reply.Reply.{Reply}
@@ -19,7 +21,8 @@ back : (c : ℕ) (s : ℕ × Reply) (b : Bool) → s.0 == c ≡ b → (ss : List
 back c s b e [] = ap (λ x. cond x (s.1 ∷ []) []) e
 back c s b e (q ∷ ss) = by (q.0 == c) (back c s b e ss)
   where
-    by : (x : Bool) → replies_to c (ss ++ s ∷ []) ≡ replies_to c ss ++ cond b (s.1 ∷ []) [] → cond x (q.1 ∷ replies_to c (ss ++ s ∷ [])) (replies_to c (ss ++ s ∷ [])) ≡ cond x (q.1 ∷ replies_to c ss) (replies_to c ss) ++ cond b (s.1 ∷ []) []
+    by : (x : Bool) → replies_to c (ss ++ s ∷ []) ≡ replies_to c ss ++ cond b (s.1 ∷ []) []
+        → cond x (q.1 ∷ replies_to c (ss ++ s ∷ [])) (replies_to c (ss ++ s ∷ [])) ≡ cond x (q.1 ∷ replies_to c ss) (replies_to c ss) ++ cond b (s.1 ∷ []) []
     by true rest = ap (λ l. q.1 ∷ l) rest
     by false rest = rest
 

@@ -1,6 +1,6 @@
 //! One outbox among those of a slab.
 
-ghost use Rattle.std.specs.Prelude.{◌≡◌, ◌≢◌, ℕ, ◌+◌, ◌≤◌, OnOk};
+ghost use Rattle.std.specs.Prelude.{◌≡◌, ◌≢◌, ℕ, ◌+◌, OnOk};
 ghost use Rattle.slab.specs.Slab as slab;
 ghost use Rattle.linda_shared_outbox.specs.Boxes.{shown, posted, taken_out, unlisted, is_unlisted};
 ghost use Rattle.linda_shared_outbox.specs.Boxes.{replies_in};

@@ -1,5 +1,6 @@
 -- One message more of a batch is heard.
-use Rattle.std.proofs.Common.{◌≡◌, ℕ, ◌+◌, ◌<◌, ◌≤◌, Bool, true, false, true≢false, cond, List, [], ◌∷◌, ◌++◌, length, length-append, Option, Some, None, IfSome, IfNone, refl, sym, ap, ◌∙◌, subst, arith}
+use Rattle.std.proofs.Common.{◌≡◌, ℕ, ◌+◌, ◌<◌, ◌≤◌, Bool, true, false, true≢false, cond, List, [], ◌∷◌, ◌++◌, length}
+use Rattle.std.proofs.Common.{length-append, Option, Some, None, IfSome, IfNone, refl, sym, ap, ◌∙◌, subst, arith}
 use Rattle.linda_wire.specs.declared.message.Message.{Message}
 use Rattle.linda_shared_accounts.specs.declared.receipt.Receipt.{Receipt}
 use Rattle.linda_shared_accounts.specs.declared.fault.SharedFault.{SharedFault}
@@ -39,10 +40,12 @@ unless_more : (fault : Option SharedFault) (P Q : Type 0) → (P → Q) → Unle
 unless_more None P Q so p = so p
 unless_more (Some fault) P Q so p = λ mild. so (p mild)
 
-same_still : (a before : Account) (t : Option Receipt) → t ≡ None → with_asked a 0 ≡ with_asked before 0 → with_asked (with_told (back a) t) 0 ≡ with_asked before 0
+same_still : (a before : Account) (t : Option Receipt) → t ≡ None → with_asked a 0 ≡ with_asked before 0
+    → with_asked (with_told (back a) t) 0 ≡ with_asked before 0
 same_still a before t none is = back_told a t ∙ (ap (with_told (with_asked a 0)) none ∙ is)
 
-pub heard_told : (before a new : Account) (ms : List Message) (ts : List (Option Receipt)) (fault : Option SharedFault) (same next_same : Bool) (m : Message) (t : Option Receipt)
+pub heard_told : (before a new : Account) (ms : List Message) (ts : List (Option Receipt))
+    (fault : Option SharedFault) (same next_same : Bool) (m : Message) (t : Option Receipt)
     → 0 < a.asked → new ≡ with_told (back a) t → IsToldOf a.client m t → (next_same ≡ true → (same ≡ true) × (t ≡ None))
     → HasHeard before ms a ts fault same → HasHeard before (ms ++ m ∷ []) new (ts ++ t ∷ []) fault next_same
 heard_told before a new ms ts fault same next_same m t some is its as_before h =
@@ -64,7 +67,8 @@ heard_told before a new ms ts fault same next_same m t some is its as_before h =
       each = omega (arith, l, r, each);
       told_all = still_none fault before a ms ts m t h.client its h.told_all;
       its = h.its;
-      noted = unless_more fault (HasNoted before ms a) (HasNoted before (ms ++ m ∷ []) (with_told (back a) t)) (noted_more before a ms m t h.client its) h.noted;
+      noted = unless_more fault (HasNoted before ms a) (HasNoted before (ms ++ m ∷ []) (with_told (back a) t))
+          (noted_more before a ms m t h.client its) h.noted;
       same = λ yes_it_is. same_still a before t (as_before yes_it_is).1 (h.same (as_before yes_it_is).0);
     })
 
@@ -132,13 +136,15 @@ left_lost m a (faults.Stuck client) new is mild = as_before_so m a new is
 left_lost m a faults.NoThread new is mild = as_before_so m a new is
 left_lost m a faults.Memory new is mild = as_before_so m a new is
 
-lost_more : (before a new : Account) (ms : List Message) (m : Message) → a.client ≡ before.client → HasNoted before ms a → IsLost m (back a) new → HasNoted before (ms ++ m ∷ []) new
+lost_more : (before a new : Account) (ms : List Message) (m : Message) → a.client ≡ before.client
+    → HasNoted before ms a → IsLost m (back a) new → HasNoted before (ms ++ m ∷ []) new
 lost_more before a new ms m client noted lost =
     subst (HasNoted before (ms ++ m ∷ [])) (sym lost.account) (noted_more before a ms m lost.told client lost.deed noted)
 
 -- ---- the fault of several messages
 
-worse_its : (c : ℕ) (before : Option SharedFault) (fault : SharedFault) → IfSome before (IsFaultOf c) → IsFaultOf c fault → IsFaultOf c (worse_fault before fault)
+worse_its : (c : ℕ) (before : Option SharedFault) (fault : SharedFault) → IfSome before (IsFaultOf c)
+    → IsFaultOf c fault → IsFaultOf c (worse_fault before fault)
 worse_its c None fault old its = its
 worse_its c (Some first) fault old its = by (is_receipt first) (is_receipt fault)
   where
@@ -157,7 +163,8 @@ worse_unless (Some first) fault P Q R p q both = by (is_receipt first) (is_recei
     by false true one other mild = absurd (true≢false (sym other ∙ mild))
     by false false one other mild = both (p one) (q other)
 
-pub heard_fault : (before a new : Account) (ms : List Message) (ts : List (Option Receipt)) (old : Option SharedFault) (fault : SharedFault) (same next_same : Bool) (m : Message)
+pub heard_fault : (before a new : Account) (ms : List Message) (ts : List (Option Receipt))
+    (old : Option SharedFault) (fault : SharedFault) (same next_same : Bool) (m : Message)
     → 0 < a.asked → IsLeft m (back a) fault new → (next_same ≡ true → (same ≡ true) × (is_severe fault ≡ false))
     → HasHeard before ms a ts old same → HasHeard before (ms ++ m ∷ []) new (ts ++ None ∷ []) (Some (worse_fault old fault)) next_same
 heard_fault before a new ms ts old fault same next_same m some left as_before h =
@@ -179,7 +186,8 @@ heard_fault before a new ms ts old fault same next_same m some left as_before h 
       each = omega (arith, l, r, each);
       told_all = tt;
       its = worse_its before.client old fault h.its (subst (λ c. IsFaultOf c fault) h.client so.its);
-      noted = worse_unless old fault (HasNoted before ms a) (IsLost m (back a) new) (HasNoted before (ms ++ m ∷ []) new) h.noted (left_lost m (back a) fault new left) (lost_more before a new ms m h.client);
+      noted = worse_unless old fault (HasNoted before ms a) (IsLost m (back a) new) (HasNoted before (ms ++ m ∷ []) new) h.noted
+          (left_lost m (back a) fault new left) (lost_more before a new ms m h.client);
       same = λ yes_it_is. ap (λ (x : Account). with_asked x 0) (so.mild (as_before yes_it_is).1) ∙ h.same (as_before yes_it_is).0;
     }
 

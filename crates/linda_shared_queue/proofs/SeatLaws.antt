@@ -18,7 +18,8 @@ pub all_asked : (a : Account) (asked : ℕ) (ts : List (Option Receipt)) → wit
 all_asked a asked [] = refl
 all_asked a asked (t ∷ ts) = all_asked (with_told a t) asked ts ∙ ap (λ (x : Account). with_all x ts) (told_asked a asked t)
 
-pub told_snoc : (c : ℕ) (ms : List Message) (ts : List (Option Receipt)) (m : Message) (t : Option Receipt) → AreToldOf c ms ts → IsToldOf c m t → AreToldOf c (ms ++ m ∷ []) (ts ++ t ∷ [])
+pub told_snoc : (c : ℕ) (ms : List Message) (ts : List (Option Receipt)) (m : Message) (t : Option Receipt)
+    → AreToldOf c ms ts → IsToldOf c m t → AreToldOf c (ms ++ m ∷ []) (ts ++ t ∷ [])
 told_snoc c [] [] m t all one = (one, all)
 told_snoc c [] (s ∷ ts) m t all one = absurd all
 told_snoc c (n ∷ ms) [] m t all one = absurd all

@@ -29,7 +29,7 @@ mod outlet;
 mod queue;
 mod recipient;
 mod router;
-mod send;
+mod thread_safety;
 
 pub use address::Address;
 pub use answer::Answer;
@@ -40,4 +40,4 @@ pub use outlet::Outlet;
 pub use queue::{Queue, Waiting};
 pub use recipient::Recipient;
 pub use router::Router;
-pub use send::{mailbox_crosses, outlet_crosses, queue_crosses, router_crosses};
+pub use thread_safety::{mailbox_crosses, outlet_crosses, queue_crosses, router_crosses};

@@ -1,6 +1,6 @@
 //! The messages that wait to be served.
 
-ghost use Rattle.std.specs.Prelude.{◌≡◌, ◌+◌, ◌<◌, ◌≤◌, ◌==◌, ◌++◌, ◌∷◌, [], true, false, not};
+ghost use Rattle.std.specs.Prelude.{◌≡◌, ◌+◌, ◌<◌, ◌≤◌, ◌++◌, ◌∷◌, [], true, false, not};
 ghost use Rattle.std.specs.Prelude.{◌||◌, All};
 ghost use Rattle.std.specs.Prelude.{map, vec_len, nat_lt, is_some, IfOk, OnOk, OnErr, IfSome};
 ghost use Rattle.std.specs.Prelude.{IfNone};

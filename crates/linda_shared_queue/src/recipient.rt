@@ -2,8 +2,8 @@
 
 ghost use Rattle.std.specs.Prelude.{◌≡◌};
 
-/// Who waits for an answer: a client, at a place in its mailbox. Only the address of a message makes
-/// one.
+/// Who waits for an answer: a client, at a place in its mailbox. Only the address of a message
+/// makes one.
 #[derive(Clone, Copy)]
 pub struct Recipient {
     client: u32,

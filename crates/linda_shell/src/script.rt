@@ -1,10 +1,12 @@
 //! A script at work: servers and clients, and what each command prints.
 
 mod command;
+mod deliveries;
 mod fault;
 mod listing;
 mod output;
 mod run;
+mod stops;
 mod trace;
 
 ghost use Rattle.std.specs.Prelude.{◌≡◌, ◌≤◌, All, IfOk, length, map};
@@ -14,7 +16,7 @@ ghost use Rattle.linda_world_laws.specs.Reached.{IsUnused};
 use command::{Command, read_command};
 pub use fault::ScriptFault;
 use linda_client::ClientFault;
-use linda_disk::{MemDisk, Torn};
+use linda_disk::MemDisk;
 use linda_server::Durable;
 use linda_shell_text::{LineFault, write_fault, write_outcome, write_refusal};
 use linda_store::Node;
@@ -29,9 +31,6 @@ const MAX_CLIENTS: usize = 64;
 
 /// The most bytes that a bank of a script's server may have.
 const LIMIT: usize = 1_048_576;
-
-/// The most packets that are delivered for one command, beside those that it repeats.
-const MAX_DELIVERIES: usize = 1_000_000;
 
 /// The servers and clients of a script. Between two commands every packet was delivered at least
 /// once.
@@ -197,137 +196,6 @@ impl Script {
         Ok(())
     }
 
-    fn snapshot(&mut self, alloc: Global, server: u64, out: &mut Output) -> Result<(), LineFault> {
-        let server = self.server(server)?;
-        match self.world.step(alloc, WorldEvent::Snapshot(server)) {
-            Ok(seen) => print_snapshot(alloc, server, seen.full, out),
-            Err(fault) => Err(line_fault(fault)),
-        }
-    }
-
-    // Stops the server with nothing in hand.
-    fn stop_at_rest(
-        &mut self,
-        alloc: Global,
-        server: u64,
-        out: &mut Output,
-    ) -> Result<(), LineFault> {
-        let server = self.server(server)?;
-        let event = WorldEvent::Stop {
-            server,
-            packets: Vec::new(alloc),
-            at: 0,
-            torn: Torn::Kept,
-        };
-        self.stop(alloc, server, None, event, out)
-    }
-
-    // Stops the server inside the device call of this number of a snapshot.
-    fn stop_snapshot(
-        &mut self,
-        alloc: Global,
-        server: u64,
-        call: u64,
-        byte: u8,
-        out: &mut Output,
-    ) -> Result<(), LineFault> {
-        let server = self.server(server)?;
-        let event = WorldEvent::StopSnapshot {
-            server,
-            at: call,
-            torn: Torn::Filled(byte),
-        };
-        self.stop(alloc, server, Some(call), event, out)
-    }
-
-    // Stops the server so, inside a device call or with nothing in hand, and says so to each client
-    // that it was opened.
-    fn stop(
-        &mut self,
-        alloc: Global,
-        server: u32,
-        call: Option<u64>,
-        event: WorldEvent,
-        out: &mut Output,
-    ) -> Result<(), LineFault> {
-        self.step_unseen(alloc, event)?;
-        self.print_stop(alloc, server, call, out)?;
-        for place in 0..self.clients.len() {
-            if let Some(client) = self.clients.get(place).copied() {
-                self.call(alloc, client, WorldEvent::Reconnect { client, server }, out)?;
-            }
-        }
-        Ok(())
-    }
-
-    // One event, of which nothing is printed.
-    fn step_unseen(&mut self, alloc: Global, event: WorldEvent) -> Result<(), LineFault> {
-        match self.world.step(alloc, event) {
-            Ok(_) => Ok(()),
-            Err(fault) => Err(line_fault(fault)),
-        }
-    }
-
-    // The line of a server that was stopped and opened.
-    fn print_stop(
-        &self,
-        alloc: Global,
-        server: u32,
-        call: Option<u64>,
-        out: &mut Output,
-    ) -> Result<(), AllocError> {
-        if let Some(trace) = out.trace() {
-            trace.stop(alloc, &self.world, server, call)?;
-        }
-        print_of_server(alloc, server, "opened", out)
-    }
-
-    // Delivers every packet that was sent before, again.
-    fn repeat(&mut self, alloc: Global, out: &mut Output) -> Result<(), LineFault> {
-        for packet in 0..self.delivered {
-            self.deliver(alloc, packet, out)?;
-        }
-        Ok(())
-    }
-
-    // Delivers the packets that were not delivered yet, in the order in which they were sent, until
-    // none is left.
-    fn deliver_all(&mut self, alloc: Global, out: &mut Output) -> Result<(), LineFault> {
-        for _ in 0..MAX_DELIVERIES {
-            if self.delivered >= self.world.packets().len() {
-                return Ok(());
-            }
-            let packet = self.delivered;
-            self.delivered = packet.saturating_add(1);
-            self.deliver(alloc, packet, out)?;
-        }
-        if self.delivered < self.world.packets().len() {
-            return Err(LineFault::TooManyDeliveries);
-        }
-        Ok(())
-    }
-
-    fn deliver(&mut self, alloc: Global, packet: usize, out: &mut Output) -> Result<(), LineFault> {
-        match self.world.step(alloc, WorldEvent::Deliver(packet)) {
-            Ok(seen) => self.print_delivery(alloc, packet, &seen, out),
-            Err(fault) => Err(line_fault(fault)),
-        }
-    }
-
-    // What was seen of a delivery, after what it led to.
-    fn print_delivery(
-        &self,
-        alloc: Global,
-        packet: usize,
-        seen: &Seen,
-        out: &mut Output,
-    ) -> Result<(), LineFault> {
-        if let Some(trace) = out.trace() {
-            trace.deliver(alloc, &self.world, packet)?;
-        }
-        Ok(print_seen(alloc, seen, out)?)
-    }
-
     fn show(&mut self, alloc: Global, server: u64, out: &mut Output) -> Result<(), LineFault> {
         let server = self.server(server)?;
         match self.world.node(server) {
@@ -392,31 +260,6 @@ fn print_refusal(
         }
         None => Err(LineFault::Memory),
     }
-}
-
-// The line of a server that was asked for a snapshot, and may have no room for it.
-fn print_snapshot(
-    alloc: Global,
-    server: u32,
-    full: bool,
-    out: &mut Output,
-) -> Result<(), LineFault> {
-    if let Some(trace) = out.trace() {
-        trace.snapshot(server)?;
-    }
-    let what = if full { "full" } else { "snapshot" };
-    Ok(print_of_server(alloc, server, what, out)?)
-}
-
-// A line about a server.
-fn print_of_server(
-    alloc: Global,
-    server: u32,
-    what: &str,
-    out: &mut Output,
-) -> Result<(), AllocError> {
-    let line = format!(in alloc; "server {server} {what}\n")?;
-    out.print(&line)
 }
 
 // Why a line was not done, if the world did not do an event of it.

@@ -31,7 +31,8 @@ alone_found bytes t e =
     let b = blanks_take bytes in
     let behind = blanks_take x.0.1 in
     let all : behind.0 ≡ x.0.1 = sym (behind.2 ∙ ap (λ (w : List ℕ). behind.0 ++ w) n.0 ∙ append-nil behind.0) in
-    let within : IsEventAlone bytes x.0.0 = ((f.2, f.3), (x.0.1, subst AreBlanks all behind.1, (b.0, f.0, b.1, f.1, b.2 ∙ ap (λ (w : List ℕ). b.0 ++ w) f.4))) in
+    let within : IsEventAlone bytes x.0.0 =
+    ((f.2, f.3), (x.0.1, subst AreBlanks all behind.1, (b.0, f.0, b.1, f.1, b.2 ∙ ap (λ (w : List ℕ). b.0 ++ w) f.4))) in
     subst (IsEventAlone bytes) n.1 within
 
 blanks_end_word : (blanks : List ℕ) → AreBlanks blanks → EndsWord blanks
@@ -46,7 +47,8 @@ pub only_again : (bytes : List ℕ) (t : Tree) → IsEventAlone bytes t → only
 unfolding only_event
 only_again bytes t (within, (behind, spaces, (blanks, text, more, is, parts))) =
     let front : after_blanks bytes ≡ text ++ behind = ap after_blanks parts ∙ blanks_again blanks (text ++ behind) more ∙ event_begins t text behind is in
-    let found : event_at MAX_NESTED (text ++ behind) ≡ Ok (t, behind) = event_again t MAX_NESTED text behind is within.0 within.1 (blanks_end_word behind spaces) in
+    let found : event_at MAX_NESTED (text ++ behind) ≡ Ok (t, behind) =
+    event_again t MAX_NESTED text behind is within.0 within.1 (blanks_end_word behind spaces) in
     let none : after_blanks behind ≡ [] = ap after_blanks (sym (append-nil behind)) ∙ blanks_again behind [] spaces ∙ none_left in
     rw (front, found, none) refl
 
@@ -54,7 +56,8 @@ pub alone_only : (bytes : List ℕ) (b : Tree) → only_event bytes ≡ Ok b →
 alone_only bytes b e a alone = ok_is a b (sym (only_again bytes a alone) ∙ e)
 
 -- Where an event stands there, the only fault is `Memory`.
-pub alone_no_fault : (bytes : List ℕ) (n : ℕ) (fault told : EventTextFault) → (fault ≢ Text Memory → only_event bytes ≡ Err fault) → told ≡ settled_fault n fault
+pub alone_no_fault : (bytes : List ℕ) (n : ℕ) (fault told : EventTextFault)
+    → (fault ≢ Text Memory → only_event bytes ≡ Err fault) → told ≡ settled_fault n fault
     → (a : Tree) → IsEventAlone bytes a → told ≢ Text Memory → ⊥
 alone_no_fault bytes n fault told fails is_told a alone not_memory =
     let found = only_again bytes a alone in

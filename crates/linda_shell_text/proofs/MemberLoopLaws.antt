@@ -1,5 +1,6 @@
 -- Reading the members of a choice one after the other, as a loop does.
-use Rattle.std.proofs.Common.{◌≡◌, ◌≢◌, ℕ, suc, ◌-◌, ◌+◌, ◌≤◌, ◌<◌, Bool, true, false, List, [], ◌∷◌, ◌++◌, length, Ok, Err, refl, sym, ap, ◌∙◌, append_assoc, arith}
+use Rattle.std.proofs.Common.{◌≡◌, ◌≢◌, ℕ, suc, ◌-◌, ◌+◌, ◌≤◌, ◌<◌, Bool, true, false, List, [], ◌∷◌, ◌++◌, length, Ok}
+use Rattle.std.proofs.Common.{Err, refl, sym, ap, ◌∙◌, append_assoc, arith}
 use Rattle.linda_text.specs.declared.fault.TextFault.{TextFault}
 use Rattle.linda_text.specs.declared.fault.TextFault.TheVariants.{Memory, SyntaxAt}
 use Rattle.linda_text.specs.Reading.{after_blanks}
@@ -29,11 +30,13 @@ pub open_fails : (member : Reader Tree) (bytes : List ℕ) (fault : TextFault) �
 unfolding members_at
 open_fails member bytes fault e = rw e refl
 
-pub opens_none : (member : Reader Tree) (bytes : List ℕ) (some : Bool) (rest : List ℕ) (front : List Tree) → front ≡ [] → some ≡ false → open_at bytes ≡ Ok (some, rest) → members_at member bytes ≡ Ok (front, rest)
+pub opens_none : (member : Reader Tree) (bytes : List ℕ) (some : Bool) (rest : List ℕ) (front : List Tree)
+    → front ≡ [] → some ≡ false → open_at bytes ≡ Ok (some, rest) → members_at member bytes ≡ Ok (front, rest)
 unfolding members_at
 opens_none member bytes some rest front none is_none e = rw (e, is_none, none) refl
 
-pub opens_some : (member : Reader Tree) (bytes : List ℕ) (some : Bool) (rest : List ℕ) (front : List Tree) → front ≡ [] → some ≡ true → open_at bytes ≡ Ok (some, rest)
+pub opens_some : (member : Reader Tree) (bytes : List ℕ) (some : Bool) (rest : List ℕ) (front : List Tree)
+    → front ≡ [] → some ≡ true → open_at bytes ≡ Ok (some, rest)
     → with_front front (some_members_at member (length rest - 0) rest) ≡ members_at member bytes
 unfolding members_at
 opens_some member bytes some rest front none is_some e =
@@ -42,9 +45,11 @@ opens_some member bytes some rest front none is_some e =
 
 -- ---- the loop
 
-pub goes_on : (member : Reader Tree) (front : List Tree) (count i : ℕ) (bytes here : List ℕ) (t : Tree) (behind : List ℕ) (more : Bool) (after : List ℕ) (total : Read (List Tree)) → i < count
+pub goes_on : (member : Reader Tree) (front : List Tree) (count i : ℕ) (bytes here : List ℕ) (t : Tree)
+    (behind : List ℕ) (more : Bool) (after : List ℕ) (total : Read (List Tree)) → i < count
     → here ≡ after_blanks bytes → member here ≡ Ok (t, behind) → mark_at (after_blanks behind) ≡ Ok (more, after) → more ≡ true
-    → with_front front (some_members_at member (count - i) bytes) ≡ total → with_front (front ++ t ∷ []) (some_members_at member (count - (i + 1)) after) ≡ total
+    → with_front front (some_members_at member (count - i) bytes) ≡ total
+    → with_front (front ++ t ∷ []) (some_members_at member (count - (i + 1)) after) ≡ total
 unfolding some_members_at
 goes_on member front count i bytes here t behind more after total lt is_here one found is_more so_far =
     let k : count - i ≡ suc (count - (i + 1)) = omega arith in
@@ -54,7 +59,8 @@ goes_on member front count i bytes here t behind more after total lt is_here one
     sym same ∙ so_far
 
 -- The closing bracket.
-pub closes : (member : Reader Tree) (front : List Tree) (count i : ℕ) (bytes here : List ℕ) (t : Tree) (behind : List ℕ) (more : Bool) (after : List ℕ) (total : Read (List Tree)) → i < count
+pub closes : (member : Reader Tree) (front : List Tree) (count i : ℕ) (bytes here : List ℕ) (t : Tree)
+    (behind : List ℕ) (more : Bool) (after : List ℕ) (total : Read (List Tree)) → i < count
     → here ≡ after_blanks bytes → member here ≡ Ok (t, behind) → mark_at (after_blanks behind) ≡ Ok (more, after) → more ≡ false
     → with_front front (some_members_at member (count - i) bytes) ≡ total → total ≡ Ok (front ++ t ∷ [], after)
 unfolding some_members_at
@@ -64,7 +70,8 @@ closes member front count i bytes here t behind more after total lt is_here one 
     let same : with_front front (some_members_at member (count - i) bytes) ≡ Ok (front ++ t ∷ [], after) = rw (k, read, found, is_last) refl in
     sym so_far ∙ same
 
-pub fails_inside : (member : Reader Tree) (front : List Tree) (count i : ℕ) (bytes here : List ℕ) (fault : EventTextFault) (total : Read (List Tree)) → i < count
+pub fails_inside : (member : Reader Tree) (front : List Tree) (count i : ℕ) (bytes here : List ℕ) (fault : EventTextFault) (total : Read (List Tree))
+    → i < count
     → here ≡ after_blanks bytes → (fault ≢ Text Memory → member here ≡ Err fault)
     → with_front front (some_members_at member (count - i) bytes) ≡ total → fault ≢ Text Memory → total ≡ Err fault
 unfolding some_members_at
@@ -74,7 +81,8 @@ fails_inside member front count i bytes here fault total lt is_here one so_far i
     let same : with_front front (some_members_at member (count - i) bytes) ≡ Err fault = rw (k, read) refl in
     sym so_far ∙ same
 
-pub fails_behind : (member : Reader Tree) (front : List Tree) (count i : ℕ) (bytes here : List ℕ) (t : Tree) (behind : List ℕ) (fault : TextFault) (total : Read (List Tree)) → i < count
+pub fails_behind : (member : Reader Tree) (front : List Tree) (count i : ℕ) (bytes here : List ℕ)
+    (t : Tree) (behind : List ℕ) (fault : TextFault) (total : Read (List Tree)) → i < count
     → here ≡ after_blanks bytes → member here ≡ Ok (t, behind) → mark_at (after_blanks behind) ≡ Err fault
     → with_front front (some_members_at member (count - i) bytes) ≡ total → total ≡ Err (Text fault)
 unfolding some_members_at

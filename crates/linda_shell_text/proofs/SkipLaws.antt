@@ -28,7 +28,8 @@ pub open_fails : (member : Reader Tree) (bytes : List ℕ) (fault : TextFault) �
 unfolding members_at
 open_fails member bytes fault e = rw e refl
 
-pub opens_none : (member : Reader Tree) (bytes : List ℕ) (some : Bool) (rest : List ℕ) → some ≡ false → open_at bytes ≡ Ok (some, rest) → left_by (members_at member bytes) ≡ Ok rest
+pub opens_none : (member : Reader Tree) (bytes : List ℕ) (some : Bool) (rest : List ℕ) → some ≡ false
+    → open_at bytes ≡ Ok (some, rest) → left_by (members_at member bytes) ≡ Ok rest
 unfolding members_at
 opens_none member bytes some rest is_none e = rw (e, is_none) refl
 
@@ -40,7 +41,8 @@ opens_some member bytes some rest is_some e =
     rw (e, is_some, k) refl
 
 -- What so many members leave, from the first on, by what is after it.
-by_first : (member : Reader Tree) (count i : ℕ) (bytes here behind : List ℕ) (total : Result (List ℕ) EventTextFault) → i < count → here ≡ after_blanks bytes → left_by (member here) ≡ Ok behind
+by_first : (member : Reader Tree) (count i : ℕ) (bytes here behind : List ℕ) (total : Result (List ℕ) EventTextFault)
+    → i < count → here ≡ after_blanks bytes → left_by (member here) ≡ Ok behind
     → ((t : Tree) → left_by (behind_first member (count - (i + 1)) (t, behind)) ≡ total) → left_by (some_members_at member (count - i) bytes) ≡ total
 unfolding some_members_at
 by_first member count i bytes here behind total lt is_here one others =
@@ -48,14 +50,16 @@ by_first member count i bytes here behind total lt is_here one others =
     let first : left_by (member (after_blanks bytes)) ≡ Ok behind = ap (λ (b : List ℕ). left_by (member b)) (sym is_here) ∙ one in
     rw k (left_then (member (after_blanks bytes)) (behind_first member (count - (i + 1))) behind total first others)
 
-pub goes_on : (member : Reader Tree) (count i : ℕ) (bytes here behind : List ℕ) (more : Bool) (after : List ℕ) (total : Result (List ℕ) EventTextFault) → i < count
+pub goes_on : (member : Reader Tree) (count i : ℕ) (bytes here behind : List ℕ) (more : Bool) (after : List ℕ) (total : Result (List ℕ) EventTextFault)
+    → i < count
     → here ≡ after_blanks bytes → left_by (member here) ≡ Ok behind → mark_at (after_blanks behind) ≡ Ok (more, after) → more ≡ true
     → left_by (some_members_at member (count - i) bytes) ≡ total → left_by (some_members_at member (count - (i + 1)) after) ≡ total
 goes_on member count i bytes here behind more after total lt is_here one found is_more so_far =
     sym (by_first member count i bytes here behind (left_by (some_members_at member (count - (i + 1)) after)) lt is_here one
     (λ t. rw (found, is_more) (left_made (some_members_at member (count - (i + 1)) after) (λ others. t ∷ others)))) ∙ so_far
 
-pub closes : (member : Reader Tree) (count i : ℕ) (bytes here behind : List ℕ) (more : Bool) (after : List ℕ) (total : Result (List ℕ) EventTextFault) → i < count
+pub closes : (member : Reader Tree) (count i : ℕ) (bytes here behind : List ℕ) (more : Bool) (after : List ℕ) (total : Result (List ℕ) EventTextFault)
+    → i < count
     → here ≡ after_blanks bytes → left_by (member here) ≡ Ok behind → mark_at (after_blanks behind) ≡ Ok (more, after) → more ≡ false
     → left_by (some_members_at member (count - i) bytes) ≡ total → total ≡ Ok after
 closes member count i bytes here behind more after total lt is_here one found is_last so_far =
@@ -73,7 +77,8 @@ unfolding some_members_at
 fails_inside member count i bytes here fault total lt is_here one so_far =
     let k : count - i ≡ suc (count - (i + 1)) = omega arith in
     let first : left_by (member (after_blanks bytes)) ≡ Err fault = ap (λ (b : List ℕ). left_by (member b)) (sym is_here) ∙ one in
-    let same : left_by (some_members_at member (count - i) bytes) ≡ Err fault = rw k (left_fault (member (after_blanks bytes)) (behind_first member (count - (i + 1))) fault first) in
+    let same : left_by (some_members_at member (count - i) bytes) ≡ Err fault =
+    rw k (left_fault (member (after_blanks bytes)) (behind_first member (count - (i + 1))) fault first) in
     sym so_far ∙ same
 
 -- No byte is left for a member.

@@ -37,7 +37,8 @@ ends_numeral (b ∷ rest) e =
     let second = or_parts _ _ first.0 in
     second.0
 
-end_by : (t : Bool) (b : ℕ) (rest behind : List ℕ) → is_ascii_alphanumeric b ≡ t → cond t (Err (SyntaxAt (suc (length rest)))) (Ok (b ∷ rest)) ≡ Ok behind → (b ∷ rest ≡ behind) × EndsWord behind
+end_by : (t : Bool) (b : ℕ) (rest behind : List ℕ) → is_ascii_alphanumeric b ≡ t
+    → cond t (Err (SyntaxAt (suc (length rest)))) (Ok (b ∷ rest)) ≡ Ok behind → (b ∷ rest ≡ behind) × EndsWord behind
 end_by true b rest behind is e = absurd cc
 end_by false b rest behind is e =
     let same : b ∷ rest ≡ behind = ok_is (b ∷ rest) behind e in
@@ -130,7 +131,8 @@ keyword_long keywords.Nack = omega arith
 -- ---- numbers
 
 -- Blanks, and the digits of a number of 64 bits.
-pub number_takes : (bytes : List ℕ) (x : ℕ × List ℕ) → natural_at (after_blanks bytes) ≡ Ok x → (blanks : List ℕ) × AreBlanks blanks × (x.0 < 2 ^ 64) × (bytes ≡ blanks ++ (decimal x.0 ++ x.1))
+pub number_takes : (bytes : List ℕ) (x : ℕ × List ℕ) → natural_at (after_blanks bytes) ≡ Ok x
+    → (blanks : List ℕ) × AreBlanks blanks × (x.0 < 2 ^ 64) × (bytes ≡ blanks ++ (decimal x.0 ++ x.1))
 number_takes bytes x e =
     let b = blanks_take bytes in
     let n = natural_takes (after_blanks bytes) x e in
@@ -141,12 +143,14 @@ number_begins n rest lt =
     let b = natural_begins n lt in
     rw (b.2) (no_blank b.0 (b.1 ++ rest) (beyond_blanks b.0 (omega (arith, b.3))))
 
-pub number_again : (blanks : List ℕ) (n : ℕ) (rest : List ℕ) → AreBlanks blanks → n < 2 ^ 64 → EndsWord rest → natural_at (after_blanks (blanks ++ (decimal n ++ rest))) ≡ Ok (n, rest)
+pub number_again : (blanks : List ℕ) (n : ℕ) (rest : List ℕ) → AreBlanks blanks → n < 2 ^ 64
+    → EndsWord rest → natural_at (after_blanks (blanks ++ (decimal n ++ rest))) ≡ Ok (n, rest)
 number_again blanks n rest spaces lt ends =
     let inner : after_blanks (blanks ++ (decimal n ++ rest)) ≡ decimal n ++ rest = blanks_again blanks (decimal n ++ rest) spaces ∙ number_begins n rest lt in
     rw inner (natural_again n rest lt (ends_numeral rest ends))
 
-pub label_takes : (bytes : List ℕ) (x : ℕ × List ℕ) → label_at bytes ≡ Ok x → (blanks : List ℕ) × AreBlanks blanks × (x.0 < 2 ^ 64) × EndsWord x.1 × (bytes ≡ blanks ++ (decimal x.0 ++ x.1))
+pub label_takes : (bytes : List ℕ) (x : ℕ × List ℕ) → label_at bytes ≡ Ok x
+    → (blanks : List ℕ) × AreBlanks blanks × (x.0 < 2 ^ 64) × EndsWord x.1 × (bytes ≡ blanks ++ (decimal x.0 ++ x.1))
 unfolding label_at
 label_takes bytes x e =
     let n = bind_ok (natural_at (after_blanks bytes)) (λ number. word_end number.1 >>= λ behind. Ok (number.0, behind)) x e in
@@ -154,10 +158,12 @@ label_takes bytes x e =
     let end = end_takes n.0.1 b.0 b.1 in
     let t = number_takes bytes n.0 n.1 in
     let found : ℕ × List ℕ = (n.0.0, b.0) in
-    subst (λ (y : ℕ × List ℕ). (blanks : List ℕ) × AreBlanks blanks × (y.0 < 2 ^ 64) × EndsWord y.1 × (bytes ≡ blanks ++ (decimal y.0 ++ y.1))) {x = found} (ok_is found x b.2)
+    subst (λ (y : ℕ × List ℕ). (blanks : List ℕ) × AreBlanks blanks × (y.0 < 2 ^ 64) × EndsWord y.1
+    × (bytes ≡ blanks ++ (decimal y.0 ++ y.1))) {x = found} (ok_is found x b.2)
     (t.0, t.1, t.2, end.1, t.3 ∙ ap (λ (w : List ℕ). t.0 ++ (decimal n.0.0 ++ w)) end.0)
 
-pub label_again : (blanks : List ℕ) (n : ℕ) (rest : List ℕ) → AreBlanks blanks → n < 2 ^ 64 → EndsWord rest → label_at (blanks ++ (decimal n ++ rest)) ≡ Ok (n, rest)
+pub label_again : (blanks : List ℕ) (n : ℕ) (rest : List ℕ) → AreBlanks blanks → n < 2 ^ 64 → EndsWord rest
+    → label_at (blanks ++ (decimal n ++ rest)) ≡ Ok (n, rest)
 unfolding label_at
 label_again blanks n rest spaces lt ends = rw (number_again blanks n rest spaces lt ends, end_again rest ends) refl
 
@@ -182,7 +188,8 @@ unfolding mark_at
 mark_front [] x e = absurd cc
 mark_front (b ∷ rest) x e = mark_by (b == COMMA) (b == CLOSING_BRACKET) b rest x refl refl e
 
-pub mark_takes : (bytes : List ℕ) (x : Bool × List ℕ) → mark_at (after_blanks bytes) ≡ Ok x → (blanks : List ℕ) × AreBlanks blanks × (bytes ≡ blanks ++ mark_of x.0 ∷ x.1)
+pub mark_takes : (bytes : List ℕ) (x : Bool × List ℕ) → mark_at (after_blanks bytes) ≡ Ok x
+    → (blanks : List ℕ) × AreBlanks blanks × (bytes ≡ blanks ++ mark_of x.0 ∷ x.1)
 mark_takes bytes x e =
     let b = blanks_take bytes in
     (b.0, b.1, b.2 ∙ ap (λ (t : List ℕ). b.0 ++ t) (mark_front (after_blanks bytes) x e))
@@ -208,7 +215,8 @@ inside_is : (bytes : List ℕ) → bytes ≡ opened (inside bytes)
 inside_is [] = refl
 inside_is (b ∷ rest) = inside_by (b == CLOSING_BRACKET) b rest refl
 
-pub open_takes : (bytes : List ℕ) (x : Bool × List ℕ) → open_at bytes ≡ Ok x → (before between : List ℕ) × AreBlanks before × AreBlanks between × (bytes ≡ before ++ OPENING_BRACKET ∷ (between ++ opened x))
+pub open_takes : (bytes : List ℕ) (x : Bool × List ℕ) → open_at bytes ≡ Ok x
+    → (before between : List ℕ) × AreBlanks before × AreBlanks between × (bytes ≡ before ++ OPENING_BRACKET ∷ (between ++ opened x))
 unfolding open_at
 open_takes bytes x e =
     let w = bind_ok (word_at (OPENING_BRACKET ∷ []) (after_blanks bytes)) (λ rest. Ok (inside (after_blanks rest))) x e in
@@ -216,11 +224,14 @@ open_takes bytes x e =
     let c = blanks_take w.0 in
     let found : Bool × List ℕ = inside (after_blanks w.0) in
     let inner : w.0 ≡ c.0 ++ opened found = c.2 ∙ ap (λ (t : List ℕ). c.0 ++ t) (inside_is (after_blanks w.0)) in
-    let word : after_blanks bytes ≡ OPENING_BRACKET ∷ (c.0 ++ opened found) = word_takes (OPENING_BRACKET ∷ []) (after_blanks bytes) w.0 w.1 ∙ ap (λ (t : List ℕ). OPENING_BRACKET ∷ t) inner in
-    subst (λ (y : Bool × List ℕ). (before between : List ℕ) × AreBlanks before × AreBlanks between × (bytes ≡ before ++ OPENING_BRACKET ∷ (between ++ opened y))) {x = found} (ok_is found x w.2)
+    let word : after_blanks bytes ≡ OPENING_BRACKET ∷ (c.0 ++ opened found) =
+    word_takes (OPENING_BRACKET ∷ []) (after_blanks bytes) w.0 w.1 ∙ ap (λ (t : List ℕ). OPENING_BRACKET ∷ t) inner in
+    subst (λ (y : Bool × List ℕ). (before between : List ℕ) × AreBlanks before × AreBlanks between
+    × (bytes ≡ before ++ OPENING_BRACKET ∷ (between ++ opened y))) {x = found} (ok_is found x w.2)
     (b.0, c.0, b.1, c.1, b.2 ∙ ap (λ (t : List ℕ). b.0 ++ t) word)
 
-pub open_again : (before between rest : List ℕ) → AreBlanks before → AreBlanks between → after_blanks rest ≡ rest → open_at (before ++ OPENING_BRACKET ∷ (between ++ rest)) ≡ Ok (inside rest)
+pub open_again : (before between rest : List ℕ) → AreBlanks before → AreBlanks between → after_blanks rest ≡ rest
+    → open_at (before ++ OPENING_BRACKET ∷ (between ++ rest)) ≡ Ok (inside rest)
 unfolding open_at after_blanks word_at
 open_again before between rest spaces more begins =
     let inner : after_blanks (between ++ rest) ≡ rest = blanks_again between rest more ∙ begins in

@@ -29,19 +29,50 @@ base_written never = refl
 mutual
   event_written : (t : Tree) → IsEventText t (written_event t)
   event_written (leaf kind) = base_written kind
-  event_written (choose members) = (SPACE ∷ [], OPENING_BRACKET ∷ (written_members true members ++ CLOSING_BRACKET ∷ []), (refl, tt), refl, list_written members, refl)
-  event_written (wrap n t) = (SPACE ∷ [], decimal n ++ SPACE ∷ written_event t, (refl, tt), refl, (SPACE ∷ [], written_event t, (refl, tt), refl, event_written t, refl), refl)
-  event_written (nack n t) = (SPACE ∷ [], decimal n ++ SPACE ∷ written_event t, (refl, tt), refl, (SPACE ∷ [], written_event t, (refl, tt), refl, event_written t, refl), refl)
+  event_written (choose members) =
+      (SPACE ∷ [], OPENING_BRACKET ∷ (written_members true members ++ CLOSING_BRACKET ∷ []), (refl, tt), refl, list_written members, refl)
+  event_written (wrap n t) = (
+    SPACE ∷ [],
+    decimal n ++ SPACE ∷ written_event t,
+    (refl, tt),
+    refl,
+    (SPACE ∷ [], written_event t, (refl, tt), refl, event_written t, refl),
+    refl,
+  )
+  event_written (nack n t) = (
+    SPACE ∷ [],
+    decimal n ++ SPACE ∷ written_event t,
+    (refl, tt),
+    refl,
+    (SPACE ∷ [], written_event t, (refl, tt), refl, event_written t, refl),
+    refl,
+  )
 
   list_written : (ts : Trees) → IsListText ts (OPENING_BRACKET ∷ (written_members true ts ++ CLOSING_BRACKET ∷ []))
   list_written no_trees = ([], tt, refl)
-  list_written (and_tree t ts) =
-      ([], written_event t, written_members false ts ++ CLOSING_BRACKET ∷ [], tt, event_written t, more_written ts, ap (λ (w : List ℕ). OPENING_BRACKET ∷ w) (append_assoc (written_event t) (written_members false ts) (CLOSING_BRACKET ∷ [])))
+  list_written (and_tree t ts) = (
+    [],
+    written_event t,
+    written_members false ts ++ CLOSING_BRACKET ∷ [],
+    tt,
+    event_written t,
+    more_written ts,
+    ap (λ (w : List ℕ). OPENING_BRACKET ∷ w) (append_assoc (written_event t) (written_members false ts) (CLOSING_BRACKET ∷ [])),
+  )
 
   more_written : (ts : Trees) → AreMore ts (written_members false ts ++ CLOSING_BRACKET ∷ [])
   more_written no_trees = ([], tt, refl)
-  more_written (and_tree t ts) =
-      ([], SPACE ∷ [], written_event t, written_members false ts ++ CLOSING_BRACKET ∷ [], tt, (refl, tt), event_written t, more_written ts, ap (λ (w : List ℕ). COMMA ∷ SPACE ∷ w) (append_assoc (written_event t) (written_members false ts) (CLOSING_BRACKET ∷ [])))
+  more_written (and_tree t ts) = (
+    [],
+    SPACE ∷ [],
+    written_event t,
+    written_members false ts ++ CLOSING_BRACKET ∷ [],
+    tt,
+    (refl, tt),
+    event_written t,
+    more_written ts,
+    ap (λ (w : List ℕ). COMMA ∷ SPACE ∷ w) (append_assoc (written_event t) (written_members false ts) (CLOSING_BRACKET ∷ [])),
+  )
 
 pub event_alone : (t : Tree) → IsAlone IsEventText t (written_event t)
 event_alone t = ([], tt, ([], written_event t, tt, event_written t, sym (append-nil (written_event t))))

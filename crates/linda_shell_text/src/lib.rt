@@ -3,8 +3,9 @@
 //!
 //! `read_event` reads the text of an event and `write_event` writes one: `specs/EventTexts` is the
 //! grammar, and `laws` says that what is written is read again, as only that event. `read_request`
-//! reads a line, which tests show. `write_outcome`, `write_refusal` and `write_fault` give the lines
-//! of `specs/OutcomeLines`, and `write_message` and `write_reply` the words of `specs/MessageWords`.
+//! reads a line, which tests show. `write_outcome`, `write_refusal` and `write_fault` give the
+//! lines of `specs/OutcomeLines`, and `write_message` and `write_reply` the words of
+//! `specs/MessageWords`.
 #![tactic(auto)]
 
 mod event;

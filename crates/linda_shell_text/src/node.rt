@@ -1,6 +1,6 @@
 //! Events at the front of bytes, node by node.
 
-ghost use Rattle.std.specs.Prelude.{◌≡◌, map};
+ghost use Rattle.std.specs.Prelude.{map};
 ghost use Rattle.linda_event.specs.Trees.{alarm, always, choose, input, leaf, members_of, nack};
 ghost use Rattle.linda_event.specs.Trees.{read, tree_of, wrap};
 ghost use Rattle.linda_text.specs.Reading.{after_blanks, made, natural_at, spaced_atom_at};

@@ -1,6 +1,5 @@
 //! Passing over events: what reading leaves and which fault it returns, without taking memory.
 
-ghost use Rattle.std.specs.Prelude.{◌≡◌};
 ghost use Rattle.linda_event.specs.Trees.{nack, wrap};
 ghost use Rattle.linda_text.specs.Reading.{after_blanks, natural_at, spaced_atom_at, template_at};
 ghost use Rattle.linda_codec.specs.Steps.{left_by};

@@ -1,6 +1,5 @@
 //! Tokens between the nodes of an event: ends of words, labels, commas and brackets.
 
-ghost use Rattle.std.specs.Prelude.{◌≡◌};
 ghost use Rattle.linda_text.specs.Steps.{GivesAlways};
 ghost use Rattle.linda_text.specs.Reading.{after_blanks};
 ghost use Rattle.linda_shell_text.specs.Words.{word_end, label_at, open_at, mark_at};

@@ -1,6 +1,5 @@
 //! Words and numbers at the front of a line, and the blanks after them.
 
-ghost use Rattle.std.specs.Prelude.{◌≡◌};
 ghost use Rattle.linda_text.specs.Steps.{GivesAlways};
 ghost use Rattle.linda_shell_text.specs.Words.{behind_word_at, front_number_at, Finds};
 

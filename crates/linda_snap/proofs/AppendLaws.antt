@@ -24,7 +24,8 @@ joined_done st mid new ds (d ∷ es) is first second =
     let step = reached mid (d ∷ []) is_mid one in
     let below = takes_below mid (d ∷ []) is_mid one in
     let proper : IsProper step.new es =
-    λ before other later at split after. second.proper (d ∷ before) other later at (ap (λ l. d ∷ l) split) (joined_after mid step.new at (d ∷ []) before step.after after below)
+    λ before other later at split after. second.proper (d ∷ before) other later at (ap (λ l. d ∷ l) split)
+    (joined_after mid step.new at (d ∷ []) before step.after after below)
     in
     let last = reached step.new es step.state proper in
     let same : last.new ≡ new = one_after mid (d ∷ es) last.new new (joined_after mid step.new last.new (d ∷ []) es step.after last.after below) second.after in
@@ -35,15 +36,26 @@ joined_done st mid new ds (d ∷ es) is first second =
 deeds_more : (records : List (List Deed)) (ds : List Deed) → deeds_in records ++ ds ≡ deeds_in (records ++ ds ∷ [])
 deeds_more records ds = flat_map_more (λ (l : List Deed). l) [] records ds
 
-more_from : (opening st new : State) (records : List (List Deed)) (ds : List Deed) → IsState opening → AreDone opening (deeds_in records) st → AreDone st ds new → AreDone opening (deeds_in (records ++ ds ∷ [])) new
+more_from : (opening st new : State) (records : List (List Deed)) (ds : List Deed) → IsState opening
+    → AreDone opening (deeds_in records) st → AreDone st ds new → AreDone opening (deeds_in (records ++ ds ∷ [])) new
 more_from opening st new records ds ranges first second =
     subst (λ l. AreDone opening l new) (deeds_more records ds) (joined_done opening st new (deeds_in records) ds ranges first second)
 
 -- What an append leaves of the bank in use stands for the old state, or for the new one.
-pub stands_with : (file other : List ℕ) (st new : State) (ds : List Deed) (used : IsInUse file other st) → AreDone st ds new → (image : List ℕ) → IsOldOrMore used.stands.form used.generation (spell_state used.stands.form used.stands.opening) used.stands.records ds image → IsInUse image other st ⊎ IsInUse image other new
+pub stands_with : (file other : List ℕ) (st new : State) (ds : List Deed) (used : IsInUse file other st) → AreDone st ds new → (image : List ℕ)
+    → IsOldOrMore used.stands.form used.generation (spell_state used.stands.form used.stands.opening) used.stands.records ds image
+    → IsInUse image other st ⊎ IsInUse image other new
 stands_with file other st new ds used done image (inl bank) = inl record {
   generation = used.generation;
-  stands = record { form = used.stands.form; opening = used.stands.opening; ranges = used.stands.ranges; fits = used.stands.fits; records = used.stands.records; bank = bank; done = used.stands.done };
+  stands = record {
+    form = used.stands.form;
+    opening = used.stands.opening;
+    ranges = used.stands.ranges;
+    fits = used.stands.fits;
+    records = used.stands.records;
+    bank = bank;
+    done = used.stands.done;
+  };
   lesser = used.lesser;
 }
 stands_with file other st new ds used done image (inr bank) = inr record {
@@ -61,7 +73,9 @@ stands_with file other st new ds used done image (inr bank) = inr record {
 }
 
 -- And once it is done, it is up for the new one.
-pub up_with : (form : Form) (generation end new_end : ℕ) (used other v : View) (st new : State) (ds : List Deed) (up : IsUp form generation end used other st) → AreDone st ds new → IsSettled form generation (spell_state form up.stored.opening) (up.stored.records ++ ds ∷ []) new_end v → IsUp form generation new_end v other new
+pub up_with : (form : Form) (generation end new_end : ℕ) (used other v : View) (st new : State) (ds : List Deed)
+    (up : IsUp form generation end used other st) → AreDone st ds new
+    → IsSettled form generation (spell_state form up.stored.opening) (up.stored.records ++ ds ∷ []) new_end v → IsUp form generation new_end v other new
 up_with form generation end new_end used other v st new ds up done settled = record {
   stored = record {
     opening = up.stored.opening;

@@ -1,15 +1,17 @@
 -- How the bytes of a book change with an entry, and what a copy of it keeps while it is made.
-use Rattle.std.proofs.Common.{◌≡◌, ◌≢◌, ℕ, suc, ◌+◌, ◌<◌, ◌≤◌, ◌||◌, nat_lt, Bool, true, false, cond, List, [], ◌∷◌, length, Option, None, Some, refl, sym, ap, subst, ◌∙◌, length-append, inl, inr, ne_eqb, nat_cmp, arith}
+use Rattle.std.proofs.Common.{◌≡◌, ◌≢◌, ℕ, suc, ◌+◌, ◌<◌, ◌≤◌, ◌||◌, nat_lt, Bool, true, false, cond, List, [], ◌∷◌}
+use Rattle.std.proofs.Common.{length, Option, None, Some, refl, sym, ap, subst, ◌∙◌, length-append, inl, inr, ne_eqb}
+use Rattle.std.proofs.Common.{nat_cmp, arith}
 use Rattle.std.specs.Prelude.{OnSome}
 use Rattle.std.specs.Option.{option_map, unwrap_or}
 use Rattle.std.specs.Map.{values_of}
 use Rattle.std.specs.List.{flat_map, sum_by}
-use Rattle.std.specs.FinMap.{FinMap, get, insert, empty, entries, len-entries, len-empty}
+use Rattle.std.specs.FinMap.{get, insert, empty, entries, len-entries, len-empty}
 use Rattle.std.proofs.lemmas.Bool.{cases_eq, cases_lt, le-ltb, lt-ltb}
 use Rattle.std.proofs.lemmas.List.{nil_from_length}
 use Rattle.std.proofs.lemmas.List.Sums.{sum_by-cons}
-use Rattle.linda_maps.proofs.MapLaws.{get_same, get_other, get_empty, same_map}
-use Rattle.linda_maps.proofs.SumLaws.{sum_inserted}
+use Rattle.linda_map_laws.proofs.MapLaws.{get_same, get_other, get_empty, same_map}
+use Rattle.linda_map_laws.proofs.SumLaws.{sum_inserted}
 use Rattle.linda_book.specs.Entries.{Entry}
 use Rattle.linda_codec.specs.Formats.{number}
 use Rattle.linda_store_state.specs.declared.deed.Deed.{Deed}
@@ -51,7 +53,8 @@ put_bytes m k v =
 
 -- No clients have no bytes.
 pub no_bytes : clients_bytes empty ≡ 0
-no_bytes = ap (λ (es : List (ℕ × Entry)). length (flat_map (kept written).spell es)) (nil_from_length (entries (empty {X = Entry} {R = nat_cmp})) (sym (len-entries empty) ∙ len-empty nat_cmp Entry))
+no_bytes = ap (λ (es : List (ℕ × Entry)). length (flat_map (kept written).spell es))
+    (nil_from_length (entries (empty {X = Entry} {R = nat_cmp})) (sym (len-entries empty) ∙ len-empty nat_cmp Entry))
 
 -- ---- the copy goes on
 
@@ -63,7 +66,8 @@ pub none_yet : (mine book : Clients) → mine ≡ empty → Has mine None false 
 none_yet mine book is c = ap (λ m. get m c) is ∙ get_empty c ∙ sym (ap (λ b. cond b (get book c) None) (le-ltb c 0 (omega arith)))
 
 -- The first client behind those that are copied is copied too.
-pub one_more : (old now book : Clients) (last : Option ℕ) (key : ℕ) (e : Entry) → Has old last false book → get book key ≡ Some e → first_after last ≤ key → ((c : ℕ) → first_after last ≤ c → c < key → get book c ≡ None) → now ≡ insert old key e → Has now (Some key) false book
+pub one_more : (old now book : Clients) (last : Option ℕ) (key : ℕ) (e : Entry) → Has old last false book → get book key ≡ Some e
+    → first_after last ≤ key → ((c : ℕ) → first_after last ≤ c → c < key → get book c ≡ None) → now ≡ insert old key e → Has now (Some key) false book
 one_more old now book last key e so_far there le least is c = ap (λ m. get m c) is ∙ by
   where
     was : (q : ℕ) → q < first_after last → get old q ≡ get book q
@@ -83,7 +87,8 @@ one_more old now book last key e so_far there le least is c = ap (λ m. get m c)
             | inr more ↦ was_none c more ∙ sym (least c more lt)
           ]) ∙ sym (inside c (omega (arith, lt)))
           | inr ge ↦ elim (cases_lt key c) [
-            | inl lt ↦ get_other old key e c (λ same. omega (arith, same, lt)) ∙ was_none c (omega (arith, lt, le)) ∙ sym (ap (λ b. cond b (get book c) None) (le-ltb c (suc key) (omega (arith, lt))))
+            | inl lt ↦ get_other old key e c (λ same. omega (arith, same, lt)) ∙ was_none c (omega (arith, lt, le))
+                ∙ sym (ap (λ b. cond b (get book c) None) (le-ltb c (suc key) (omega (arith, lt))))
             | inr upto ↦
                 let same : key ≡ c = omega (arith, upto, ge) in
                 subst (λ k. get (insert old key e) k ≡ get book k) same (get_same old key e ∙ sym there) ∙ sym (inside c (omega (arith, upto)))
@@ -91,7 +96,8 @@ one_more old now book last key e so_far there le least is c = ap (λ m. get m c)
         ]
 
 -- If there is none, all are copied.
-pub no_more : (mine book : Clients) (last : Option ℕ) → Has mine last false book → ((c : ℕ) → first_after last ≤ c → get book c ≡ None) → Has mine last true book
+pub no_more : (mine book : Clients) (last : Option ℕ) → Has mine last false book
+    → ((c : ℕ) → first_after last ≤ c → get book c ≡ None) → Has mine last true book
 no_more mine book last so_far none c =
     so_far c ∙ (elim (cases_lt c (first_after last)) [
       | inl lt ↦ ap (λ b. cond b (get book c) None) (lt-ltb c (first_after last) lt)
@@ -115,7 +121,8 @@ pub record CopiesBut (copy : BookCopy) (ds : List Deed) (book : Clients) : Type 
 others_stay : (old new : State) (ds : List Deed) (c : ℕ) → IsState old → GoesOn old ds new → last_of c ds ≡ None → get new.book c ≡ get old.book c
 others_stay old new ds c ranges goes none = (goes old [] ranges (none_done old ranges)).after.book c ∙ ap (entry_after old c) none
 
-pub copies_but : (copy : BookCopy) (ds : List Deed) (old new : State) (book : Clients) → IsState old → GoesOn old ds new → new.book ≡ book → Copies copy old.book → CopiesBut copy ds book
+pub copies_but : (copy : BookCopy) (ds : List Deed) (old new : State) (book : Clients) → IsState old
+    → GoesOn old ds new → new.book ≡ book → Copies copy old.book → CopiesBut copy ds book
 copies_but copy ds old new book ranges goes is copies = record {
   same = λ c within none. copies c ∙ ap (λ b. cond b (get old.book c) None) within ∙ sym (others_stay old new ds c ranges goes none) ∙ ap (λ m. get m c) is;
   none = λ c beyond. copies c ∙ ap (λ b. cond b (get old.book c) None) beyond;
@@ -142,7 +149,8 @@ first_again old new d ds book client is but here none others last whole = record
         elim (cases_eq c client) [
           | inl e ↦ subst (λ k. get new.book k ≡ get book k) (sym e) (here (ap (reaches new) (sym e) ∙ within))
           | inr apart ↦
-              let first : last_of c (d ∷ ds) ≡ None = ap (last_with c d) later ∙ ap (λ b. cond b (Some ([], d)) None) (ne_eqb (client_of d) c (λ e. apart (sym (is ∙ e)))) in
+              let first : last_of c (d ∷ ds) ≡ None = ap (last_with c d) later
+              ∙ ap (λ b. cond b (Some ([], d)) None) (ne_eqb (client_of d) c (λ e. apart (sym (is ∙ e)))) in
               others c apart ∙ but.same c (sym (alike c) ∙ within) first
         ]
 

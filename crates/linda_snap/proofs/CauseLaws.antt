@@ -15,7 +15,8 @@ use Rattle.linda_snap.specs.Switch.{fault_of_disk}
 use Rattle.linda_snap.specs.Choice.{fault_of_device, fault_on, IsUnrecovered}
 
 -- A device's fault, returned as what it is, tells of the count.
-pub device_told : {T : Type 0} (fault : DiskFault) (old new : ℕ) → CountsFailure {T = T} (Err fault) old new → TellsFailures choices.Disk (fault_of_device fault) old new
+pub device_told : {T : Type 0} (fault : DiskFault) (old new : ℕ) → CountsFailure {T = T} (Err fault) old new
+    → TellsFailures choices.Disk (fault_of_device fault) old new
 device_told Device old new counts = record {
   cause = λ _. let up = counts.device refl in omega (arith, up);
   others = λ not. absurd (not refl);
@@ -27,13 +28,15 @@ pub none_told : {F : Type 0} (device told : F) (old new : ℕ) → told ≢ devi
 none_told device told old new not same = record { cause = λ is. absurd (not is); others = λ _. same }
 
 -- What one disk's fault tells is told of two, where the other one's count stayed.
-pub left_told : {F : Type 0} (device told : F) (left left_new right right_new : ℕ) → TellsFailures device told left left_new → right_new ≡ right → TellsFailuresOfTwo device told left right left_new right_new
+pub left_told : {F : Type 0} (device told : F) (left left_new right right_new : ℕ)
+    → TellsFailures device told left left_new → right_new ≡ right → TellsFailuresOfTwo device told left right left_new right_new
 left_told device told left left_new right right_new tells other = record {
   cause = λ is. inl (tells.cause is);
   others = λ not. (tells.others not, other);
 }
 
-pub right_told : {F : Type 0} (device told : F) (left left_new right right_new : ℕ) → left_new ≡ left → TellsFailures device told right right_new → TellsFailuresOfTwo device told left right left_new right_new
+pub right_told : {F : Type 0} (device told : F) (left left_new right right_new : ℕ) → left_new ≡ left
+    → TellsFailures device told right right_new → TellsFailuresOfTwo device told left right left_new right_new
 right_told device told left left_new right right_new other tells = record {
   cause = λ is. inr (tells.cause is);
   others = λ not. (other, tells.others not);
@@ -49,7 +52,8 @@ side_failed right banks.Disk told same = ((λ is. refl), (λ is. same))
 side_failed right banks.Memory told same = ((λ is. cc), (λ is. cc))
 
 -- What is not recovered from a body and records is no fault of the device.
-pub unrecovered_fails_none : (form : Form) (body : List ℕ) (records : List Record) (fault : BankFault) → IsUnrecovered form body records fault → fault ≢ banks.Disk
+pub unrecovered_fails_none : (form : Form) (body : List ℕ) (records : List Record) (fault : BankFault)
+    → IsUnrecovered form body records fault → fault ≢ banks.Disk
 unrecovered_fails_none form body records fault is same = subst (IsUnrecovered form body records) same is
 
 -- The fault of a switch is the device's exactly where the disk's is; and it is none of a bank that is full, or has no next one.

@@ -1,5 +1,6 @@
 -- Which of two banks is chosen, and that bytes are one choice.
-use Rattle.std.proofs.Common.{◌≡◌, ◌≢◌, ℕ, ◌<◌, ◌≤◌, ◌⊎◌, inl, inr, Bool, true, false, ltb, cond, List, ◌++◌, Result, Ok, Err, length, take, drop, refl, sym, ap, subst, ◌∙◌, eq-eqb, ne_eqb, arith}
+use Rattle.std.proofs.Common.{◌≡◌, ◌≢◌, ℕ, ◌<◌, ◌≤◌, ◌⊎◌, inl, inr, Bool, true, false, ltb, cond, List, ◌++◌, Result}
+use Rattle.std.proofs.Common.{Ok, Err, length, take, drop, refl, sym, ap, subst, ◌∙◌, eq-eqb, ne_eqb, arith}
 use Rattle.std.proofs.lemmas.Bool.{cases_lt, lt-ltb, le-ltb}
 use Rattle.std.proofs.lemmas.List.{take-append-drop, length-take, length-map}
 use Rattle.linda_tuple.specs.declared.form.Form.{Form}
@@ -30,7 +31,8 @@ use Rattle.linda_snap.specs.declared.choice.ChoiceFault.TheVariants.{NoStore, Da
 use Rattle.linda_snap.specs.Snapshot.{spell_state, IsSnapshot}
 use Rattle.linda_snap.specs.Replay.{joined, IsReplayFault}
 use Rattle.linda_snap.specs.Stands.{deeds_in, StandsOn, IsLesser, IsInUse, Stands, IsStored, IsCounted, IsUp}
-use Rattle.linda_snap.specs.Choice.{choice, IsChoice, IsRecovered, IsUnrecovered, IsFaultOfFile, IsFaultOfBoth, LeavesNothingNew, chosen, fault_on, fault_of_replay}
+use Rattle.linda_snap.specs.Choice.{choice, IsChoice, IsRecovered, IsUnrecovered, IsFaultOfFile, IsFaultOfBoth}
+use Rattle.linda_snap.specs.Choice.{LeavesNothingNew, chosen, fault_on, fault_of_replay}
 use Rattle.linda_snap.proofs.SnapshotLaws.{one_snapshot}
 use Rattle.linda_snap.proofs.ReplayLaws.{none_improper}
 use Rattle.linda_snap.proofs.StandsLaws.{heading_of, stands_on}
@@ -49,11 +51,13 @@ heading_of_front file (Bank form generation) long is =
 
 -- ---- one bank
 
-pub unrecovered : (form : Form) (body : List ℕ) (records : List Record) (opening : State) (fault : ReplayFault) → IsSnapshot form body opening → IsReplayFault opening records fault → IsUnrecovered form body records (fault_of_replay fault)
+pub unrecovered : (form : Form) (body : List ℕ) (records : List Record) (opening : State) (fault : ReplayFault)
+    → IsSnapshot form body opening → IsReplayFault opening records fault → IsUnrecovered form body records (fault_of_replay fault)
 unrecovered form body records opening replays.Memory snapshot told = tt
 unrecovered form body records opening (replays.Improper gate) snapshot told = inr (opening, snapshot, told)
 
-pub stored_there : (form : Form) (generation end : ℕ) (body : List ℕ) (records : List Record) (v : View) (st : State) → IsSettled form generation body (deeds_of records) end v → IsRecovered form body records st → IsStored form generation end v st
+pub stored_there : (form : Form) (generation end : ℕ) (body : List ℕ) (records : List Record) (v : View) (st : State)
+    → IsSettled form generation body (deeds_of records) end v → IsRecovered form body records st → IsStored form generation end v st
 stored_there form generation end body records v st settled recovered = record {
   opening = recovered.opening;
   ranges = recovered.snapshot.ranges;
@@ -64,16 +68,21 @@ stored_there form generation end body records v st settled recovered = record {
 }
 
 -- It counts the records that were read.
-pub counted_there : (form : Form) (generation end : ℕ) (body : List ℕ) (records : List Record) (count : ℕ) (v : View) (st : State) → IsSettled form generation body (deeds_of records) end v → IsRecovered form body records st → count ≡ length records → IsCounted form generation end count v st
+pub counted_there : (form : Form) (generation end : ℕ) (body : List ℕ) (records : List Record) (count : ℕ) (v : View) (st : State)
+    → IsSettled form generation body (deeds_of records) end v → IsRecovered form body records st
+    → count ≡ length records → IsCounted form generation end count v st
 unfolding stored_there
 counted_there form generation end body records count v st settled recovered is = record {
   stored = stored_there form generation end body records v st settled recovered;
   count_is = is ∙ sym (length-map records (λ (r : Record). r.deeds.items));
 }
 
-pub fault_there : (form : Form) (file : List ℕ) (generation : ℕ) (body : List ℕ) (records : List Record) (fault : BankFault) → IsBank form file generation body (deeds_of records) → IsUnrecovered form body records fault → IsFaultOfFile file fault
-fault_there form file generation body records (banks.Damaged offset) bank (inl none) = inr (inl (record { form = form; generation = generation; body = body; records = records; bank = bank; none = none.0 }, none.1))
-fault_there form file generation body records (banks.Damaged offset) bank (inr one) = inr (inr record { form = form; generation = generation; body = body; opening = one.0; records = records; bank = bank; snapshot = one.1; improper = one.2 })
+pub fault_there : (form : Form) (file : List ℕ) (generation : ℕ) (body : List ℕ) (records : List Record) (fault : BankFault)
+    → IsBank form file generation body (deeds_of records) → IsUnrecovered form body records fault → IsFaultOfFile file fault
+fault_there form file generation body records (banks.Damaged offset) bank (inl none) =
+    inr (inl (record { form = form; generation = generation; body = body; records = records; bank = bank; none = none.0 }, none.1))
+fault_there form file generation body records (banks.Damaged offset) bank (inr one) =
+    inr (inr record { form = form; generation = generation; body = body; opening = one.0; records = records; bank = bank; snapshot = one.1; improper = one.2 })
 fault_there form file generation body records banks.NoBank bank told = absurd told
 fault_there form file generation body records banks.Memory bank told = tt
 fault_there form file generation body records banks.Spent bank told = told
@@ -89,7 +98,8 @@ fault_of_bank file banks.Spent told = told
 fault_of_bank file banks.Full told = told
 fault_of_bank file banks.Disk told = told
 
-same_body : (file : List ℕ) (f k : Form) (g h : ℕ) (b c : List ℕ) (rs qs : List (List Deed)) → IsBank f file g b rs → IsBank k file h c qs → (f ≡ k) × (b ≡ c) × (rs ≡ qs)
+same_body : (file : List ℕ) (f k : Form) (g h : ℕ) (b c : List ℕ) (rs qs : List (List Deed))
+    → IsBank f file g b rs → IsBank k file h c qs → (f ≡ k) × (b ≡ c) × (rs ≡ qs)
 same_body file f k g h b c rs qs one two = let same = one_bank file f k g h b c rs qs one two in (same.0, same.2, same.3)
 
 snapshot_of : (file : List ℕ) (generation : ℕ) (st : State) (on : StandsOn file generation st) → IsSnapshot on.form (spell_state on.form on.opening) on.opening
@@ -103,9 +113,11 @@ same_opening f k body other a b form same one two =
 -- A bank stands for one state.
 one_state : (file : List ℕ) (g h : ℕ) (a b : State) → StandsOn file g a → StandsOn file h b → a ≡ b
 one_state file g h a b one two =
-    let same = same_body file one.form two.form g h (spell_state one.form one.opening) (spell_state two.form two.opening) one.records two.records one.bank two.bank in
+    let same = same_body file one.form two.form g h (spell_state one.form one.opening)
+    (spell_state two.form two.opening) one.records two.records one.bank two.bank in
     let opening : one.opening ≡ two.opening =
-    same_opening one.form two.form (spell_state one.form one.opening) (spell_state two.form two.opening) one.opening two.opening same.0 same.1 (snapshot_of file g a one) (snapshot_of file h b two) in
+    same_opening one.form two.form (spell_state one.form one.opening) (spell_state two.form two.opening)
+    one.opening two.opening same.0 same.1 (snapshot_of file g a one) (snapshot_of file h b two) in
     let after = subst (λ (st : State). IsAfter st (deeds_in two.records) a) opening (subst (λ rs. IsAfter one.opening (deeds_in rs) a) same.2 one.done.after) in
     one_after two.opening (deeds_in two.records) a b after two.done.after
 
@@ -119,12 +131,18 @@ never_fault file generation st offset on (inl told) =
     by (inr e) = absurd cc
 never_fault file generation st offset on (inr (inl none)) =
     let has = none.0 in
-    let same = same_body file on.form has.form generation has.generation (spell_state on.form on.opening) has.body on.records (deeds_of has.records) on.bank has.bank in
-    has.none on.opening (subst (λ l. IsSnapshot has.form l on.opening) same.1 (subst (λ x. IsSnapshot x (spell_state on.form on.opening) on.opening) same.0 (snapshot_of file generation st on)))
+    let same = same_body file on.form has.form generation has.generation (spell_state on.form on.opening) has.body on.records
+    (deeds_of has.records) on.bank has.bank in
+    has.none on.opening (subst (λ l. IsSnapshot has.form l on.opening) same.1
+    (subst (λ x. IsSnapshot x (spell_state on.form on.opening) on.opening) same.0 (snapshot_of file generation st on)))
 never_fault file generation st offset on (inr (inr has)) =
-    let same = same_body file on.form has.form generation has.generation (spell_state on.form on.opening) has.body on.records (deeds_of has.records) on.bank has.bank in
-    let opening : on.opening ≡ has.opening = same_opening on.form has.form (spell_state on.form on.opening) has.body on.opening has.opening same.0 same.1 (snapshot_of file generation st on) has.snapshot in
-    none_improper has.opening has.records offset has.improper (subst (λ (s : State). IsProper s (joined has.records)) opening (subst (λ rs. IsProper on.opening (deeds_in rs)) same.2 on.done.proper))
+    let same = same_body file on.form has.form generation has.generation (spell_state on.form on.opening) has.body on.records
+    (deeds_of has.records) on.bank has.bank in
+    let opening : on.opening ≡ has.opening =
+    same_opening on.form has.form (spell_state on.form on.opening) has.body on.opening has.opening same.0 same.1
+    (snapshot_of file generation st on) has.snapshot in
+    none_improper has.opening has.records offset has.improper
+    (subst (λ (s : State). IsProper s (joined has.records)) opening (subst (λ rs. IsProper on.opening (deeds_in rs)) same.2 on.done.proper))
 
 -- ---- two banks
 
@@ -170,7 +188,14 @@ on_left left right st used = by used.lesser
 
     by : IsLesser used.generation right → IsChoice left right (Ok false)
     by (inl none) = record { left_heading = Bank used.stands.form used.generation; right_heading = NoBank; left_is = here; right_is = none; told_is = refl }
-    by (inr (form, lesser, is, lt)) = record { left_heading = Bank used.stands.form used.generation; right_heading = Bank form lesser; left_is = here; right_is = is; told_is = greater_left used.stands.form form used.generation lesser lt }
+    by (inr (form, lesser, is, lt)) = record {
+      left_heading = Bank used.stands.form used.generation;
+      right_heading =
+          Bank form lesser;
+      left_is = here;
+      right_is = is;
+      told_is = greater_left used.stands.form form used.generation lesser lt;
+    }
 
 on_right : (left right : List ℕ) (st : State) → IsInUse right left st → IsChoice left right (Ok true)
 on_right left right st used = by used.lesser
@@ -180,7 +205,13 @@ on_right left right st used = by used.lesser
 
     by : IsLesser used.generation left → IsChoice left right (Ok true)
     by (inl none) = record { left_heading = NoBank; right_heading = Bank used.stands.form used.generation; left_is = none; right_is = here; told_is = refl }
-    by (inr (form, lesser, is, lt)) = record { left_heading = Bank form lesser; right_heading = Bank used.stands.form used.generation; left_is = is; right_is = here; told_is = greater_right form used.stands.form lesser used.generation lt }
+    by (inr (form, lesser, is, lt)) = record {
+      left_heading = Bank form lesser;
+      right_heading = Bank used.stands.form used.generation;
+      left_is = is;
+      right_is = here;
+      told_is = greater_right form used.stands.form lesser used.generation lt;
+    }
 
 abbrev on_side : Bool → Result Bool ChoiceFault
 on_side right = Ok right
@@ -192,11 +223,14 @@ sides_differ e = absurd cc
 pub one_stands : (left right : List ℕ) (a b : State) → Stands left right a → Stands left right b → a ≡ b
 one_stands left right a b (inl one) (inl two) = one_state left one.generation two.generation a b one.stands two.stands
 one_stands left right a b (inr one) (inr two) = one_state right one.generation two.generation a b one.stands two.stands
-one_stands left right a b (inl one) (inr two) = absurd (sides_differ (one_choice left right (Ok false) (Ok true) (on_left left right a one) (on_right left right b two)))
-one_stands left right a b (inr one) (inl two) = absurd (sides_differ (one_choice left right (Ok false) (Ok true) (on_left left right b two) (on_right left right a one)))
+one_stands left right a b (inl one) (inr two) =
+    absurd (sides_differ (one_choice left right (Ok false) (Ok true) (on_left left right a one) (on_right left right b two)))
+one_stands left right a b (inr one) (inl two) =
+    absurd (sides_differ (one_choice left right (Ok false) (Ok true) (on_left left right b two) (on_right left right a one)))
 
 -- Two banks that stand have no fault.
-stand_chosen : (left right : List ℕ) (st : State) → Stands left right st → (side : Bool) × (generation : ℕ) × IsChoice left right (Ok side) × StandsOn (chosen side left right) generation st
+stand_chosen : (left right : List ℕ) (st : State) → Stands left right st
+    → (side : Bool) × (generation : ℕ) × IsChoice left right (Ok side) × StandsOn (chosen side left right) generation st
 stand_chosen left right st (inl one) = (false, one.generation, on_left left right st one, one.stands)
 stand_chosen left right st (inr one) = (true, one.generation, on_right left right st one, one.stands)
 
@@ -216,7 +250,8 @@ never_told left right f st stands disk memory (inr is) =
     let on = subst (λ s. StandsOn (chosen s left right) one.1 st) (sym side) one.3 in
     by is.fault is.told_is is.fault_is on
   where
-    by : (fault : BankFault) → f ≡ fault_on is.side fault → IsFaultOfFile (chosen is.side left right) fault → {g : ℕ} → StandsOn (chosen is.side left right) g st → ⊥
+    by : (fault : BankFault) → f ≡ fault_on is.side fault → IsFaultOfFile (chosen is.side left right) fault
+        → {g : ℕ} → StandsOn (chosen is.side left right) g st → ⊥
     by (banks.Damaged offset) told file {g} on = never_fault (chosen is.side left right) g st offset on file
     by banks.NoBank told file {g} on = file (is_candidate on.form (chosen is.side left right) g (spell_state on.form on.opening) on.records on.bank)
     by banks.Memory told file on = memory told
@@ -224,15 +259,19 @@ never_told left right f st stands disk memory (inr is) =
     by banks.Spent told file on = file
     by banks.Full told file on = file
 
-pub only_told : (left right : List ℕ) (f : ChoiceFault) (st : State) → Stands left right st → (f ≢ Disk → f ≢ Memory → IsFaultOfBoth left right f) → (f ≡ Disk) ⊎ (f ≡ Memory)
+pub only_told : (left right : List ℕ) (f : ChoiceFault) (st : State) → Stands left right st
+    → (f ≢ Disk → f ≢ Memory → IsFaultOfBoth left right f) → (f ≡ Disk) ⊎ (f ≡ Memory)
 only_told left right Disk st stands fault = inl refl
 only_told left right Memory st stands fault = inr refl
-only_told left right NoStore st stands fault = absurd (never_told left right NoStore st stands (λ e. absurd cc) (λ e. absurd cc) (fault (λ e. absurd cc) (λ e. absurd cc)))
-only_told left right (Damaged side offset) st stands fault = absurd (never_told left right (Damaged side offset) st stands (λ e. absurd cc) (λ e. absurd cc) (fault (λ e. absurd cc) (λ e. absurd cc)))
+only_told left right NoStore st stands fault =
+    absurd (never_told left right NoStore st stands (λ e. absurd cc) (λ e. absurd cc) (fault (λ e. absurd cc) (λ e. absurd cc)))
+only_told left right (Damaged side offset) st stands fault =
+    absurd (never_told left right (Damaged side offset) st stands (λ e. absurd cc) (λ e. absurd cc) (fault (λ e. absurd cc) (λ e. absurd cc)))
 
 -- ---- what was chosen
 
-chosen_lesser_left : (left right : List ℕ) (generation : ℕ) (st : State) → IsChoice left right (Ok false) → StandsOn left generation st → IsLesser generation right
+chosen_lesser_left : (left right : List ℕ) (generation : ℕ) (st : State) → IsChoice left right (Ok false)
+    → StandsOn left generation st → IsLesser generation right
 chosen_lesser_left left right generation st is on = by is.left_heading is.right_heading is.left_is is.right_is is.told_is
   where
     here : IsHeading left (Bank on.form generation)
@@ -246,7 +285,8 @@ chosen_lesser_left left right generation st is on = by is.left_heading is.right_
             | inl lt ↦ absurd (sides_differ (sym e ∙ greater_right f k a b lt))
             | inr ge ↦
                 let same : a ≡ b = omega (arith, le, ge) in
-                absurd (never_err (Damaged false 5) false (sym (ap (λ t. cond t (Err (Damaged false 5)) (cond (ltb b a) (Ok false) (Ok true))) (eq-eqb a b same)) ∙ e))
+                absurd (never_err (Damaged false 5) false
+                (sym (ap (λ t. cond t (Err (Damaged false 5)) (cond (ltb b a) (Ok false) (Ok true))) (eq-eqb a b same)) ∙ e))
           ]
         ]
 
@@ -265,7 +305,8 @@ chosen_lesser_left left right generation st is on = by is.left_heading is.right_
     by (Bank f a) NoBank one two e = inl two
     by (Bank f a) (Bank k b) one two e = inr (k, b, two, subst (λ n. b < n) (same_generation f a one) (lesser f k a b e))
 
-chosen_lesser_right : (left right : List ℕ) (generation : ℕ) (st : State) → IsChoice left right (Ok true) → StandsOn right generation st → IsLesser generation left
+chosen_lesser_right : (left right : List ℕ) (generation : ℕ) (st : State) → IsChoice left right (Ok true)
+    → StandsOn right generation st → IsLesser generation left
 chosen_lesser_right left right generation st is on = by is.left_heading is.right_heading is.left_is is.right_is is.told_is
   where
     here : IsHeading right (Bank on.form generation)
@@ -279,7 +320,8 @@ chosen_lesser_right left right generation st is on = by is.left_heading is.right
             | inl lt ↦ absurd (sides_differ (sym (greater_left f k a b lt) ∙ e))
             | inr ge ↦
                 let same : a ≡ b = omega (arith, le, ge) in
-                absurd (never_err (Damaged false 5) true (sym (ap (λ t. cond t (Err (Damaged false 5)) (cond (ltb b a) (Ok false) (Ok true))) (eq-eqb a b same)) ∙ e))
+                absurd (never_err (Damaged false 5) true
+                (sym (ap (λ t. cond t (Err (Damaged false 5)) (cond (ltb b a) (Ok false) (Ok true))) (eq-eqb a b same)) ∙ e))
           ]
         ]
 
@@ -299,22 +341,27 @@ chosen_lesser_right left right generation st is on = by is.left_heading is.right
     by (Bank f a) (Bank k b) one two e = inr (f, a, one, subst (λ n. a < n) (same_generation k b two) (lesser f k a b e))
 
 -- What was chosen is up,
-pub up_left : (left right : List ℕ) (form : Form) (generation end : ℕ) (used other : View) (st : State) → IsChoice left right (Ok false) → IsStored form generation end used st → used.seen ≡ left → other.seen ≡ right → IsDurable other → IsUp form generation end used other st
+pub up_left : (left right : List ℕ) (form : Form) (generation end : ℕ) (used other : View) (st : State) → IsChoice left right (Ok false)
+    → IsStored form generation end used st → used.seen ≡ left → other.seen ≡ right → IsDurable other → IsUp form generation end used other st
 up_left left right form generation end used other st is stored here there durable = record {
   stored = stored;
-  lesser = subst (IsLesser generation) (sym there) (chosen_lesser_left left right generation st is (subst (λ l. StandsOn l generation st) here (stands_on form generation end used st stored)));
+  lesser = subst (IsLesser generation) (sym there)
+      (chosen_lesser_left left right generation st is (subst (λ l. StandsOn l generation st) here (stands_on form generation end used st stored)));
   durable = durable;
 }
 
-pub up_right : (left right : List ℕ) (form : Form) (generation end : ℕ) (used other : View) (st : State) → IsChoice left right (Ok true) → IsStored form generation end used st → used.seen ≡ right → other.seen ≡ left → IsDurable other → IsUp form generation end used other st
+pub up_right : (left right : List ℕ) (form : Form) (generation end : ℕ) (used other : View) (st : State) → IsChoice left right (Ok true)
+    → IsStored form generation end used st → used.seen ≡ right → other.seen ≡ left → IsDurable other → IsUp form generation end used other st
 up_right left right form generation end used other st is stored here there durable = record {
   stored = stored;
-  lesser = subst (IsLesser generation) (sym there) (chosen_lesser_right left right generation st is (subst (λ l. StandsOn l generation st) here (stands_on form generation end used st stored)));
+  lesser = subst (IsLesser generation) (sym there)
+      (chosen_lesser_right left right generation st is (subst (λ l. StandsOn l generation st) here (stands_on form generation end used st stored)));
   durable = durable;
 }
 
 -- and stands.
-pub used_here : (used_file other_file : List ℕ) (form : Form) (generation end : ℕ) (used other : View) (st : State) → IsUp form generation end used other st → used.seen ≡ used_file → other.seen ≡ other_file → IsInUse used_file other_file st
+pub used_here : (used_file other_file : List ℕ) (form : Form) (generation end : ℕ) (used other : View) (st : State)
+    → IsUp form generation end used other st → used.seen ≡ used_file → other.seen ≡ other_file → IsInUse used_file other_file st
 used_here used_file other_file form generation end used other st up here there = record {
   generation = generation;
   stands = subst (λ l. StandsOn l generation st) here (stands_on form generation end used st up.stored);
@@ -322,11 +369,13 @@ used_here used_file other_file form generation end used other st up here there =
 }
 
 -- What is told of the one that was chosen.
-pub chosen_fault : (left right : List ℕ) (side : Bool) (fault : BankFault) (told : ChoiceFault) → IsChoice left right (Ok side) → told ≡ fault_on side fault → (fault ≢ banks.Disk → IsFaultOfFile (chosen side left right) fault) → told ≢ Disk → IsFaultOfBoth left right told
+pub chosen_fault : (left right : List ℕ) (side : Bool) (fault : BankFault) (told : ChoiceFault) → IsChoice left right (Ok side)
+    → told ≡ fault_on side fault → (fault ≢ banks.Disk → IsFaultOfFile (chosen side left right) fault) → told ≢ Disk → IsFaultOfBoth left right told
 chosen_fault left right side fault told is told_is there disk =
     inr record { side = side; choice_is = is; fault = fault; told_is = told_is; fault_is = there (λ e. disk (told_is ∙ ap (fault_on side) e)) }
 
 -- What leaves nothing new twice leaves nothing new.
 pub nothing_new : (old mid new : View) → LeavesNothingNew old mid → IsTimed mid → LeavesNothingNew mid new → LeavesNothingNew old new
 nothing_new old mid new first timed second =
-    one_run old mid new old.may_leave mid.may_leave old.may_leave first second (λ image is. is) (λ image left. leaves_now old mid old.may_leave first timed image left)
+    one_run old mid new old.may_leave mid.may_leave old.may_leave first second (λ image is. is)
+    (λ image left. leaves_now old mid old.may_leave first timed image left)

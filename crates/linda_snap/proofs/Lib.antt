@@ -4,12 +4,13 @@ pub mod PuttingLaws
 pub mod EntryLaws
 pub mod ReadingLaws
 pub mod StateLaws
-pub mod SuccessorLaws
+pub mod BankWriterLaws
+pub mod BankRecordLaws
 pub mod StandsLaws
 pub mod ReplayLaws
 pub mod ChoiceLaws
 pub mod AppendLaws
-pub mod DraftLaws
+pub mod SnapshotWriterLaws
 pub mod ClientsLaws
 pub mod BookCopyLaws
 mod CauseLaws

@@ -1,5 +1,6 @@
 -- Writing entries one after the other, and counting their bytes.
-use Rattle.std.proofs.Common.{◌≡◌, ℕ, ◌+◌, ◌*◌, ◌^◌, ◌<◌, ◌≤◌, List, [], ◌∷◌, ◌++◌, All, length, refl, sym, ap, subst, ◌∙◌, append_assoc, append-nil, length-append, arith}
+use Rattle.std.proofs.Common.{◌≡◌, ℕ, ◌+◌, ◌*◌, ◌^◌, ◌<◌, ◌≤◌, List, [], ◌∷◌, ◌++◌, All, length, refl, sym, ap, subst}
+use Rattle.std.proofs.Common.{◌∙◌, append_assoc, append-nil, length-append, arith}
 use Rattle.std.specs.List.{flat_map, sum_by, AllByRecursion}
 use Rattle.std.specs.Map.{values_of}
 use Rattle.std.specs.Ordering.{nat_cmp}
@@ -33,7 +34,8 @@ module _ {X : Type 0} (f : Format (ℕ × X)) (m : FinMap nat_cmp X) where
     fits = λ all. subst (AllByRecursion f.Fits) (all_is m) all;
   }
 
-  pub one_put : (start out piece now : List ℕ) (from next : ℕ) (e : ℕ × X) → IsPutTo start out from → entries_from from m ≡ e ∷ entries_from next m → piece ≡ f.spell e → f.Fits e → now ≡ out ++ piece → IsPutTo start now next
+  pub one_put : (start out piece now : List ℕ) (from next : ℕ) (e : ℕ × X) → IsPutTo start out from
+      → entries_from from m ≡ e ∷ entries_from next m → piece ≡ f.spell e → f.Fits e → now ≡ out ++ piece → IsPutTo start now next
   one_put start out piece now from next e so_far first spelled fits appended = record {
     parts =
         ap (λ l. l ++ flat_map f.spell (entries_from next m)) (appended ∙ ap (λ p. out ++ p) spelled)
@@ -60,14 +62,18 @@ module _ {X : Type 0} (f : Format (ℕ × X)) (m : FinMap nat_cmp X) where
       let same : length (flat_map f.spell (entries_from 0 m)) ≡ length (flat_map f.spell (entries m)) = ap (λ es. length (flat_map f.spell es)) (all_is m) in
       omega (arith, is, same)
 
-  pub one_counted : (room left now from next : ℕ) (e : ℕ × X) → IsLeft room left from → entries_from from m ≡ e ∷ entries_from next m → now + length (f.spell e) ≡ left → IsLeft room now next
+  pub one_counted : (room left now from next : ℕ) (e : ℕ × X) → IsLeft room left from
+      → entries_from from m ≡ e ∷ entries_from next m → now + length (f.spell e) ≡ left → IsLeft room now next
   one_counted room left now from next e so_far first is =
-      let same : length (flat_map f.spell (entries_from from m)) ≡ length (f.spell e ++ flat_map f.spell (entries_from next m)) = ap (λ es. length (flat_map f.spell es)) first in
+      let same : length (flat_map f.spell (entries_from from m)) ≡ length (f.spell e ++ flat_map f.spell (entries_from next m)) =
+      ap (λ es. length (flat_map f.spell es)) first in
       omega (arith, is, same, so_far, length-append (f.spell e) (flat_map f.spell (entries_from next m)))
 
-  pub too_long : (room left from next : ℕ) (e : ℕ × X) → IsLeft room left from → entries_from from m ≡ e ∷ entries_from next m → left < length (f.spell e) → room < length ((listed f).spell (entries m))
+  pub too_long : (room left from next : ℕ) (e : ℕ × X) → IsLeft room left from
+      → entries_from from m ≡ e ∷ entries_from next m → left < length (f.spell e) → room < length ((listed f).spell (entries m))
   too_long room left from next e so_far first is =
-      let same : length (flat_map f.spell (entries_from from m)) ≡ length (f.spell e ++ flat_map f.spell (entries_from next m)) = ap (λ es. length (flat_map f.spell es)) first in
+      let same : length (flat_map f.spell (entries_from from m)) ≡ length (f.spell e ++ flat_map f.spell (entries_from next m)) =
+      ap (λ es. length (flat_map f.spell es)) first in
       omega (arith, is, same, so_far, length-append (f.spell e) (flat_map f.spell (entries_from next m)))
 
   pub all_counted : (room left from : ℕ) → IsLeft room left from → entries_from from m ≡ [] → left + length ((listed f).spell (entries m)) ≡ room
@@ -103,12 +109,22 @@ few_entries spell some (x ∷ xs) = omega (arith, some x, few_entries spell some
 pub few_tuples : (st : State) → length (spell_state written st) < 2 ^ 32 → length (entries st.bag) < 2 ^ 32
 few_tuples st short =
     let tuples : List ℕ = (listed (format.placed written)).spell (entries st.bag) in
-    omega (arith, short, few_entries (format.placed written).spell (λ e. omega arith) (entries st.bag), length-append tuples ((listed (format.kept written)).spell (entries st.book)))
+    omega (
+      arith,
+      short,
+      few_entries (format.placed written).spell (λ e. omega arith) (entries st.bag),
+      length-append tuples ((listed (format.kept written)).spell (entries st.book)),
+    )
 
 pub few_clients : (st : State) → length (spell_state written st) < 2 ^ 32 → length (entries st.book) < 2 ^ 32
 few_clients st short =
     let tuples : List ℕ = (listed (format.placed written)).spell (entries st.bag) in
-    omega (arith, short, few_entries (format.kept written).spell (λ e. omega arith) (entries st.book), length-append tuples ((listed (format.kept written)).spell (entries st.book)))
+    omega (
+      arith,
+      short,
+      few_entries (format.kept written).spell (λ e. omega arith) (entries st.book),
+      length-append tuples ((listed (format.kept written)).spell (entries st.book)),
+    )
 
 pub put_in_row : (start a b c one two three : List ℕ) → one ≡ start ++ a → two ≡ one ++ b → three ≡ two ++ c → three ≡ start ++ (a ++ (b ++ c))
 put_in_row start a b c one two three first second third =

@@ -1,5 +1,6 @@
 -- Reading entries one after the other.
-use Rattle.std.proofs.Common.{◌≡◌, ◌≢◌, ℕ, ◌+◌, ◌<◌, ◌≤◌, List, [], ◌∷◌, ◌++◌, Ok, Err, length, refl, sym, ap, subst, ◌∙◌, append_assoc, length-append, nat_cmp, arith}
+use Rattle.std.proofs.Common.{◌≡◌, ◌≢◌, ℕ, ◌+◌, ◌<◌, ◌≤◌, List, [], ◌∷◌, ◌++◌, Ok, Err, length, refl, sym, ap, subst}
+use Rattle.std.proofs.Common.{◌∙◌, append_assoc, length-append, nat_cmp, arith}
 use Rattle.std.specs.List.{flat_map, AllByRecursion}
 use Rattle.std.specs.FinMap.{FinMap, empty, insert, entries, len, len-empty, len-entries}
 use Rattle.std.proofs.lemmas.List.{flat_map_more}
@@ -28,7 +29,8 @@ pub record IsNext {A : Type 0} (spell : A → List ℕ) (xs ys : List A) (rest t
   pub all : ys ≡ xs ++ item ∷ later
   pub front : rest ≡ spell item ++ (flat_map spell later ++ tail)
 
-ahead : {A : Type 0} (spell : A → List ℕ) (Fits : A → Type 0) → IsApart spell Fits → (xs ys : List A) (rest tail : List ℕ) → AllByRecursion Fits xs → AllByRecursion Fits ys → length xs < length ys → flat_map spell xs ++ rest ≡ flat_map spell ys ++ tail → IsNext spell xs ys rest tail
+ahead : {A : Type 0} (spell : A → List ℕ) (Fits : A → Type 0) → IsApart spell Fits → (xs ys : List A) (rest tail : List ℕ) → AllByRecursion Fits xs
+    → AllByRecursion Fits ys → length xs < length ys → flat_map spell xs ++ rest ≡ flat_map spell ys ++ tail → IsNext spell xs ys rest tail
 ahead spell Fits apart [] [] rest tail fits_x fits_y lt same = absurd (omega (arith, lt))
 ahead spell Fits apart (x ∷ xs) [] rest tail fits_x fits_y lt same = absurd (omega (arith, lt))
 ahead spell Fits apart [] (y ∷ ys) rest tail fits_x fits_y lt same =
@@ -68,7 +70,8 @@ module _ {X : Type 0} (f : Format (ℕ × X)) (Good : ℕ × X → Type 0) where
         rest_fits = fits;
       }
 
-  pub one_read : (bytes : List ℕ) (m new : FinMap nat_cmp X) (low count : ℕ) (rest after : List ℕ) (key : ℕ) (v : X) → IsFormat f → IsReadSo bytes m low count rest → f.read rest ≡ Ok ((key, v), after) → low ≤ key → Good (key, v) → new ≡ insert m key v
+  pub one_read : (bytes : List ℕ) (m new : FinMap nat_cmp X) (low count : ℕ) (rest after : List ℕ) (key : ℕ) (v : X) → IsFormat f
+      → IsReadSo bytes m low count rest → f.read rest ≡ Ok ((key, v), after) → low ≤ key → Good (key, v) → new ≡ insert m key v
       → IsReadSo bytes new (key + 1) (count + 1) after
   one_read bytes m new low count rest after key v is so_far told rises good there =
       let taken = is.takes rest ((key, v), after) so_far.rest_fits told in
@@ -87,13 +90,16 @@ module _ {X : Type 0} (f : Format (ℕ × X)) (Good : ℕ × X → Type 0) where
         rest_fits = taken.0.rest_fits;
       }
 
-  pub all_read : (bytes : List ℕ) (m : FinMap nat_cmp X) (low count all : ℕ) (rest : List ℕ) → IsReadSo bytes m low count rest → count ≡ all → IsRun f Good all bytes (entries m) rest
+  pub all_read : (bytes : List ℕ) (m : FinMap nat_cmp X) (low count all : ℕ) (rest : List ℕ)
+      → IsReadSo bytes m low count rest → count ≡ all → IsRun f Good all bytes (entries m) rest
   all_read bytes m low count all rest so_far same = record { parts = so_far.parts; count_is = so_far.count_is ∙ same; fits = so_far.fits; good = so_far.good }
 
   -- No good entry that follows is read next, so there are not so many.
-  pub not_read : (bytes : List ℕ) (m : FinMap nat_cmp X) (low count all : ℕ) (rest : List ℕ) → IsFormat f → IsReadSo bytes m low count rest → count < all → ((e : ℕ × X) (after : List ℕ) → f.read rest ≡ Ok (e, after) → low ≤ e.0 → Good e → ⊥) → IsNoRun f Good all bytes
+  pub not_read : (bytes : List ℕ) (m : FinMap nat_cmp X) (low count all : ℕ) (rest : List ℕ) → IsFormat f → IsReadSo bytes m low count rest
+      → count < all → ((e : ℕ × X) (after : List ℕ) → f.read rest ≡ Ok (e, after) → low ≤ e.0 → Good e → ⊥) → IsNoRun f Good all bytes
   not_read bytes m low count all rest is so_far lt none other tail run =
-      let next = ahead f.spell f.Fits (format_apart is) (entries m) (entries other) rest tail so_far.fits run.fits (omega (arith, so_far.count_is, run.count_is, lt)) (sym so_far.parts ∙ run.parts) in
+      let next = ahead f.spell f.Fits (format_apart is) (entries m) (entries other) rest tail so_far.fits run.fits
+      (omega (arith, so_far.count_is, run.count_is, lt)) (sym so_far.parts ∙ run.parts) in
       let later : List ℕ = flat_map f.spell next.later ++ tail in
       none next.item later
       (ap f.read next.front ∙ is.again next.item later (all_here f.Fits (entries m) next.item next.later (subst (AllByRecursion f.Fits) next.all run.fits)))
@@ -101,16 +107,20 @@ module _ {X : Type 0} (f : Format (ℕ × X)) (Good : ℕ × X → Type 0) where
       (all_here Good (entries m) next.item next.later (subst (AllByRecursion Good) next.all run.good))
 
   -- Nothing was read,
-  pub none_there : (bytes : List ℕ) (m : FinMap nat_cmp X) (low count all : ℕ) (rest : List ℕ) (fault : ReadFault) → IsFormat f → IsReadSo bytes m low count rest → count < all → (fault ≢ reading.Memory → f.read rest ≡ Err fault) → fault_of_read fault ≢ Memory → IsNoRun f Good all bytes
+  pub none_there : (bytes : List ℕ) (m : FinMap nat_cmp X) (low count all : ℕ) (rest : List ℕ) (fault : ReadFault) → IsFormat f
+      → IsReadSo bytes m low count rest → count < all → (fault ≢ reading.Memory → f.read rest ≡ Err fault)
+      → fault_of_read fault ≢ Memory → IsNoRun f Good all bytes
   none_there bytes m low count all rest fault is so_far lt told other =
       not_read bytes m low count all rest is so_far lt
-      (λ e after there rises good. let failed : f.read rest ≡ Err fault = told (λ same. other (ap fault_of_read same)) in absurd (unlike (e, after) fault (sym there ∙ failed)))
+      (λ e after there rises good. let failed : f.read rest ≡ Err fault = told (λ same. other (ap fault_of_read same)) in
+      absurd (unlike (e, after) fault (sym there ∙ failed)))
     where
       unlike : {A : Type 0} (x : A) (fault : ReadFault) → Ok x ≡ Err fault → ⊥
       unlike x fault e = absurd cc
 
   -- or an entry that is not good, or does not follow.
-  pub bad_there : (bytes : List ℕ) (m : FinMap nat_cmp X) (low count all : ℕ) (rest after : List ℕ) (e : ℕ × X) → IsFormat f → IsReadSo bytes m low count rest → count < all → f.read rest ≡ Ok (e, after) → (low ≤ e.0 → Good e → ⊥) → IsNoRun f Good all bytes
+  pub bad_there : (bytes : List ℕ) (m : FinMap nat_cmp X) (low count all : ℕ) (rest after : List ℕ) (e : ℕ × X) → IsFormat f
+      → IsReadSo bytes m low count rest → count < all → f.read rest ≡ Ok (e, after) → (low ≤ e.0 → Good e → ⊥) → IsNoRun f Good all bytes
   bad_there bytes m low count all rest after e is so_far lt told bad =
       not_read bytes m low count all rest is so_far lt
       (λ other behind there rises good.

@@ -17,16 +17,19 @@ use Rattle.linda_snap.specs.Replay.{joined, GoesOn, Stops, IsImproper}
 pub nothing_redone : (old now : State) → old ≡ now → GoesOn old [] now
 nothing_redone old now same st before is done = subst (λ ds. AreDone st ds now) (sym (append-nil before)) (subst (AreDone st before) same done)
 
-pub one_redone : (old mid new : State) (front : List Deed) (d : Deed) → GoesOn old front mid → IsAllowed mid d → IsAfter mid (d ∷ []) new → GoesOn old (front ++ d ∷ []) new
+pub one_redone : (old mid new : State) (front : List Deed) (d : Deed) → GoesOn old front mid
+    → IsAllowed mid d → IsAfter mid (d ∷ []) new → GoesOn old (front ++ d ∷ []) new
 one_redone old mid new front d goes allowed after st before ranges done =
-    subst (λ l. AreDone st l new) (append_assoc before front (d ∷ [])) (more_done st mid new (before ++ front) d ranges (goes st before ranges done) allowed after)
+    subst (λ l. AreDone st l new) (append_assoc before front (d ∷ []))
+    (more_done st mid new (before ++ front) d ranges (goes st before ranges done) allowed after)
 
 -- Where nothing is left behind what was done, all was done.
 pub all_redone : (old new : State) (ds front rest : List Deed) → front ++ rest ≡ ds → length rest ≡ 0 → GoesOn old front new → GoesOn old ds new
 all_redone old new ds front [] parts none goes = subst (λ l. GoesOn old l new) (sym (append-nil front) ∙ parts) goes
 all_redone old new ds front (d ∷ rest) parts none goes = absurd (omega (arith, none))
 
-pub stops_here : (old mid : State) (ds front : List Deed) (d : Deed) (rest : List Deed) → front ++ d ∷ rest ≡ ds → GoesOn old front mid → (IsAllowed mid d → ⊥) → Stops old ds
+pub stops_here : (old mid : State) (ds front : List Deed) (d : Deed) (rest : List Deed) → front ++ d ∷ rest ≡ ds
+    → GoesOn old front mid → (IsAllowed mid d → ⊥) → Stops old ds
 stops_here old mid ds front d rest parts goes never st before later ranges done proper =
     let whole : before ++ ds ++ later ≡ (before ++ front) ++ d ∷ (rest ++ later) =
     ap (λ l. before ++ l ++ later) (sym parts)
@@ -45,10 +48,12 @@ joined_more rs r =
 pub no_record_redone : (old now : State) → old ≡ now → IsState old → AreDone old [] now
 no_record_redone old now same is = subst (AreDone old []) same (none_done old is)
 
-pub one_record_redone : (old mid new : State) (front : List Record) (r : Record) → IsState old → AreDone old (joined front) mid → GoesOn mid r.deeds.items new → AreDone old (joined (front ++ r ∷ [])) new
+pub one_record_redone : (old mid new : State) (front : List Record) (r : Record) → IsState old
+    → AreDone old (joined front) mid → GoesOn mid r.deeds.items new → AreDone old (joined (front ++ r ∷ [])) new
 one_record_redone old mid new front r ranges done goes = subst (λ l. AreDone old l new) (sym (joined_more front r)) (goes old (joined front) ranges done)
 
-pub improper_here : (old mid : State) (rs front : List Record) (r : Record) (rest : List Record) → front ++ r ∷ rest ≡ rs → IsState old → AreDone old (joined front) mid → Stops mid r.deeds.items → IsImproper old rs r.gate
+pub improper_here : (old mid : State) (rs front : List Record) (r : Record) (rest : List Record) → front ++ r ∷ rest ≡ rs
+    → IsState old → AreDone old (joined front) mid → Stops mid r.deeds.items → IsImproper old rs r.gate
 improper_here old mid rs front r rest parts ranges done stops = record {
   before = front;
   one = r;

@@ -1,5 +1,7 @@
 -- Lists of entries whose keys rise, and the finite maps that they are the entries of.
-use Rattle.std.proofs.Common.{◌≡◌, ◌≢◌, ℕ, suc, ◌<◌, ◌≤◌, Bool, true, false, cond, not, ◌&&◌, ltb, T, List, [], ◌∷◌, ◌++◌, Option, Some, None, refl, sym, ap, subst, ◌∙◌, nat_cmp, is_lt, Equal, Greater, inl, inr, eq-eqb, ne_eqb, arith}
+use Rattle.std.proofs.Common.{◌≡◌, ◌≢◌, ℕ, suc, ◌<◌, ◌≤◌, Bool, true, false, cond, not, ◌&&◌, ltb, T, List, [], ◌∷◌}
+use Rattle.std.proofs.Common.{◌++◌, Option, Some, None, refl, sym, ap, subst, ◌∙◌, nat_cmp, is_lt, Equal, Greater, inl}
+use Rattle.std.proofs.Common.{inr, eq-eqb, ne_eqb, arith}
 use Rattle.std.specs.Prelude.{IfSome}
 use Rattle.std.specs.List.{AllByRecursion, filter}
 use Rattle.std.specs.Cmp.{nat_cmp_is, nat_cmp_total, unsigned_tied}
@@ -88,7 +90,8 @@ module _ {X : Type 0} where
       ]
 
   -- and what holds of all that is found holds of each entry.
-  all_found : (P : ℕ × X → Type 0) (low : ℕ) (es : List (ℕ × X)) → Rising low es → ((key : ℕ) (v : X) → find nat_cmp key es ≡ Some v → P (key, v)) → AllByRecursion P es
+  all_found : (P : ℕ × X → Type 0) (low : ℕ) (es : List (ℕ × X)) → Rising low es
+      → ((key : ℕ) (v : X) → find nat_cmp key es ≡ Some v → P (key, v)) → AllByRecursion P es
   all_found P low [] rises each = tt
   all_found P low (e ∷ es) rises each = (each e.0 e.1 (find_here e es), all_found P (suc e.0) es rises.1 later)
     where
@@ -125,17 +128,20 @@ module _ {X : Type 0} where
   all_held from low (e ∷ es) rises le =
       held from e es (omega (arith, le, rises.0)) ∙ ap (λ l. e ∷ l) (all_held from (suc e.0) es rises.1 (omega (arith, le, rises.0)))
 
-  first_here : (from key : ℕ) (v : X) (low : ℕ) (es : List (ℕ × X)) → Rising low es → find nat_cmp key es ≡ Some v → from ≤ key → ((k : ℕ) → from ≤ k → k < key → find nat_cmp k es ≡ None) → from_key from es ≡ (key, v) ∷ from_key (suc key) es
+  first_here : (from key : ℕ) (v : X) (low : ℕ) (es : List (ℕ × X)) → Rising low es → find nat_cmp key es ≡ Some v → from ≤ key
+      → ((k : ℕ) → from ≤ k → k < key → find nat_cmp k es ≡ None) → from_key from es ≡ (key, v) ∷ from_key (suc key) es
   first_here from key v low [] rises there le none = absurd (not_none v there)
   first_here from key v low (e ∷ es) rises there le none =
       elim (cases_lt e.0 from) [
         | inl lt ↦
-            let later = first_here from key v (suc e.0) es rises.1 (sym (find_other key e es (λ same. omega (arith, same, lt, le))) ∙ there) le (λ k low high. sym (find_other k e es (λ same. omega (arith, same, lt, low))) ∙ none k low high) in
+            let later = first_here from key v (suc e.0) es rises.1 (sym (find_other key e es (λ same. omega (arith, same, lt, le)))
+            ∙ there) le (λ k low high. sym (find_other k e es (λ same. omega (arith, same, lt, low))) ∙ none k low high) in
             dropped from e es lt ∙ later ∙ ap (λ l. (key, v) ∷ l) (sym (dropped (suc key) e es (omega (arith, lt, le))))
         | inr ge ↦ elim (cases_lt e.0 key) [
           | inl lt ↦ absurd (not_none e.1 (sym (none e.0 ge lt) ∙ find_here e es))
           | inr above ↦ elim (cases_lt key e.0) [
-            | inl lt ↦ absurd (not_none v (sym (find_other key e es (λ same. omega (arith, same, lt)) ∙ find_before (suc e.0) key es rises.1 (omega (arith, lt))) ∙ there))
+            | inl lt ↦ absurd (not_none v
+                (sym (find_other key e es (λ same. omega (arith, same, lt)) ∙ find_before (suc e.0) key es rises.1 (omega (arith, lt))) ∙ there))
             | inr below ↦
                 let same : e.0 ≡ key = omega (arith, above, below) in
                 let value : e.1 ≡ v = some_is e.1 v (sym (find_here e es) ∙ ap (λ k. find nat_cmp k (e ∷ es)) same ∙ there) in
@@ -152,13 +158,16 @@ module _ {X : Type 0} where
   none_here from low [] rises none = refl
   none_here from low (e ∷ es) rises none =
       elim (cases_lt e.0 from) [
-        | inl lt ↦ dropped from e es lt ∙ none_here from (suc e.0) es rises.1 (λ k le. sym (find_other k e es (λ same. omega (arith, same, lt, le))) ∙ none k le)
+        | inl lt ↦ dropped from e es lt
+            ∙ none_here from (suc e.0) es rises.1 (λ k le. sym (find_other k e es (λ same. omega (arith, same, lt, le))) ∙ none k le)
         | inr le ↦ absurd (not_none e.1 (sym (none e.0 le) ∙ find_here e es))
       ]
 
   -- From the first key that there is,
-  pub first_is : (m : FinMap nat_cmp X) (from key : ℕ) (v : X) → get m key ≡ Some v → from ≤ key → ((k : ℕ) → from ≤ k → k < key → get m k ≡ None) → entries_from from m ≡ (key, v) ∷ entries_from (suc key) m
-  first_is m from key v there le none = first_here from key v 0 (entries m) (rising m) (sym (get-entries m key) ∙ there) le (λ k low high. sym (get-entries m k) ∙ none k low high)
+  pub first_is : (m : FinMap nat_cmp X) (from key : ℕ) (v : X) → get m key ≡ Some v → from ≤ key
+      → ((k : ℕ) → from ≤ k → k < key → get m k ≡ None) → entries_from from m ≡ (key, v) ∷ entries_from (suc key) m
+  first_is m from key v there le none =
+      first_here from key v 0 (entries m) (rising m) (sym (get-entries m key) ∙ there) le (λ k low high. sym (get-entries m k) ∙ none k low high)
 
   -- or none.
   pub none_is : (m : FinMap nat_cmp X) (from : ℕ) → ((k : ℕ) → from ≤ k → get m k ≡ None) → entries_from from m ≡ []
@@ -176,7 +185,8 @@ module _ {X : Type 0} where
   put_last : (low key : ℕ) (v : X) (es : List (ℕ × X)) → Rising low es → after_all low es ≤ key → put nat_cmp key v es ≡ es ++ (key, v) ∷ []
   put_last low key v [] rises le = refl
   put_last low key v (e ∷ es) rises le =
-      ap (λ o. by_order o ((key, v) ∷ e ∷ es) ((e.0, v) ∷ es) (e ∷ put nat_cmp key v es)) (is_greater key e.0 (omega (arith, le, after_low (suc e.0) es rises.1)))
+      ap (λ o. by_order o ((key, v) ∷ e ∷ es) ((e.0, v) ∷ es) (e ∷ put nat_cmp key v es))
+      (is_greater key e.0 (omega (arith, le, after_low (suc e.0) es rises.1)))
       ∙ ap (λ l. e ∷ l) (put_last (suc e.0) key v es rises.1 le)
 
   pub inserted : (m : FinMap nat_cmp X) (key : ℕ) (v : X) → after_all 0 (entries m) ≤ key → entries (insert m key v) ≡ entries m ++ (key, v) ∷ []

@@ -25,12 +25,18 @@ listed_is {A = A} {f = f} is = record {
       let a = bind_ok (short_number.read bytes) (λ count. many_at f.read count.0 count.1) x e in
       let c = short_number_is.takes bytes a.0 fits a.1 in
       let m = many_takes f.read f.spell f.Fits is.takes a.0.0 a.0.1 x c.0.rest_fits a.2 in
-      let whole : Takes bytes (short_number.spell a.0.0 ++ flat_map f.spell x.0) x.1 = Takes-then bytes (short_number.spell a.0.0) a.0.1 (flat_map f.spell x.0) x.1 c.0 m.0 in
-      subst (λ (k : ℕ). Takes bytes (short_number.spell k ++ flat_map f.spell x.0) x.1 × ((k < 2 ^ 32) × All f.Fits x.0)) {x = a.0.0} {y = length x.0} (sym {a = length x.0} m.1) (whole, (c.1, m.2));
+      let whole : Takes bytes (short_number.spell a.0.0 ++ flat_map f.spell x.0) x.1 =
+      Takes-then bytes (short_number.spell a.0.0) a.0.1 (flat_map f.spell x.0) x.1 c.0 m.0 in
+      subst (λ (k : ℕ). Takes bytes (short_number.spell k ++ flat_map f.spell x.0) x.1 × ((k < 2 ^ 32) × All f.Fits x.0))
+      {x = a.0.0} {y = length x.0} (sym {a = length x.0} m.1) (whole, (c.1, m.2));
   again = λ items rest fits.
-      rw (append_assoc (short_number.spell (length items)) (flat_map f.spell items) rest, short_number_is.again (length items) (flat_map f.spell items ++ rest) fits.0)
+      rw (
+        append_assoc (short_number.spell (length items)) (flat_map f.spell items) rest,
+        short_number_is.again (length items) (flat_map f.spell items ++ rest) fits.0,
+      )
       (many_again f.read f.spell f.Fits is.again items rest fits.1);
-  bounded = λ bytes. bounded_then (length bytes) (short_number.read bytes) (λ count. many_at f.read count.0 count.1) (short_number_is.bounded bytes) (λ count. many_bounded f.read is.bounded count.0 count.1);
+  bounded = λ bytes. bounded_then (length bytes) (short_number.read bytes) (λ count. many_at f.read count.0 count.1)
+      (short_number_is.bounded bytes) (λ count. many_bounded f.read is.bounded count.0 count.1);
 }
 
 pub snapshot_is : (form : Form) → IsFormat (format.snapshot form)

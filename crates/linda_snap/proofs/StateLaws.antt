@@ -1,5 +1,6 @@
 -- Reading a whole state.
-use Rattle.std.proofs.Common.{◌≡◌, ◌≢◌, ℕ, ◌^◌, ◌<◌, ◌≤◌, List, [], ◌∷◌, ◌++◌, Result, Ok, Err, length, refl, sym, ap, subst, ◌∙◌, append_assoc, append-nil, nat_cmp, arith}
+use Rattle.std.proofs.Common.{◌≡◌, ◌≢◌, ℕ, ◌^◌, ◌<◌, ◌≤◌, List, [], ◌∷◌, ◌++◌, Result, Ok, Err, length, refl, sym, ap}
+use Rattle.std.proofs.Common.{subst, ◌∙◌, append_assoc, append-nil, nat_cmp, arith}
 use Rattle.std.specs.Prelude.{IfOk, IfErr}
 use Rattle.std.specs.List.{flat_map, AllByRecursion}
 use Rattle.std.specs.FinMap.{FinMap, entries, len-entries}
@@ -37,7 +38,8 @@ both_read {A = A} read a b x y one two =
 
 module _ {X : Type 0} (f : Format (ℕ × X)) (Good : ℕ × X → Type 0) (limit : ℕ) where
   -- A count, and a run of so many.
-  pub listed_of : (bytes : List ℕ) (count : ℕ) (behind : List ℕ) (es : List (ℕ × X)) (rest : List ℕ) → IsBytes bytes → short_number.read bytes ≡ Ok (count, behind) → count ≤ limit → IsRun f Good count behind es rest → IsListed f Good limit bytes es rest
+  pub listed_of : (bytes : List ℕ) (count : ℕ) (behind : List ℕ) (es : List (ℕ × X)) (rest : List ℕ) → IsBytes bytes
+      → short_number.read bytes ≡ Ok (count, behind) → count ≤ limit → IsRun f Good count behind es rest → IsListed f Good limit bytes es rest
   listed_of bytes count behind es rest fits told few run =
       let t = short_number_is.takes bytes (count, behind) fits told in
       let same : count ≡ length es = sym run.count_is in
@@ -53,25 +55,33 @@ module _ {X : Type 0} (f : Format (ℕ × X)) (Good : ℕ × X → Type 0) (limi
       }
 
   -- What is told of a list that stands there.
-  count_of : (bytes : List ℕ) (es : List (ℕ × X)) (rest : List ℕ) → IsListed f Good limit bytes es rest → short_number.read bytes ≡ Ok (length es, flat_map f.spell es ++ rest)
+  count_of : (bytes : List ℕ) (es : List (ℕ × X)) (rest : List ℕ) → IsListed f Good limit bytes es rest
+      → short_number.read bytes ≡ Ok (length es, flat_map f.spell es ++ rest)
   count_of bytes es rest is =
-      ap short_number.read (is.parts ∙ append_assoc (short_number.spell (length es)) (flat_map f.spell es) rest) ∙ short_number_is.again (length es) (flat_map f.spell es ++ rest) is.fits.0
+      ap short_number.read (is.parts ∙ append_assoc (short_number.spell (length es)) (flat_map f.spell es) rest)
+      ∙ short_number_is.again (length es) (flat_map f.spell es ++ rest) is.fits.0
 
-  pub no_count : (bytes : List ℕ) (fault : ReadFault) (m : FinMap nat_cmp X) (rest : List ℕ) → short_number.read bytes ≡ Err fault → IsListed f Good limit bytes (entries m) rest → ⊥
-  no_count bytes fault m rest told is = no_value (length (entries m), flat_map f.spell (entries m) ++ rest) fault (sym (count_of bytes (entries m) rest is) ∙ told)
+  pub no_count : (bytes : List ℕ) (fault : ReadFault) (m : FinMap nat_cmp X) (rest : List ℕ)
+      → short_number.read bytes ≡ Err fault → IsListed f Good limit bytes (entries m) rest → ⊥
+  no_count bytes fault m rest told is =
+      no_value (length (entries m), flat_map f.spell (entries m) ++ rest) fault (sym (count_of bytes (entries m) rest is) ∙ told)
 
-  pub run_of : (bytes : List ℕ) (count : ℕ) (behind : List ℕ) (es : List (ℕ × X)) (rest : List ℕ) → short_number.read bytes ≡ Ok (count, behind) → IsListed f Good limit bytes es rest → IsRun f Good count behind es rest
+  pub run_of : (bytes : List ℕ) (count : ℕ) (behind : List ℕ) (es : List (ℕ × X)) (rest : List ℕ)
+      → short_number.read bytes ≡ Ok (count, behind) → IsListed f Good limit bytes es rest → IsRun f Good count behind es rest
   run_of bytes count behind es rest told is =
       let same = both_read (short_number.read bytes) count (length es) behind (flat_map f.spell es ++ rest) told (count_of bytes es rest is) in
       record { parts = same.1; count_is = sym same.0; fits = recursion_from_All f.Fits es is.fits.1; good = is.good }
 
-  pub too_many : (bytes : List ℕ) (count : ℕ) (behind : List ℕ) (m : FinMap nat_cmp X) (rest : List ℕ) → short_number.read bytes ≡ Ok (count, behind) → limit < count → IsListed f Good limit bytes (entries m) rest → ⊥
+  pub too_many : (bytes : List ℕ) (count : ℕ) (behind : List ℕ) (m : FinMap nat_cmp X) (rest : List ℕ)
+      → short_number.read bytes ≡ Ok (count, behind) → limit < count → IsListed f Good limit bytes (entries m) rest → ⊥
   too_many bytes count behind m rest told many is =
-      let same = both_read (short_number.read bytes) count (length (entries m)) behind (flat_map f.spell (entries m) ++ rest) told (count_of bytes (entries m) rest is) in
+      let same = both_read (short_number.read bytes) count (length (entries m)) behind
+      (flat_map f.spell (entries m) ++ rest) told (count_of bytes (entries m) rest is) in
       omega (arith, same.0, many, is.few)
 
   -- Bytes are one list.
-  one_listed : (bytes : List ℕ) (es ds : List (ℕ × X)) (x y : List ℕ) → IsFormat f → IsListed f Good limit bytes es x → IsListed f Good limit bytes ds y → (es ≡ ds) × (x ≡ y)
+  one_listed : (bytes : List ℕ) (es ds : List (ℕ × X)) (x y : List ℕ) → IsFormat f → IsListed f Good limit bytes es x
+      → IsListed f Good limit bytes ds y → (es ≡ ds) × (x ≡ y)
   one_listed bytes es ds x y is one two = format_apart (listed_is is) es ds x y one.fits two.fits (sym one.parts ∙ two.parts)
 
 -- ---- the state
@@ -83,12 +93,15 @@ abbrev IsClients : Form → List ℕ → List (ℕ × Entry) → List ℕ → Ty
 IsClients form bytes es rest = IsListed (format.kept form) IsNumbered MAX_CLIENTS bytes es rest
 
 -- What stands there is the snapshot of the state of these parts.
-pub state_there : (form : Form) (bytes behind rest : List ℕ) (next : ℕ) (bag : FinMap nat_cmp Tuple) (book : FinMap nat_cmp Entry) → IsBytes bytes → number.read bytes ≡ Ok (next, behind) → 1 ≤ next → next ≤ NUMBER_LIMIT → IsTuples form next behind (entries bag) rest → IsClients form rest (entries book) []
+pub state_there : (form : Form) (bytes behind rest : List ℕ) (next : ℕ) (bag : FinMap nat_cmp Tuple) (book : FinMap nat_cmp Entry) → IsBytes bytes
+    → number.read bytes ≡ Ok (next, behind) → 1 ≤ next → next ≤ NUMBER_LIMIT → IsTuples form next behind (entries bag) rest
+    → IsClients form rest (entries book) []
     → IsSnapshot form bytes record { bag = bag; book = book; next = next }
 state_there form bytes behind rest next bag book fits told low high tuples clients =
     let t = number_is.takes bytes (next, behind) fits told in
     record {
-      parts = t.0.parts ∙ ap (λ l. number.spell next ++ l) (tuples.parts ∙ ap (λ l. (listed (format.placed form)).spell (entries bag) ++ l) (clients.parts ∙ append-nil ((listed (format.kept form)).spell (entries book))));
+      parts = t.0.parts ∙ ap (λ l. number.spell next ++ l) (tuples.parts
+          ∙ ap (λ l. (listed (format.placed form)).spell (entries bag) ++ l) (clients.parts ∙ append-nil ((listed (format.kept form)).spell (entries book))));
       fits = (t.1, (tuples.fits, clients.fits));
       ranges = record {
         next_low = low;
@@ -100,20 +113,28 @@ state_there form bytes behind rest next bag book fits told low high tuples clien
     }
 
 -- What is told of a snapshot that stands there.
-next_of : (form : Form) (bytes : List ℕ) (st : State) → IsSnapshot form bytes st → number.read bytes ≡ Ok (st.next, (listed (format.placed form)).spell (entries st.bag) ++ (listed (format.kept form)).spell (entries st.book))
-next_of form bytes st is = ap number.read is.parts ∙ number_is.again st.next ((listed (format.placed form)).spell (entries st.bag) ++ (listed (format.kept form)).spell (entries st.book)) is.fits.0
+next_of : (form : Form) (bytes : List ℕ) (st : State) → IsSnapshot form bytes st
+    → number.read bytes ≡ Ok (st.next, (listed (format.placed form)).spell (entries st.bag) ++ (listed (format.kept form)).spell (entries st.book))
+next_of form bytes st is = ap number.read is.parts
+    ∙ number_is.again st.next ((listed (format.placed form)).spell (entries st.bag) ++ (listed (format.kept form)).spell (entries st.book)) is.fits.0
 
 pub no_next : (form : Form) (bytes : List ℕ) (fault : ReadFault) → number.read bytes ≡ Err fault → IsNoSnapshot form bytes
-no_next form bytes fault told st is = no_value (st.next, (listed (format.placed form)).spell (entries st.bag) ++ (listed (format.kept form)).spell (entries st.book)) fault (sym (next_of form bytes st is) ∙ told)
+no_next form bytes fault told st is =
+    no_value (st.next, (listed (format.placed form)).spell (entries st.bag) ++ (listed (format.kept form)).spell (entries st.book)) fault
+    (sym (next_of form bytes st is) ∙ told)
 
-pub bad_next : (form : Form) (bytes : List ℕ) (next : ℕ) (behind : List ℕ) → number.read bytes ≡ Ok (next, behind) → (1 ≤ next → next ≤ NUMBER_LIMIT → ⊥) → IsNoSnapshot form bytes
+pub bad_next : (form : Form) (bytes : List ℕ) (next : ℕ) (behind : List ℕ) → number.read bytes ≡ Ok (next, behind)
+    → (1 ≤ next → next ≤ NUMBER_LIMIT → ⊥) → IsNoSnapshot form bytes
 bad_next form bytes next behind told bad st is =
-    let same = both_read (number.read bytes) next st.next behind ((listed (format.placed form)).spell (entries st.bag) ++ (listed (format.kept form)).spell (entries st.book)) told (next_of form bytes st is) in
+    let same = both_read (number.read bytes) next st.next behind
+    ((listed (format.placed form)).spell (entries st.bag) ++ (listed (format.kept form)).spell (entries st.book)) told (next_of form bytes st is) in
     bad (subst (λ n. 1 ≤ n) (sym same.0) is.ranges.next_low) (subst (λ n. n ≤ NUMBER_LIMIT) (sym same.0) is.ranges.next_high)
 
-tuples_there : (form : Form) (bytes : List ℕ) (next : ℕ) (behind : List ℕ) (st : State) → number.read bytes ≡ Ok (next, behind) → IsSnapshot form bytes st → IsTuples form next behind (entries st.bag) ((listed (format.kept form)).spell (entries st.book))
+tuples_there : (form : Form) (bytes : List ℕ) (next : ℕ) (behind : List ℕ) (st : State) → number.read bytes ≡ Ok (next, behind)
+    → IsSnapshot form bytes st → IsTuples form next behind (entries st.bag) ((listed (format.kept form)).spell (entries st.book))
 tuples_there form bytes next behind st told is =
-    let same = both_read (number.read bytes) next st.next behind ((listed (format.placed form)).spell (entries st.bag) ++ (listed (format.kept form)).spell (entries st.book)) told (next_of form bytes st is) in
+    let same = both_read (number.read bytes) next st.next behind
+    ((listed (format.placed form)).spell (entries st.bag) ++ (listed (format.kept form)).spell (entries st.book)) told (next_of form bytes st is) in
     record {
       parts = same.1;
       fits = is.fits.1.0;
@@ -121,12 +142,16 @@ tuples_there form bytes next behind st told is =
       good = subst (λ n. AllByRecursion (IsPlacedBelow n) (entries st.bag)) (sym same.0) (all_got (IsPlacedBelow st.next) st.bag is.ranges.ids);
     }
 
-pub no_tuples : (form : Form) (bytes : List ℕ) (next : ℕ) (behind : List ℕ) → number.read bytes ≡ Ok (next, behind) → ((m : FinMap nat_cmp Tuple) (rest : List ℕ) → IsTuples form next behind (entries m) rest → ⊥) → IsNoSnapshot form bytes
-no_tuples form bytes next behind told none st is = none st.bag ((listed (format.kept form)).spell (entries st.book)) (tuples_there form bytes next behind st told is)
+pub no_tuples : (form : Form) (bytes : List ℕ) (next : ℕ) (behind : List ℕ) → number.read bytes ≡ Ok (next, behind)
+    → ((m : FinMap nat_cmp Tuple) (rest : List ℕ) → IsTuples form next behind (entries m) rest → ⊥) → IsNoSnapshot form bytes
+no_tuples form bytes next behind told none st is =
+    none st.bag ((listed (format.kept form)).spell (entries st.book)) (tuples_there form bytes next behind st told is)
 
-clients_there : (form : Form) (bytes : List ℕ) (next : ℕ) (behind rest : List ℕ) (es : List (ℕ × Tuple)) (st : State) → number.read bytes ≡ Ok (next, behind) → IsTuples form next behind es rest → IsSnapshot form bytes st → IsClients form rest (entries st.book) []
+clients_there : (form : Form) (bytes : List ℕ) (next : ℕ) (behind rest : List ℕ) (es : List (ℕ × Tuple)) (st : State)
+    → number.read bytes ≡ Ok (next, behind) → IsTuples form next behind es rest → IsSnapshot form bytes st → IsClients form rest (entries st.book) []
 clients_there form bytes next behind rest es st told tuples is =
-    let same = one_listed (format.placed form) (IsPlacedBelow next) ANY_COUNT behind es (entries st.bag) rest ((listed (format.kept form)).spell (entries st.book)) (placed_is form) tuples (tuples_there form bytes next behind st told is) in
+    let same = one_listed (format.placed form) (IsPlacedBelow next) ANY_COUNT behind es (entries st.bag) rest
+    ((listed (format.kept form)).spell (entries st.book)) (placed_is form) tuples (tuples_there form bytes next behind st told is) in
     record {
       parts = same.1 ∙ sym (append-nil ((listed (format.kept form)).spell (entries st.book)));
       fits = is.fits.1.1;
@@ -134,12 +159,15 @@ clients_there form bytes next behind rest es st told tuples is =
       good = all_got IsNumbered st.book is.ranges.numbers;
     }
 
-pub no_clients : (form : Form) (bytes : List ℕ) (next : ℕ) (behind rest : List ℕ) (es : List (ℕ × Tuple)) → number.read bytes ≡ Ok (next, behind) → IsTuples form next behind es rest → ((m : FinMap nat_cmp Entry) (rest' : List ℕ) → IsClients form rest (entries m) rest' → ⊥) → IsNoSnapshot form bytes
+pub no_clients : (form : Form) (bytes : List ℕ) (next : ℕ) (behind rest : List ℕ) (es : List (ℕ × Tuple)) → number.read bytes ≡ Ok (next, behind)
+    → IsTuples form next behind es rest → ((m : FinMap nat_cmp Entry) (rest' : List ℕ) → IsClients form rest (entries m) rest' → ⊥) → IsNoSnapshot form bytes
 no_clients form bytes next behind rest es told tuples none st is = none st.book [] (clients_there form bytes next behind rest es st told tuples is)
 
-pub bytes_left : (form : Form) (bytes : List ℕ) (next : ℕ) (behind rest left : List ℕ) (es : List (ℕ × Tuple)) (ds : List (ℕ × Entry)) → number.read bytes ≡ Ok (next, behind) → IsTuples form next behind es rest → IsClients form rest ds left → (left ≡ [] → ⊥) → IsNoSnapshot form bytes
+pub bytes_left : (form : Form) (bytes : List ℕ) (next : ℕ) (behind rest left : List ℕ) (es : List (ℕ × Tuple)) (ds : List (ℕ × Entry))
+    → number.read bytes ≡ Ok (next, behind) → IsTuples form next behind es rest → IsClients form rest ds left → (left ≡ [] → ⊥) → IsNoSnapshot form bytes
 bytes_left form bytes next behind rest left es ds told tuples clients some st is =
-    some (one_listed (format.kept form) IsNumbered MAX_CLIENTS rest ds (entries st.book) left [] (kept_is form) clients (clients_there form bytes next behind rest es st told tuples is)).1
+    some (one_listed (format.kept form) IsNumbered MAX_CLIENTS rest ds (entries st.book) left []
+    (kept_is form) clients (clients_there form bytes next behind rest es st told tuples is)).1
 
 pub none_left : {A : Type 0} (xs : List A) → length xs ≡ 0 → xs ≡ []
 none_left [] e = refl
@@ -147,7 +175,9 @@ none_left (x ∷ xs) e = absurd (omega (arith, e))
 
 -- ---- no other state
 
-pub only_this : (form : Form) (bytes : List ℕ) (result : Result State SnapshotFault) → IfOk result (IsSnapshot form bytes) → IfErr result (λ f. f ≢ Memory → IsNoSnapshot form bytes) → (st : State) → IsSnapshot form bytes st → IfOk result (λ s. s ≡ st) × IfErr result (λ f. f ≡ Memory)
+pub only_this : (form : Form) (bytes : List ℕ) (result : Result State SnapshotFault) → IfOk result (IsSnapshot form bytes)
+    → IfErr result (λ f. f ≢ Memory → IsNoSnapshot form bytes) → (st : State) → IsSnapshot form bytes st
+    → IfOk result (λ s. s ≡ st) × IfErr result (λ f. f ≡ Memory)
 only_this form bytes (Ok s) found fault st is = (one_snapshot form bytes s st found is, tt)
 only_this form bytes (Err Memory) found fault st is = (tt, refl)
 only_this form bytes (Err NoSnapshot) found fault st is = absurd (fault (λ e. absurd cc) st is)

@@ -15,12 +15,14 @@ pub record HasTuples (begun : State) (bytes : List ℕ) : Type 0 where
   pub parts : bytes ≡ number.spell begun.next ++ (listed (placed written)).spell (entries begun.bag)
   pub fits : number.Fits begun.next × (listed (placed written)).Fits (entries begun.bag)
 
--- A snapshot of the state `begun` is written up to these bytes, and the clients behind the last one:
+-- A snapshot of the state `begun` is written up to these bytes, and the clients behind the last
+-- one:
 pub record OwesClients (begun : State) (clients : Clients) (bytes : List ℕ) : Type 0 where
   -- they are those of the state;
   pub same : clients.book ≡ begun.book
   -- what is written, and they, are the whole snapshot;
-  pub parts : bytes ++ flat_map (kept written).spell (entries_from (first_after clients.last) begun.book)
+  pub parts : bytes ++ flat_map (kept written).spell
+      (entries_from (first_after clients.last) begun.book)
       ≡ spell_state written begun
   -- and if all that is still to come has a spelling, so has all.
   pub fits : AllByRecursion (kept written).Fits (entries_from (first_after clients.last) begun.book)

@@ -6,6 +6,6 @@ pub mod Switch
 pub mod Replay
 pub mod Choice
 pub mod Clients
-pub mod Draft
-pub mod Successor
+pub mod SnapshotWriter
+pub mod BankWriter
 pub mod BookCopy

@@ -11,9 +11,9 @@ use Rattle.linda_disk.specs.Runs.{Law}
 use Rattle.linda_journal.specs.declared.kinds.TheConstants.{CLOSED}
 use Rattle.linda_journal.specs.Bank.{IsNoneOrNew, behind_gate}
 use Rattle.linda_journal.specs.Renewal.{IsFilled}
-use Rattle.linda_snap.specs.declared.successor.Successor.{Successor}
+use Rattle.linda_snap.specs.declared.bank_writer.BankWriter.{BankWriter}
 use Rattle.linda_snap.specs.Stands.{IsUp, StandsBeside}
-use Rattle.linda_snap.specs.Successor.{Completes}
+use Rattle.linda_snap.specs.BankWriter.{Completes}
 use Rattle.linda_snap.specs.declared.renewal.SwitchFault.{SwitchFault}
 use Rattle.linda_snap.specs.declared.renewal.SwitchFault.TheVariants.{Disk, Memory}
 
@@ -40,7 +40,7 @@ switches honest form generation end used st old new = honest → IsUp form gener
     → LeavesOnly old new (StandsBeside used.seen st)
 
 -- The same, if with these last bytes a new bank is there for the state.
-abbrev pub takes_over : Type 0 → Form → ℕ → ℕ → View → Successor → ℕ → List ℕ → Law
+abbrev pub takes_over : Type 0 → Form → ℕ → ℕ → View → BankWriter → ℕ → List ℕ → Law
 takes_over honest form generation end used next at bytes old new = (front : List ℕ) (st : State)
     → honest → IsUp form generation end used old st → IsFilled front at old
     → Completes next front bytes st → LeavesOnly old new (StandsBeside used.seen st)

@@ -1,6 +1,6 @@
 //! Choice between two banks, and the state that they have.
 
-ghost use Rattle.std.specs.Prelude.{◌≡◌, ◌≢◌, ◌+◌, ◌<◌, ◌↔◌, false, length, Ok, Err, IfOk, IfErr};
+ghost use Rattle.std.specs.Prelude.{◌≡◌, ◌≢◌, ◌+◌, ◌<◌, ◌↔◌, false, Ok, Err, IfOk, IfErr};
 ghost use Rattle.std.specs.Prelude.{OnOk};
 ghost use Rattle.linda_store_state.specs.State.{IsState};
 ghost use Rattle.linda_disk.specs.View.{IsDurable};

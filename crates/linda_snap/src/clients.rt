@@ -1,5 +1,5 @@
-//! The clients of a snapshot that is written in steps: what was kept for them at its beginning, in a
-//! copy, and which of them are written. A large tuple of a kept reply is there once for both.
+//! The clients of a snapshot that is written in steps: what was kept for them at its beginning, in
+//! a copy, and which of them are written. A large tuple of a kept reply is there once for both.
 //! `specs/Clients` says what is still to come.
 
 ghost use Rattle.std.specs.Prelude.{◌≡◌, ◌<◌, ◌≤◌, ◌+◌, ◌++◌, ℕ, List, length, OnOk, OnErr, IfOk};

@@ -9,30 +9,30 @@
 //!   leaves anything but what has the same state.
 #![tactic(auto)]
 
+mod bank_writer;
 mod book_copy;
 mod choice;
 mod clients;
 mod cursor;
-mod draft;
+mod deed_log;
 mod entry;
 mod laws;
 mod putting;
 mod reading;
 mod renewal;
 mod replay;
-mod successor;
-mod tail;
+mod snapshot_writer;
 mod takeover;
 
+pub use bank_writer::{BankWriter, Chunk};
 pub use book_copy::BookCopy;
 pub use choice::{ChoiceFault, Chosen, choose, choose_bank};
 pub use cursor::{kept_after, next_entry, tuple_from};
-pub use draft::{Draft, STEP_TUPLES};
 pub use entry::MAX_KEPT_BYTES;
 pub use laws::{an_append_leaves_the_old_state_or_the_new, two_banks_stand_for_one_state};
 pub use linda_journal::{Closed, Whole, fill, shut, unlock};
 pub use putting::{EMPTY_STATE_BYTES, put_state};
 pub use reading::{SnapshotFault, get_state};
 pub use renewal::{SwitchFault, switch};
-pub use successor::{Part, Successor};
+pub use snapshot_writer::{STEP_TUPLES, SnapshotWriter};
 pub use takeover::take_over;

@@ -1,8 +1,7 @@
 //! Writing a state as a snapshot in the form of new banks, and how many bytes that takes.
 
-ghost use Rattle.std.specs.Prelude.{◌≡◌, ◌++◌, ◌<◌, ◌≤◌, ◌+◌, ◌^◌, ℕ, All, length, OnOk, IfSome};
+ghost use Rattle.std.specs.Prelude.{◌≡◌, ◌++◌, ◌<◌, ◌+◌, ◌^◌, length, OnOk, IfSome};
 ghost use Rattle.std.specs.Prelude.{IfNone};
-ghost use Rattle.std.specs.List.{flat_map};
 ghost use Rattle.std.specs.FinMap.{entries};
 ghost use Rattle.linda_codec.specs.Formats.{short_number};
 ghost use Rattle.linda_codec.specs.declared.limits.TheConstants.{SHORT_NUMBER_BYTES};
@@ -85,8 +84,8 @@ pub(crate) fn push_count(out: &mut Vec<u8>, count: usize) -> Result<(), AllocErr
 }
 
 /// What is left of so many bytes once the state is spelled in them; None where it spells more. No
-/// memory is taken. It walks over the clients, if it is not given how many bytes they spell, and not
-/// over the tuples: the bag keeps their bytes.
+/// memory is taken. It walks over the clients, if it is not given how many bytes they spell, and
+/// not over the tuples: the bag keeps their bytes.
 pub(crate) fn room_after<B: Bag>(
     state: &State<B>,
     clients: Option<usize>,

@@ -1,6 +1,6 @@
 //! Doing again what the records of a journal say.
 
-ghost use Rattle.std.specs.Prelude.{◌≡◌, ◌++◌, true, false, IfOk, IfErr, OnOk};
+ghost use Rattle.std.specs.Prelude.{◌≡◌, true, false, IfOk, IfErr, OnOk};
 ghost use Rattle.linda_store_state.specs.State.{IsState};
 ghost use Rattle.linda_store_state.specs.Proper.{AreDone};
 ghost use Rattle.linda_snap.specs.declared.replay.ReplayFault.TheVariants.{Memory};

@@ -6,10 +6,10 @@ ghost use Rattle.linda_store_state.specs.State as states;
 ghost use Rattle.linda_disk.specs.Runs.{RunsBeside, takes};
 ghost use Rattle.linda_journal.specs.Renewal.{IsFilled};
 ghost use Rattle.linda_snap.specs.Stands.{IsStored, IsUp};
-ghost use Rattle.linda_snap.specs.Successor.{Completes};
+ghost use Rattle.linda_snap.specs.BankWriter.{Completes};
 ghost use Rattle.linda_snap.specs.Switch.{takes_over};
 
-use crate::successor::Successor;
+use crate::bank_writer::BankWriter;
 use linda_disk::{Disk, DiskFault};
 use linda_journal::{Bank, Filling};
 
@@ -23,7 +23,7 @@ use linda_journal::{Bank, Filling};
 pub fn take_over<D: Disk>(
     current: Bank<D>,
     filling: Filling<D>,
-    next: &Successor,
+    next: &BankWriter,
     bytes: &[u8],
 ) -> Result<(Bank<D>, D), (DiskFault, Bank<D>, D)>
     requires { next.now.generation ≡ current.generation + 1 }

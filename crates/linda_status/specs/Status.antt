@@ -1,5 +1,6 @@
 -- Status of a server over HTTP.
-use Rattle.std.specs.Prelude.{◌++◌, ◌+◌, ◌-◌, ◌^◌, min, ◌/◌, ◌%◌, ℕ, List, [], ◌∷◌, codes, if◌then◌else◌, Bool}
+use Rattle.std.specs.Prelude.{◌++◌, ◌+◌, ◌-◌, ◌^◌, min, ◌/◌, ◌%◌, ℕ, List, [], ◌∷◌, codes}
+use Rattle.std.specs.Prelude.{if◌then◌else◌, Bool}
 use Rattle.std.specs.Prelude.{true, false}
 use Rattle.std.specs.Prelude.{Option, Some, None}
 use Rattle.std.specs.Fmt.{decimal}
@@ -8,8 +9,8 @@ use Rattle.linda_shared_held.specs.declared.gauge.Gauge.{Gauge}
 use Rattle.linda_net_marks.specs.declared.counters.CounterValues.{CounterValues}
 use Rattle.linda_status.specs.declared.pages.PageKind.{PageKind}
 use Rattle.linda_status.specs.declared.pages.PageKind.TheVariants as forms
-use Rattle.linda_status.specs.declared.metric.Metric.{Metric}
-use Rattle.linda_status.specs.declared.metric.Metric.TheVariants as figures
+use Rattle.linda_status.specs.declared.metric.MetricId.{MetricId}
+use Rattle.linda_status.specs.declared.metric.MetricId.TheVariants as figures
 
 -- What is at a path, if anything is.
 abbrev pub form_at : List ℕ → Option PageKind
@@ -35,7 +36,7 @@ is_up false = 1
 
 -- What a number of a server comes to; so many clients are away and took a tuple by their last
 -- message.
-abbrev pub value_of : Metric → Gauge → CounterValues → ℕ → ℕ
+abbrev pub value_of : MetricId → Gauge → CounterValues → ℕ → ℕ
 value_of figures.Up gauge tally absent = is_up gauge.is_down
 value_of figures.Tuples gauge tally absent = gauge.tuples
 value_of figures.Waits gauge tally absent = gauge.waits

@@ -1,6 +1,6 @@
 //! Members of a JSON object that stay the same while a server serves.
 
-ghost use Rattle.std.specs.Prelude.{◌≡◌, OnOk};
+ghost use Rattle.std.specs.Prelude.{OnOk};
 ghost use Rattle.linda_inspect.specs.Json.{IsPushed};
 ghost use Rattle.linda_status.specs.About.{json_about, json_folder, json_place, json_places};
 ghost use Rattle.linda_status.specs.About.{json_port, json_socket, json_uptime, json_version};

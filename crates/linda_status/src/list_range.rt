@@ -1,6 +1,6 @@
 //! Query after the path of a list: which part of the list is asked for.
 
-ghost use Rattle.std.specs.Prelude.{◌≡◌, ◌≤◌, IfSome};
+ghost use Rattle.std.specs.Prelude.{◌≤◌, IfSome};
 
 use form_urlencoded::parse;
 use linda_tuple::{Atom, MAX_TEXT, Text};

@@ -107,7 +107,7 @@ fn push_rows(alloc: Global, out: &mut Vec<u8>, rows: &[ListedTuple]) -> Result<(
         return Ok(());
     };
     out.extend_from_slice(b"\n")?;
-    push_row(alloc, out, first)?;
+    push_tuple_row(alloc, out, first)?;
     push_later_rows(alloc, out, rest)
 }
 
@@ -127,12 +127,12 @@ fn push_later_row(alloc: Global, out: &mut Vec<u8>, row: &ListedTuple) -> Result
     ensures { OnOk result (IsPushed out.old out.new (json_later_row row.now)) }
 {
     out.extend_from_slice(b",\n")?;
-    push_row(alloc, out, row)
+    push_tuple_row(alloc, out, row)
 }
 
 // A tuple with its id, its text, for whom it is held and for how long.
 #[tactic(auto, unfolding(crate::specs::Listed::json_row))]
-fn push_row(alloc: Global, out: &mut Vec<u8>, row: &ListedTuple) -> Result<(), AllocError>
+fn push_tuple_row(alloc: Global, out: &mut Vec<u8>, row: &ListedTuple) -> Result<(), AllocError>
     ensures { OnOk result (IsPushed out.old out.new (json_row row.now)) }
 {
     push_placed(out, row.id, &row.tuple)?;

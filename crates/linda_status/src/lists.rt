@@ -83,7 +83,7 @@ fn gather<D: Disk, L: Ledger, R: Wait + Clock>(
         let Some(piece) = shared.list_tuples(rt, gathered.query())? else {
             return Ok(None);
         };
-        if !gathered.add(piece)? {
+        if !gathered.add_piece(piece)? {
             break;
         }
         let_others(rt);

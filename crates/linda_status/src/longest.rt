@@ -1,6 +1,6 @@
 //! Oldest waits and holds, as JSON.
 
-ghost use Rattle.std.specs.Prelude.{◌≡◌, OnOk};
+ghost use Rattle.std.specs.Prelude.{OnOk};
 ghost use Rattle.std.specs.List.{flat_map};
 ghost use Rattle.linda_inspect.specs.Json.{IsPushed};
 ghost use Rattle.linda_status.specs.Longest.{json_asked, json_asker, json_later_wait, json_longest};

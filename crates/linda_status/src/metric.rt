@@ -8,7 +8,7 @@ use linda_shared::Gauge;
 
 /// A number of a server.
 #[derive(Clone, Copy)]
-pub(crate) enum Metric {
+pub(crate) enum MetricId {
     /// Whether the server is up.
     Up,
     Tuples,
@@ -42,10 +42,10 @@ pub(crate) enum Metric {
     Took,
 }
 
-impl Metric {
+impl MetricId {
     /// Whether it is a time, in microseconds, which is written in seconds.
     pub(crate) fn is_time(self) -> bool {
-        matches!(self, Metric::Took)
+        matches!(self, MetricId::Took)
     }
 
     /// What it comes to; `absent` clients are away and took a tuple by their last message.
@@ -53,31 +53,31 @@ impl Metric {
         ensures { result ≡ value_of self gauge.now tally.now absent }
     {
         match self {
-            Metric::Up => u64::from(!gauge.is_down),
-            Metric::Tuples => gauge.tuples as u64,
-            Metric::Waits => gauge.waits as u64,
-            Metric::OldestWait => gauge.oldest_wait,
-            Metric::Holds => gauge.holds as u64,
-            Metric::OldestHold => gauge.oldest_hold,
-            Metric::Clients => gauge.clients as u64,
-            Metric::TakenByAbsent => absent,
-            Metric::Connections => connected(tally),
-            Metric::Came => tally.came,
-            Metric::Deeds => gauge.deeds,
-            Metric::Used => gauge.used as u64,
-            Metric::Limit => gauge.limit as u64,
-            Metric::Records => gauge.records as u64,
-            Metric::Next => gauge.next,
-            Metric::Full => tally.refused,
-            Metric::Busy => tally.turned.busy,
-            Metric::TooMany => tally.turned.clients,
-            Metric::Greetings => tally.turned.greetings,
-            Metric::Malformed => tally.turned.malformed,
-            Metric::Unserved => tally.closed.saturating_add(tally.missed),
-            Metric::Late => tally.late,
-            Metric::Groups => tally.groups,
-            Metric::Messages => tally.messages,
-            Metric::Took => tally.took,
+            MetricId::Up => u64::from(!gauge.is_down),
+            MetricId::Tuples => gauge.tuples as u64,
+            MetricId::Waits => gauge.waits as u64,
+            MetricId::OldestWait => gauge.oldest_wait,
+            MetricId::Holds => gauge.holds as u64,
+            MetricId::OldestHold => gauge.oldest_hold,
+            MetricId::Clients => gauge.clients as u64,
+            MetricId::TakenByAbsent => absent,
+            MetricId::Connections => connected(tally),
+            MetricId::Came => tally.came,
+            MetricId::Deeds => gauge.deeds,
+            MetricId::Used => gauge.used as u64,
+            MetricId::Limit => gauge.limit as u64,
+            MetricId::Records => gauge.records as u64,
+            MetricId::Next => gauge.next,
+            MetricId::Full => tally.refused,
+            MetricId::Busy => tally.turned.busy,
+            MetricId::TooMany => tally.turned.clients,
+            MetricId::Greetings => tally.turned.greetings,
+            MetricId::Malformed => tally.turned.malformed,
+            MetricId::Unserved => tally.closed.saturating_add(tally.missed),
+            MetricId::Late => tally.late,
+            MetricId::Groups => tally.groups,
+            MetricId::Messages => tally.messages,
+            MetricId::Took => tally.took,
         }
     }
 }

@@ -1,6 +1,6 @@
 //! Rows of the metrics: how the numbers of a server are named.
 
-use crate::metric::Metric;
+use crate::metric::MetricId;
 
 /// A value that goes up and down.
 const GAUGE: &str = "gauge";
@@ -11,7 +11,7 @@ const COUNTER: &str = "counter";
 /// A number, and how it is named.
 #[derive(Clone, Copy)]
 pub(crate) struct MetricRow {
-    pub(crate) figure: Metric,
+    pub(crate) figure: MetricId,
     /// The name of its metric, and its label, which others of that name have not.
     pub(crate) metric: &'static str,
     pub(crate) label: &'static str,
@@ -25,7 +25,7 @@ pub(crate) struct MetricRow {
 /// All of them, in their order.
 pub(crate) const ROWS: [MetricRow; 25] = [
     MetricRow {
-        figure: Metric::Up,
+        figure: MetricId::Up,
         metric: "linda_up",
         label: "",
         key: "up",
@@ -33,7 +33,7 @@ pub(crate) const ROWS: [MetricRow; 25] = [
         help: "1 if the server is up, 0 if it is down.",
     },
     MetricRow {
-        figure: Metric::Tuples,
+        figure: MetricId::Tuples,
         metric: "linda_tuples",
         label: "",
         key: "tuples",
@@ -41,7 +41,7 @@ pub(crate) const ROWS: [MetricRow; 25] = [
         help: "Tuples that are kept, held ones too.",
     },
     MetricRow {
-        figure: Metric::Waits,
+        figure: MetricId::Waits,
         metric: "linda_waits",
         label: "",
         key: "waits",
@@ -49,7 +49,7 @@ pub(crate) const ROWS: [MetricRow; 25] = [
         help: "Asks that wait for a tuple.",
     },
     MetricRow {
-        figure: Metric::OldestWait,
+        figure: MetricId::OldestWait,
         metric: "linda_oldest_wait_seconds",
         label: "",
         key: "oldest_wait_seconds",
@@ -57,7 +57,7 @@ pub(crate) const ROWS: [MetricRow; 25] = [
         help: "Seconds for which the oldest of them waits.",
     },
     MetricRow {
-        figure: Metric::Holds,
+        figure: MetricId::Holds,
         metric: "linda_holds",
         label: "",
         key: "holds",
@@ -65,7 +65,7 @@ pub(crate) const ROWS: [MetricRow; 25] = [
         help: "Tuples that are held for a client.",
     },
     MetricRow {
-        figure: Metric::OldestHold,
+        figure: MetricId::OldestHold,
         metric: "linda_oldest_hold_seconds",
         label: "",
         key: "oldest_hold_seconds",
@@ -73,7 +73,7 @@ pub(crate) const ROWS: [MetricRow; 25] = [
         help: "Seconds for which the oldest of them is held.",
     },
     MetricRow {
-        figure: Metric::Clients,
+        figure: MetricId::Clients,
         metric: "linda_clients",
         label: "",
         key: "clients",
@@ -81,7 +81,7 @@ pub(crate) const ROWS: [MetricRow; 25] = [
         help: "Clients for which a reply is kept.",
     },
     MetricRow {
-        figure: Metric::TakenByAbsent,
+        figure: MetricId::TakenByAbsent,
         metric: "linda_taken_by_absent",
         label: "",
         key: "taken_by_absent",
@@ -89,7 +89,7 @@ pub(crate) const ROWS: [MetricRow; 25] = [
         help: "Clients without a connection whose last message took a tuple.",
     },
     MetricRow {
-        figure: Metric::Connections,
+        figure: MetricId::Connections,
         metric: "linda_connections",
         label: "",
         key: "connections",
@@ -97,7 +97,7 @@ pub(crate) const ROWS: [MetricRow; 25] = [
         help: "Connections that are open.",
     },
     MetricRow {
-        figure: Metric::Came,
+        figure: MetricId::Came,
         metric: "linda_connections_total",
         label: "",
         key: "connections_total",
@@ -105,7 +105,7 @@ pub(crate) const ROWS: [MetricRow; 25] = [
         help: "Connections that came.",
     },
     MetricRow {
-        figure: Metric::Deeds,
+        figure: MetricId::Deeds,
         metric: "linda_deeds_total",
         label: "",
         key: "deeds_total",
@@ -113,7 +113,7 @@ pub(crate) const ROWS: [MetricRow; 25] = [
         help: "Deeds: what was put, taken, missed or left.",
     },
     MetricRow {
-        figure: Metric::Used,
+        figure: MetricId::Used,
         metric: "linda_bank_bytes",
         label: "",
         key: "bank_bytes",
@@ -121,7 +121,7 @@ pub(crate) const ROWS: [MetricRow; 25] = [
         help: "Bytes of the bank in use that are taken.",
     },
     MetricRow {
-        figure: Metric::Limit,
+        figure: MetricId::Limit,
         metric: "linda_bank_limit_bytes",
         label: "",
         key: "bank_limit_bytes",
@@ -129,7 +129,7 @@ pub(crate) const ROWS: [MetricRow; 25] = [
         help: "Bytes that a bank may take.",
     },
     MetricRow {
-        figure: Metric::Records,
+        figure: MetricId::Records,
         metric: "linda_records",
         label: "",
         key: "records",
@@ -137,7 +137,7 @@ pub(crate) const ROWS: [MetricRow; 25] = [
         help: "Records since the last snapshot.",
     },
     MetricRow {
-        figure: Metric::Next,
+        figure: MetricId::Next,
         metric: "linda_next_id",
         label: "",
         key: "next_id",
@@ -145,7 +145,7 @@ pub(crate) const ROWS: [MetricRow; 25] = [
         help: "The id that the next tuple gets.",
     },
     MetricRow {
-        figure: Metric::Full,
+        figure: MetricId::Full,
         metric: "linda_refusals_total",
         label: "{why=\"full\"}",
         key: "refusals_full",
@@ -153,7 +153,7 @@ pub(crate) const ROWS: [MetricRow; 25] = [
         help: "Refusals, by the reason.",
     },
     MetricRow {
-        figure: Metric::Busy,
+        figure: MetricId::Busy,
         metric: "linda_refusals_total",
         label: "{why=\"busy\"}",
         key: "refusals_busy",
@@ -161,7 +161,7 @@ pub(crate) const ROWS: [MetricRow; 25] = [
         help: "",
     },
     MetricRow {
-        figure: Metric::TooMany,
+        figure: MetricId::TooMany,
         metric: "linda_refusals_total",
         label: "{why=\"toomany\"}",
         key: "refusals_toomany",
@@ -169,7 +169,7 @@ pub(crate) const ROWS: [MetricRow; 25] = [
         help: "",
     },
     MetricRow {
-        figure: Metric::Greetings,
+        figure: MetricId::Greetings,
         metric: "linda_refusals_total",
         label: "{why=\"greetings\"}",
         key: "refusals_greetings",
@@ -177,7 +177,7 @@ pub(crate) const ROWS: [MetricRow; 25] = [
         help: "",
     },
     MetricRow {
-        figure: Metric::Malformed,
+        figure: MetricId::Malformed,
         metric: "linda_refusals_total",
         label: "{why=\"malformed\"}",
         key: "refusals_malformed",
@@ -185,7 +185,7 @@ pub(crate) const ROWS: [MetricRow; 25] = [
         help: "",
     },
     MetricRow {
-        figure: Metric::Unserved,
+        figure: MetricId::Unserved,
         metric: "linda_unserved_total",
         label: "",
         key: "unserved_total",
@@ -193,7 +193,7 @@ pub(crate) const ROWS: [MetricRow; 25] = [
         help: "Connections that were not served.",
     },
     MetricRow {
-        figure: Metric::Late,
+        figure: MetricId::Late,
         metric: "linda_late_total",
         label: "",
         key: "late_total",
@@ -201,7 +201,7 @@ pub(crate) const ROWS: [MetricRow; 25] = [
         help: "Connections whose lease ran out.",
     },
     MetricRow {
-        figure: Metric::Groups,
+        figure: MetricId::Groups,
         metric: "linda_groups_total",
         label: "",
         key: "groups_total",
@@ -209,7 +209,7 @@ pub(crate) const ROWS: [MetricRow; 25] = [
         help: "Groups of messages that were served.",
     },
     MetricRow {
-        figure: Metric::Messages,
+        figure: MetricId::Messages,
         metric: "linda_group_messages_total",
         label: "",
         key: "group_messages_total",
@@ -217,7 +217,7 @@ pub(crate) const ROWS: [MetricRow; 25] = [
         help: "Messages in those groups.",
     },
     MetricRow {
-        figure: Metric::Took,
+        figure: MetricId::Took,
         metric: "linda_group_seconds_total",
         label: "",
         key: "group_seconds_total",

@@ -1,6 +1,6 @@
 //! The numbers of a server as text for Prometheus, in the form 0.0.4.
 
-ghost use Rattle.std.specs.Prelude.{◌≡◌, ◌++◌, ◌∷◌, [], codes, IfOk};
+ghost use Rattle.std.specs.Prelude.{◌≡◌, ◌++◌, IfOk};
 ghost use Rattle.std.specs.String.{string_bytes};
 ghost use Rattle.linda_status.specs.Status.{sample, time_sample};
 

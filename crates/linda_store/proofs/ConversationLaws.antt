@@ -7,8 +7,8 @@ use Rattle.linda_wire.specs.declared.reply.Reply.{Reply}
 use Rattle.linda_wire.specs.Frames.{message_frame, FitsMessage}
 use Rattle.linda_wire.specs.Stream.{payload_len, Partial}
 use Rattle.linda_wire.specs.Stream.{message_front}
-use Rattle.linda_store.specs.declared.stage.Stage.{Stage}
-use Rattle.linda_store.specs.declared.stage.Stage.TheVariants as stages
+use Rattle.linda_store.specs.declared.connection_state.ConnectionState.{ConnectionState}
+use Rattle.linda_store.specs.declared.connection_state.ConnectionState.TheVariants as stages
 use Rattle.linda_store.specs.Turn.{Point}
 use Rattle.linda_store.specs.Conversation.{IsTalk, IsConversation, last_words}
 use Rattle.linda_store.proofs.RunLaws.{runs_then}
@@ -27,7 +27,8 @@ talk_then from mid to bytes piece rest later one two first second =
     }
 
 -- a conversation that goes on is a talk
-pub open_talk : (from to : Point) (bytes rest : List ℕ) (said : List Reply) → IsConversation from bytes said stages.Open rest to → IsTalk from bytes said rest to
+pub open_talk : (from to : Point) (bytes rest : List ℕ) (said : List Reply)
+    → IsConversation from bytes said stages.Open rest to → IsTalk from bytes said rest to
 open_talk from to bytes rest said talk =
     subst (λ (said : List Reply). IsTalk from bytes said rest to) (sym (talk.said_is ∙ append-nil talk.turns)) talk.talk
 
@@ -42,7 +43,7 @@ conversation_begins from opens =
     record { turns = []; talk = talk_begins from []; stands = nothing_whole; up = opens; said_is = refl }
 
 -- an open conversation goes on over what it left and one more piece
-pub conversation_goes_on : (from mid to : Point) (bytes piece rest later : List ℕ) (one two : List Reply) (stage : Stage)
+pub conversation_goes_on : (from mid to : Point) (bytes piece rest later : List ℕ) (one two : List Reply) (stage : ConnectionState)
     → IsConversation from bytes one stages.Open rest mid → IsConversation mid (rest ++ piece) two stage later to
     → IsConversation from (bytes ++ piece) (one ++ two) stage later to
 conversation_goes_on from mid to bytes piece rest later one two stage first second =

@@ -3,8 +3,8 @@ use Rattle.std.proofs.Common.{◌≡◌, ℕ, ◌+◌, ◌<◌, ◌≤◌, arith
 use Rattle.std.specs.Prelude.{Option, Ok, Err}
 use Rattle.std.specs.Io.KnownBytes.{Keeps, Consumes, Appends}
 use Rattle.std.proofs.lemmas.List.{length-append, length-take-le}
-use Rattle.linda_store.specs.declared.stage.Stage.{Stage}
-use Rattle.linda_store.specs.declared.stage.Stage.TheVariants as stages
+use Rattle.linda_store.specs.declared.connection_state.ConnectionState.{ConnectionState}
+use Rattle.linda_store.specs.declared.connection_state.ConnectionState.TheVariants as stages
 use Rattle.linda_store.specs.declared.end.End.TheVariants as ends
 use Rattle.linda_store.specs.declared.end.ConverseFault.{ConverseFault}
 use Rattle.linda_store.specs.declared.end.ConverseFault.TheVariants as faults
@@ -27,7 +27,8 @@ pub record IsTalking (node : Node) (input left output now : Option (List ℕ)) (
   pub not_spent : talker.is_spent ≡ false
   pub many : reads ≤ length read
 
-pub talking_begins : (node : Node) (input output : Option (List ℕ)) (talker : Session) → talker ≡ beginner → IsTalking node input input output output talker node 0
+pub talking_begins : (node : Node) (input output : Option (List ℕ)) (talker : Session) → talker ≡ beginner
+    → IsTalking node input input output output talker node 0
 talking_begins node input output talker begins =
     subst (λ (talker : Session). IsTalking node input input output output talker node 0) (sym begins) (record {
       read = [];
@@ -60,7 +61,8 @@ open_point : (talker : Session) (new : Node) → talker.stage ≡ stages.Open �
 open_point talker new opens = ap (λ stage. point_at new talker.greeted (is_up stage)) opens
 
 -- a piece was answered, and the connection stands so
-pub piece_answered : (reads : ℕ) (node : Node) (input left after output now later : Option (List ℕ)) (talker : Session) (was : Node) (piece : List ℕ) (stage : Stage) (next : Session) (new : Node)
+pub piece_answered : (reads : ℕ) (node : Node) (input left after output now later : Option (List ℕ))
+    (talker : Session) (was : Node) (piece : List ℕ) (stage : ConnectionState) (next : Session) (new : Node)
     → IsTalking node input left output now talker was reads → Consumes left after piece
     → HasReplied talker was piece now later (Ok stage) next new
     → (read : List ℕ) × ((written : List ℕ) × ((is_open : Bool) × (Consumes input after read × (Appends output later written
@@ -75,7 +77,8 @@ piece_answered reads node input left after output now later talker was piece sta
         Consumes-trans input left after talking.read piece talking.consumed consumed,
         (
           Appends-trans output now later talking.written replied.written talking.appended replied.appended,
-          written_then (beginning node) (point_at was talker.greeted true) (point_at new next.greeted replied.is_open) talking.read piece talker.unread next.unread talking.written replied.written stage talking.done
+          written_then (beginning node) (point_at was talker.greeted true) (point_at new next.greeted replied.is_open)
+              talking.read piece talker.unread next.unread talking.written replied.written stage talking.done
               (rw (open_point talker was talking.is_open) at replied.answers),
         ),
       ),
@@ -84,7 +87,8 @@ piece_answered reads node input left after output now later talker was piece sta
 )
 
 -- the conversation goes on
-pub goes_on : (reads : ℕ) (node : Node) (input left after output now later : Option (List ℕ)) (talker : Session) (was : Node) (piece : List ℕ) (next : Session) (new : Node)
+pub goes_on : (reads : ℕ) (node : Node) (input left after output now later : Option (List ℕ))
+    (talker : Session) (was : Node) (piece : List ℕ) (next : Session) (new : Node)
     → IsTalking node input left output now talker was reads → Consumes left after piece
     → HasReplied talker was piece now later (Ok stages.Open) next new
     → 0 < length piece → IsTalking node input after output later next new (reads + 1)
@@ -96,14 +100,16 @@ goes_on reads node input left after output now later talker was piece next new t
       written = all.1.0;
       consumed = all.1.1.1.0;
       appended = all.1.1.1.1.0;
-      done = subst (λ (is_open : Bool). IsWritten (beginning node) all.0 all.1.0 stages.Open next.unread (point_at new next.greeted is_open)) all.1.1.1.1.1.talk.up all.1.1.1.1.1;
+      done = subst (λ (is_open : Bool). IsWritten (beginning node) all.0 all.1.0 stages.Open next.unread
+          (point_at new next.greeted is_open)) all.1.1.1.1.1.talk.up all.1.1.1.1.1;
       is_open = replied.stage;
       not_spent = replied.not_spent;
       many = let longer : reads + 1 ≤ length (talking.read ++ piece) = omega (arith, talking.many, length-append talking.read piece) in longer;
     }
 
 -- a malformed frame ended it
-pub frame_ended : (reads : ℕ) (node : Node) (input left after output now later : Option (List ℕ)) (talker : Session) (was : Node) (piece : List ℕ) (detail : ℕ) (next : Session) (new : Node)
+pub frame_ended : (reads : ℕ) (node : Node) (input left after output now later : Option (List ℕ))
+    (talker : Session) (was : Node) (piece : List ℕ) (detail : ℕ) (next : Session) (new : Node)
     → IsTalking node input left output now talker was reads → Consumes left after piece
     → HasReplied talker was piece now later (Ok (stages.Malformed detail)) next new
     → HasEndedAt node input after output later (Ok (ends.Malformed detail)) new next.greeted
@@ -112,7 +118,8 @@ frame_ended reads node input left after output now later talker was piece detail
     (all.1.1.0, record { read = all.0; written = all.1.0; consumed = all.1.1.1.0; appended = all.1.1.1.1.0; ends = (next.unread, all.1.1.1.1.1) })
 
 -- the node went down
-pub down_ended : (reads : ℕ) (node : Node) (input left after output now later : Option (List ℕ)) (talker : Session) (was : Node) (piece : List ℕ) (next : Session) (new : Node)
+pub down_ended : (reads : ℕ) (node : Node) (input left after output now later : Option (List ℕ))
+    (talker : Session) (was : Node) (piece : List ℕ) (next : Session) (new : Node)
     → IsTalking node input left output now talker was reads → Consumes left after piece
     → HasReplied talker was piece now later (Ok stages.Down) next new
     → HasEndedAt node input after output later (Err faults.Down) new next.greeted
@@ -121,7 +128,8 @@ down_ended reads node input left after output now later talker was piece next ne
     (all.1.1.0, record { read = all.0; written = all.1.0; consumed = all.1.1.1.0; appended = all.1.1.1.1.0; ends = (next.unread, all.1.1.1.1.1) })
 
 -- the writer failed, or memory ran out
-pub piece_failed : (reads : ℕ) (node : Node) (input left after output now later : Option (List ℕ)) (talker : Session) (was : Node) (piece : List ℕ) (fault : ConverseFault) (next : Session) (new : Node)
+pub piece_failed : (reads : ℕ) (node : Node) (input left after output now later : Option (List ℕ))
+    (talker : Session) (was : Node) (piece : List ℕ) (fault : ConverseFault) (next : Session) (new : Node)
     → IsTalking node input left output now talker was reads → Consumes left after piece
     → HasReplied talker was piece now later (Err fault) next new
     → HasEndedAt node input after output later (Err fault) new next.greeted
@@ -132,7 +140,8 @@ piece_failed reads node input left after output now later talker was piece fault
     written = talking.written ++ replied.written;
     consumed = Consumes-trans input left after talking.read piece talking.consumed consumed;
     appended = Appends-trans output now later talking.written replied.written talking.appended replied.appended;
-    ends = part_then (beginning node) (point_at was talker.greeted true) (point_at new next.greeted replied.is_open) talking.read piece talker.unread talking.written replied.written talking.done
+    ends = part_then (beginning node) (point_at was talker.greeted true)
+        (point_at new next.greeted replied.is_open) talking.read piece talker.unread talking.written replied.written talking.done
         (rw (open_point talker was talking.is_open) at replied.answers);
   },
 )
@@ -143,7 +152,8 @@ piece_failed reads node input left after output now later talker was piece fault
     written = talking.written ++ replied.written;
     consumed = Consumes-trans input left after talking.read piece talking.consumed consumed;
     appended = Appends-trans output now later talking.written replied.written talking.appended replied.appended;
-    ends = broken_then (beginning node) (point_at was talker.greeted true) (point_at new next.greeted replied.is_open) talking.read piece talker.unread talking.written replied.written talking.done
+    ends = broken_then (beginning node) (point_at was talker.greeted true)
+        (point_at new next.greeted replied.is_open) talking.read piece talker.unread talking.written replied.written talking.done
         (rw (open_point talker was talking.is_open) at replied.answers);
   },
 )

@@ -1,3 +1,4 @@
+pub mod OffsetLaws
 pub mod ConversationLaws
 pub mod ConverseLaws
 pub mod ReplyLaws

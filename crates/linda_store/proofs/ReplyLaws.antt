@@ -4,7 +4,7 @@ use Rattle.std.specs.Prelude.{Option, Err}
 use Rattle.std.specs.List.{flat_map}
 use Rattle.linda_wire.specs.declared.reply.Reply.{Reply}
 use Rattle.linda_wire.specs.Frames.{reply_frame}
-use Rattle.linda_store.specs.declared.stage.Taken.{Taken}
+use Rattle.linda_store.specs.declared.connection_state.Taken.{Taken}
 use Rattle.linda_store.specs.declared.end.ConverseFault.{ConverseFault}
 use Rattle.linda_store.specs.declared.end.ConverseFault.TheVariants as faults
 use Rattle.linda_store.specs.Node.{Node}
@@ -28,7 +28,8 @@ gave_up_replied old was piece output new node given_up =
     }
 
 -- the replies of a piece went out in part, or not at all
-pub lost_replied : (old : Session) (was : Node) (piece : List ℕ) (output now : Option (List ℕ)) (taken : Taken) (replies : List Reply) (fault : ConverseFault) (new : Session) (node : Node)
+pub lost_replied : (old : Session) (was : Node) (piece : List ℕ) (output now : Option (List ℕ))
+    (taken : Taken) (replies : List Reply) (fault : ConverseFault) (new : Session) (node : Node)
     → replies ≡ taken.replies.items → HasTaken old was piece taken new node
     → HasWritten {A = Unit {0}} output now (flat_map reply_frame replies) (Err fault)
     → HasReplied old was piece output now (Err fault) new node
@@ -37,7 +38,14 @@ lost_replied old was piece output now taken replies faults.Write new node same t
       written = _;
       is_open = is_up new.stage;
       appended = written.1;
-      answers = record { said = taken.replies.items; stage = new.stage; rest = new.unread; count = written.0; talk = took.talk; spelled = ap (λ replies. take written.0 (flat_map reply_frame replies)) same };
+      answers = record {
+        said = taken.replies.items;
+        stage = new.stage;
+        rest = new.unread;
+        count = written.0;
+        talk = took.talk;
+        spelled = ap (λ replies. take written.0 (flat_map reply_frame replies)) same;
+      };
       stage = tt;
       not_spent = tt;
     }

@@ -17,5 +17,13 @@ pub runs_then : (from : Point) (ms ns : List Message) (one two : List Reply) (mi
 runs_then from [] ns one two mid to first second =
     rw first.0 (rw first.1 at second)
 runs_then from (m ∷ ms) ns one two mid to first second =
-    let step = first.1.1.1 in
-    (first.0, (first.1.0, (first.1.1.0 ++ two, (step.0, runs_then first.0 ms ns first.1.1.0 two mid to step.1 second, ap (λ said. said ++ two) step.2 ∙ append_assoc first.1.0 first.1.1.0 two))))
+    let step = first.1.1.1 in (
+      first.0,
+      (
+        first.1.0,
+        (
+          first.1.1.0 ++ two,
+          (step.0, runs_then first.0 ms ns first.1.1.0 two mid to step.1 second, ap (λ said. said ++ two) step.2 ∙ append_assoc first.1.0 first.1.1.0 two),
+        ),
+      ),
+    )

@@ -7,7 +7,8 @@ use Rattle.linda_store.specs.Node.{Node, NodeAnswer, Handles}
 use Rattle.linda_store.specs.Turn.{point_at, told, goes_on, IsAsked, IsTurnedAway, HasSaid}
 
 -- the node was asked, and its answer said
-pub asked_said : {E : Type 0} (c : ℕ) (m : Message) (greets : NodeAnswer → Option ℕ) (node now : Node) (was : Option ℕ) (answer : NodeAnswer) (result : Result Bool E) (old new : List Reply)
+pub asked_said : {E : Type 0} (c : ℕ) (m : Message) (greets : NodeAnswer → Option ℕ) (node now : Node)
+    (was : Option ℕ) (answer : NodeAnswer) (result : Result Bool E) (old new : List Reply)
     → Handles node c m answer now
     → OnOk result (new ≡ old ++ told c answer)
     → IfOk result (λ is_open. is_open ≡ goes_on answer)

@@ -1,5 +1,6 @@
 -- What comes to a server leaves it sound, and what it sends reports only its deeds.
-use Rattle.std.proofs.Common.{◌≡◌, ℕ, Bool, true, false, true≢false, List, [], ◌∷◌, ◌++◌, option_to_list, All, refl, sym, ap, ◌∙◌, subst, append-nil, append_assoc}
+use Rattle.std.proofs.Common.{◌≡◌, ℕ, Bool, true, false, true≢false, List, [], ◌∷◌, ◌++◌, option_to_list, All, refl}
+use Rattle.std.proofs.Common.{sym, ap, ◌∙◌, subst, append-nil, append_assoc}
 use Rattle.std.proofs.lemmas.List.Elements.{All-nil, All-append, All-weaker}
 use Rattle.linda_wire.specs.declared.reply.Reply.{Reply}
 use Rattle.linda_store_state.specs.declared.deed.Deed.{Deed}
@@ -50,13 +51,15 @@ pub record Stands (ds : List Deed) (now : State) (soft : Soft) (sends : List (�
   pub backed : AreBacked ds sends
 
 -- what is kept after deeds is backed by them
-kept_backed : (ds : List Deed) (st : State) (sends : List (ℕ × Reply)) → IsAfter empty_state ds st → All (λ (s : ℕ × Reply). reports_deed s.1 ≡ true → KeepsReply st s.0 s.1) sends → AreBacked ds sends
+kept_backed : (ds : List Deed) (st : State) (sends : List (ℕ × Reply)) → IsAfter empty_state ds st
+    → All (λ (s : ℕ × Reply). reports_deed s.1 ≡ true → KeepsReply st s.0 s.1) sends → AreBacked ds sends
 kept_backed ds st sends after kept =
     All-weaker (λ (s : ℕ × Reply). reports_deed s.1 ≡ true → KeepsReply st s.0 s.1) (λ (s : ℕ × Reply). reports_deed s.1 ≡ true → ReportsOne ds s.0 s.1)
     (λ s k tells. book_reports ds st s.0 s.1 after (k tells)) sends kept
 
 -- One thing more leaves it so.
-came : (mid new : State) (soft : Soft) (x : Coming) (ds : List Deed) (before : List (ℕ × Reply)) (answered : Answer) → Stands ds mid soft before → Comes mid soft x answered new
+came : (mid new : State) (soft : Soft) (x : Coming) (ds : List Deed) (before : List (ℕ × Reply)) (answered : Answer)
+    → Stands ds mid soft before → Comes mid soft x answered new
     → Stands (ds ++ option_to_list answered.deed) new answered.soft (before ++ answered.sends)
 came mid new soft (says c m) ds before answered stands step =
     let done = step_proper empty_state mid new soft ds c m answered empty_is_state stands.proper stands.after step in
@@ -81,7 +84,8 @@ came mid new soft (hangs_up c) ds before answered stands closed =
     })))
 
 -- So do many things.
-pub happened : (mid : State) (soft : Soft) (xs : List Coming) (ds : List Deed) (before : List (ℕ × Reply)) (all : History) → Stands ds mid soft before → Happens mid soft xs all
+pub happened : (mid : State) (soft : Soft) (xs : List Coming) (ds : List Deed) (before : List (ℕ × Reply)) (all : History)
+    → Stands ds mid soft before → Happens mid soft xs all
     → Stands (ds ++ all.deeds) all.state all.soft (before ++ all.sends)
 happened mid soft [] ds before all stands happens =
     subst (λ (a : History). Stands (ds ++ a.deeds) a.state a.soft (before ++ a.sends)) (sym happens)
@@ -92,11 +96,18 @@ happened mid soft (x ∷ xs) ds before all stands happens =
     subst (λ (a : History). Stands (ds ++ a.deeds) a.state a.soft (before ++ a.sends)) (sym happens.1.1.1.1.1)
     (subst (λ l. Stands l later.state later.soft (before ++ (first.sends ++ later.sends))) (append_assoc ds (option_to_list first.deed) later.deeds)
     (subst (λ l. Stands ((ds ++ option_to_list first.deed) ++ later.deeds) later.state later.soft l) (append_assoc before first.sends later.sends)
-    (happened happens.1.0 first.soft xs (ds ++ option_to_list first.deed) (before ++ first.sends) later (came mid happens.1.0 soft x ds before first stands happens.1.1.1.0) happens.1.1.1.1.0)))
+    (happened happens.1.0 first.soft xs (ds ++ option_to_list first.deed) (before ++ first.sends) later
+    (came mid happens.1.0 soft x ds before first stands happens.1.1.1.0) happens.1.1.1.1.0)))
 
 module _ (ds : List Deed) (old : Node) (sound : IsSound ds old) where
   begins : old.is_down ≡ false → Stands ds old.state old.soft []
-  begins up = record { proper = sound.proper; after = sound.after; orderly = sound.orderly up; backed = All-nil (λ (s : ℕ × Reply). reports_deed s.1 ≡ true → ReportsOne ds s.0 s.1) }
+  begins up = record {
+    proper = sound.proper;
+    after = sound.after;
+    orderly = sound.orderly up;
+    backed =
+        All-nil (λ (s : ℕ × Reply). reports_deed s.1 ≡ true → ReportsOne ds s.0 s.1);
+  }
 
   -- What may remain of a call goes on from what was done.
   remains_proper : (xs : List Coming) (es : List Deed) → old.is_down ≡ false → MayRemain old xs es → IsProper empty_state (ds ++ es)
@@ -146,12 +157,16 @@ module _ (ds : List Deed) (old : Node) (sound : IsSound ds old) where
 
   opened : (xs : List Coming) (es : List Deed) (new : Node) → IsOpened old xs es new → IsSound (ds ++ es) new
   opened xs es new is_open =
-      let proper : IsProper empty_state (ds ++ es) = by_down (IsProper empty_state (ds ++ es)) (λ up. remains_proper xs es up (is_open.from_up up)) (λ down. front_goes_on es old.lost (is_open.from_down down) (sound.lost down)) in
-      let after : IsAfter empty_state (ds ++ es) new.state = joined_after empty_state old.state new.state ds es sound.after is_open.state_is (takes_below empty_state ds empty_is_state sound.proper) in
+      let proper : IsProper empty_state (ds ++ es) =
+      by_down (IsProper empty_state (ds ++ es)) (λ up. remains_proper xs es up (is_open.from_up up))
+      (λ down. front_goes_on es old.lost (is_open.from_down down) (sound.lost down)) in
+      let after : IsAfter empty_state (ds ++ es) new.state =
+      joined_after empty_state old.state new.state ds es sound.after is_open.state_is (takes_below empty_state ds empty_is_state sound.proper) in
       record {
         proper = proper;
         after = after;
-        orderly = λ _. subst (IsOrderly new.state) (sym is_open.soft_is) (no_asks_orderly new.state (proper_state empty_state new.state (ds ++ es) empty_is_state proper after));
+        orderly = λ _. subst (IsOrderly new.state) (sym is_open.soft_is)
+            (no_asks_orderly new.state (proper_state empty_state new.state (ds ++ es) empty_is_state proper after));
         lost = λ down. absurd (true≢false (sym down ∙ is_open.is_up));
       }
 

@@ -9,8 +9,8 @@ use Rattle.std.proofs.lemmas.List.{append-nil}
 use Rattle.std.proofs.lemmas.List.Elements.{All-nil, All-cons, All-append}
 use Rattle.std.proofs.lemmas.List.Concat.{flat_map-cons}
 use Rattle.std.proofs.lemmas.Grind.{flat_map-append}
-use Rattle.linda_store.specs.declared.stage.Stage.{Stage}
-use Rattle.linda_store.specs.declared.stage.Stage.TheVariants as stages
+use Rattle.linda_store.specs.declared.connection_state.ConnectionState.{ConnectionState}
+use Rattle.linda_store.specs.declared.connection_state.ConnectionState.TheVariants as stages
 use Rattle.linda_store.specs.Node.{Node}
 use Rattle.linda_store.specs.Turn.{Point, point_at, Turns}
 use Rattle.linda_store.specs.Conversation.{IsTalk, IsConversation, IsGivenUp, HasAnswered}
@@ -85,7 +85,8 @@ told_lost from mid node greeted bytes old rest m before replies told frame said 
     (told.0 ++ said.0, (rest, (said.1.0, talk_turns from mid (point_at node greeted said.1.0) bytes old rest told.0 said.0 m told.1.0 frame said.1.1)))
 
 -- an answer that is an error says no more than that the talk was given up
-pub lost_answered : {E : Type 0} (from : Point) (bytes rest : List ℕ) (before now : List Reply) (node : Node) (greeted : Option ℕ) (result : Result Stage E)
+pub lost_answered : {E : Type 0} (from : Point) (bytes rest : List ℕ) (before now : List Reply) (node : Node) (greeted : Option ℕ)
+    (result : Result ConnectionState E)
     → IsErr result → IsGivenUp from bytes node greeted → HasAnswered from bytes before result rest now node greeted
 lost_answered from bytes rest before now node greeted (Ok stage) err given_up = let no : ⊥ = cc err in absurd no
 lost_answered from bytes rest before now node greeted (Err fault) err given_up = given_up

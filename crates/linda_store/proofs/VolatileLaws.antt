@@ -18,14 +18,17 @@ state_up before store up = cond-false store.is_spent _ _ up
 
 module _ (before after : State) (old new : Store) (up : old.is_spent ≡ false) (xs : List Coming) where
   -- What came was done.
-  pub done : (ds : List Deed) (sends : List (ℕ × Reply)) → new.is_spent ≡ false → Happens old.state old.soft xs (record { deeds = ds; sends = sends; soft = new.soft; state = new.state })
+  pub done : (ds : List Deed) (sends : List (ℕ × Reply)) → new.is_spent ≡ false
+      → Happens old.state old.soft xs (record { deeds = ds; sends = sends; soft = new.soft; state = new.state })
       → IsDone (shown before old) xs ds sends (shown after new)
   done ds sends still happens = record {
     was_up = up;
     is_up = still;
     kind = refl;
-    happens = subst (λ s. Happens s old.soft xs (record { deeds = ds; sends = sends; soft = new.soft; state = (shown after new).state })) (sym (state_up before old up))
-        (subst (λ s. Happens old.state old.soft xs (record { deeds = ds; sends = sends; soft = new.soft; state = s })) (sym (state_up after new still)) happens);
+    happens = subst (λ s. Happens s old.soft xs (record { deeds = ds; sends = sends; soft = new.soft; state = (shown after new).state }))
+        (sym (state_up before old up))
+        (subst (λ s. Happens old.state old.soft xs (record { deeds = ds; sends = sends; soft = new.soft; state = s }))
+        (sym (state_up after new still)) happens);
   }
 
   -- Memory ran out.
@@ -40,7 +43,8 @@ module _ (before after : State) (old new : Store) (up : old.is_spent ≡ false) 
 
   -- What came was done, and nothing is held and nobody waits.
   pub opened : (mid : Store) (ds : List Deed) (sends : List (ℕ × Reply)) → IsOrderly old.state old.soft → mid.is_spent ≡ false
-      → Happens old.state old.soft xs (record { deeds = ds; sends = sends; soft = mid.soft; state = mid.state }) → new ≡ record { state = mid.state; soft = no_asks; is_spent = mid.is_spent }
+      → Happens old.state old.soft xs (record { deeds = ds; sends = sends; soft = mid.soft; state = mid.state })
+      → new ≡ record { state = mid.state; soft = no_asks; is_spent = mid.is_spent }
       → IsOpened (shown before old) xs ds (shown after new)
   opened mid ds sends orderly still happens new_is =
       let all : History = record { deeds = ds; sends = sends; soft = mid.soft; state = mid.state } in

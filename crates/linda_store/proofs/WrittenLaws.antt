@@ -5,8 +5,8 @@ use Rattle.std.proofs.lemmas.Grind.{flat_map-append}
 use Rattle.std.proofs.Math.Seq.{take-append-add}
 use Rattle.linda_wire.specs.declared.reply.Reply.{Reply}
 use Rattle.linda_wire.specs.Frames.{reply_frame}
-use Rattle.linda_store.specs.declared.stage.Stage.{Stage}
-use Rattle.linda_store.specs.declared.stage.Stage.TheVariants as stages
+use Rattle.linda_store.specs.declared.connection_state.ConnectionState.{ConnectionState}
+use Rattle.linda_store.specs.declared.connection_state.ConnectionState.TheVariants as stages
 use Rattle.linda_store.specs.Turn.{Point}
 use Rattle.linda_store.specs.Converse.{IsWritten, IsWrittenInPart, IsBrokenOff}
 use Rattle.linda_store.proofs.ConversationLaws.{open_talk, talk_then, conversation_begins, conversation_goes_on}
@@ -16,10 +16,11 @@ part_spelled : (one two : List ℕ) (said more : List Reply) (count : ℕ)
     → one ≡ flat_map reply_frame said → two ≡ take count (flat_map reply_frame more)
     → one ++ two ≡ take (length one + count) (flat_map reply_frame (said ++ more))
 part_spelled one two said more count first second =
-    let whole : flat_map reply_frame (said ++ more) ≡ one ++ flat_map reply_frame more = flat_map-append reply_frame said more ∙ ap (λ bytes. bytes ++ flat_map reply_frame more) (sym first) in
+    let whole : flat_map reply_frame (said ++ more) ≡ one ++ flat_map reply_frame more =
+    flat_map-append reply_frame said more ∙ ap (λ bytes. bytes ++ flat_map reply_frame more) (sym first) in
     ap (λ bytes. one ++ bytes) second ∙ sym (take-append-add one (flat_map reply_frame more) count) ∙ ap (take (length one + count)) (sym whole)
 
-pub written_then : (from mid to : Point) (bytes piece rest later one two : List ℕ) (stage : Stage)
+pub written_then : (from mid to : Point) (bytes piece rest later one two : List ℕ) (stage : ConnectionState)
     → IsWritten from bytes one stages.Open rest mid → IsWritten mid (rest ++ piece) two stage later to
     → IsWritten from (bytes ++ piece) (one ++ two) stage later to
 written_then from mid to bytes piece rest later one two stage first second =

@@ -5,8 +5,8 @@ use Rattle.std.specs.List.{flat_map}
 use Rattle.std.specs.Io.KnownBytes.{Consumes, Appends, IsAtEnd}
 use Rattle.linda_wire.specs.declared.reply.Reply.{Reply}
 use Rattle.linda_wire.specs.Frames.{reply_frame}
-use Rattle.linda_store.specs.declared.stage.Stage.{Stage}
-use Rattle.linda_store.specs.declared.stage.Stage.TheVariants as stages
+use Rattle.linda_store.specs.declared.connection_state.ConnectionState.{ConnectionState}
+use Rattle.linda_store.specs.declared.connection_state.ConnectionState.TheVariants as stages
 use Rattle.linda_store.specs.declared.conversation.TheConstants.{MAX_READS}
 use Rattle.linda_store.specs.declared.end.End.{End}
 use Rattle.linda_store.specs.declared.end.End.TheVariants as ends
@@ -18,7 +18,8 @@ use Rattle.linda_store.specs.Conversation.{IsTalk, IsConversation}
 use Rattle.linda_store.specs.Session.{Session, point_of}
 
 -- All that came was answered, up to a rest, and all of the answers were written.
-pub record IsWritten (from : Point) (read written : List ℕ) (stage : Stage) (rest : List ℕ)
+pub record IsWritten (from : Point) (read written : List ℕ) (stage : ConnectionState)
+    (rest : List ℕ)
     (to : Point) : Type 0 where
   pub said : List Reply
   pub talk : IsConversation from read said stage rest to
@@ -27,7 +28,7 @@ pub record IsWritten (from : Point) (read written : List ℕ) (stage : Stage) (r
 -- All that came was answered, up to a rest, and a prefix of the answers was written.
 pub record IsWrittenInPart (from : Point) (read written : List ℕ) (to : Point) : Type 0 where
   pub said : List Reply
-  pub stage : Stage
+  pub stage : ConnectionState
   pub rest : List ℕ
   pub count : ℕ
   pub talk : IsConversation from read said stage rest to
@@ -43,7 +44,8 @@ pub record IsBrokenOff (from : Point) (read written : List ℕ) (to : Point) : T
 
 -- What was done with bytes that were there, if nothing but the writer or memory may fail: all is
 -- answered and written, up to a rest, and the connection stands so; or some of it.
-abbrev pub AnswersSo : Result Stage ConverseFault → Point → List ℕ → List ℕ → List ℕ → Point
+abbrev pub AnswersSo : Result ConnectionState ConverseFault → Point → List ℕ → List ℕ → List ℕ
+    → Point
     → Type 0
 AnswersSo (Ok stage) from bytes written rest to = IsWritten from bytes written stage rest to
 AnswersSo (Err faults.Write) from bytes written rest to = IsWrittenInPart from bytes written to
@@ -54,7 +56,7 @@ AnswersSo (Err faults.Down) from bytes written rest to = ⊥
 
 -- A session that was open took a piece and put bytes after those of a writer.
 pub record HasReplied (old : Session) (was : Node) (piece : List ℕ) (output now : Option (List ℕ))
-    (result : Result Stage ConverseFault) (new : Session) (node : Node) : Type 0 where
+    (result : Result ConnectionState ConverseFault) (new : Session) (node : Node) : Type 0 where
   pub written : List ℕ
   pub is_open : Bool
   pub appended : Appends output now written

@@ -1,9 +1,9 @@
 -- Session as contracts see it, and what it did with a piece of a stream.
 use Rattle.std.specs.Prelude.{◌≡◌, ℕ, Bool, true, false, List, [], ◌++◌, Option, None, Result, Ok}
 use Rattle.std.specs.Prelude.{Err}
-use Rattle.linda_store.specs.declared.stage.Stage.{Stage}
-use Rattle.linda_store.specs.declared.stage.Stage.TheVariants as stages
-use Rattle.linda_store.specs.declared.stage.Taken.{Taken}
+use Rattle.linda_store.specs.declared.connection_state.ConnectionState.{ConnectionState}
+use Rattle.linda_store.specs.declared.connection_state.ConnectionState.TheVariants as stages
+use Rattle.linda_store.specs.declared.connection_state.Taken.{Taken}
 use Rattle.linda_store.specs.Node.{Node}
 use Rattle.linda_store.specs.Turn.{Point, point_at}
 use Rattle.linda_store.specs.Conversation.{is_up, stays_open, IsConversation, IsGivenUp}
@@ -13,7 +13,7 @@ use Rattle.linda_store.specs.Conversation.{is_up, stays_open, IsConversation, Is
 pub record Session : Type 0 where
   pub greeted : Option ℕ
   pub unread : List ℕ
-  pub stage : Stage
+  pub stage : ConnectionState
   pub is_spent : Bool
 
 -- a session that began

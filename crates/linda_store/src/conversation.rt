@@ -1,17 +1,17 @@
 //! A whole conversation over a reader and a writer.
 
-ghost use Rattle.std.specs.Prelude.{◌≡◌, ◌≤◌, false, length, take, IfOk, IfErr, OnErr};
+ghost use Rattle.std.specs.Prelude.{◌≡◌, ◌≤◌, false, length, take, IfOk, IfErr};
 ghost use Rattle.std.specs.Io.KnownBytes.{Consumes, Keeps, IsAtEnd};
-ghost use Rattle.linda_store.specs.declared.stage.Stage.TheVariants.{Open};
+ghost use Rattle.linda_store.specs.declared.connection_state.ConnectionState.TheVariants.{Open};
 ghost use Rattle.linda_store.specs.declared.end.ConverseFault.TheVariants.{Read as ReadFault};
 ghost use Rattle.linda_store.specs.Session.{beginner};
 ghost use Rattle.linda_store.specs.Converse.{HasEndedAt, HasReplied, IsLeft, HasConversed};
 
+use crate::connection_state::ConnectionState;
 use crate::end::{ConverseFault, End};
 use crate::node::Node;
 use crate::sending::write_replies;
 use crate::session::Session;
-use crate::stage::Stage;
 use std::alloc::Global;
 use std::io::{Read, Write};
 
@@ -67,9 +67,9 @@ fn talk<N: Node, R: Read, W: Write>(
             });
         }
         match answer(alloc, session, node, writer, &buffer[..len])? {
-            Stage::Open => {}
-            Stage::Malformed(detail) => return Ok(End::Malformed(detail)),
-            Stage::Down => return Err(ConverseFault::Down),
+            ConnectionState::Open => {}
+            ConnectionState::Malformed(detail) => return Ok(End::Malformed(detail)),
+            ConnectionState::Down => return Err(ConverseFault::Down),
         }
     }
     Err(ConverseFault::Turns)
@@ -96,7 +96,7 @@ fn answer<N: Node, W: Write>(
     node: &mut N,
     writer: &mut W,
     piece: &[u8],
-) -> Result<Stage, ConverseFault>
+) -> Result<ConnectionState, ConverseFault>
     requires is_open { session.old.stage ≡ Open }
     requires not_spent { session.old.is_spent ≡ false }
     ensures { HasReplied session.old (N.shown node.old) piece.now (W.contents writer.old)

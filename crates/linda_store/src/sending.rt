@@ -1,6 +1,6 @@
 //! Writing replies and whole buffers, so that it is known what went out even if a write fails.
 
-ghost use Rattle.std.specs.Prelude.{◌≡◌, ◌<◌, ◌≤◌, ℕ, length, take, IfOk, OnOk, OnErr};
+ghost use Rattle.std.specs.Prelude.{◌≡◌, ◌<◌, ◌≤◌, length, take, IfOk, OnErr};
 ghost use Rattle.std.specs.List.{flat_map};
 ghost use Rattle.linda_wire.specs.Frames.{reply_frame};
 ghost use Rattle.std.specs.Io.KnownBytes.{Keeps, Appends};

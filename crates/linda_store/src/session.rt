@@ -5,13 +5,13 @@ ghost use Rattle.std.specs.Prelude.{IsErr, MatchResult};
 ghost use Rattle.linda_wire.specs.Refusal.{refused};
 ghost use Rattle.linda_wire.specs.declared.refusal.Refusal.TheVariants as refusals;
 ghost use Rattle.linda_wire.specs.declared.fault.FrameFault.TheVariants.{Memory};
-ghost use Rattle.linda_store.specs.declared.stage.Stage.TheVariants.{Open, Malformed};
+ghost use Rattle.linda_store.specs.declared.connection_state.ConnectionState.TheVariants as states;
 ghost use Rattle.linda_store.specs.Conversation.{HasAnswered, detail_of};
 ghost use Rattle.linda_store.specs.Session.{beginner, AnswersPiece, StaysSilent};
 ghost use Rattle.linda_store.specs.Turn.{point_at};
 
+use crate::connection_state::{ConnectionState, Taken};
 use crate::node::Node;
-use crate::stage::{Stage, Taken};
 use crate::turn::turn;
 use linda_wire::{Feed, FrameFault, Refusal, Reply};
 use std::alloc::{AllocError, Global};
@@ -22,7 +22,7 @@ use std::marker::Model;
 pub struct Session {
     feed: Feed,
     greeted: Option<u32>,
-    stage: Stage,
+    stage: ConnectionState,
     // Whether memory ran out.
     spent: bool,
 }
@@ -59,7 +59,7 @@ impl Session {
         Session {
             feed: Feed::new(alloc),
             greeted: None,
-            stage: Stage::Open,
+            stage: ConnectionState::Open,
             spent: false,
         }
     }
@@ -72,7 +72,7 @@ impl Session {
     }
 
     /// How the connection stands.
-    pub fn stage(&self) -> Stage
+    pub fn stage(&self) -> ConnectionState
         ensures { result ≡ self.now.stage }
     {
         self.stage
@@ -98,10 +98,10 @@ impl Session {
         node: &mut N,
         piece: &[u8],
     ) -> Result<Taken, AllocError>
-        ensures open { self.old.is_spent ≡ false → self.old.stage ≡ Open
+        ensures open { self.old.is_spent ≡ false → self.old.stage ≡ states.Open
             → AnswersPiece self.old (N.shown node.old) piece.now result self.new
             (N.shown node.new) }
-        ensures ended { self.old.is_spent ≡ false → self.old.stage ≢ Open
+        ensures ended { self.old.is_spent ≡ false → self.old.stage ≢ states.Open
             → MatchResult result
             (λ taken. StaysSilent self.old (N.shown node.old) taken self.new (N.shown node.new))
             (λ _. ⊥) }
@@ -143,7 +143,7 @@ fn answer_piece<N: Node>(
     node: &mut N,
     piece: &[u8],
     replies: &mut Vec<Reply>,
-) -> Result<Stage, AllocError>
+) -> Result<ConnectionState, AllocError>
     ensures { HasAnswered (point_at (N.shown node.old) greeted.old true) (feed.old ++ piece.now)
         replies.old.items
         result feed.new replies.new.items (N.shown node.new) greeted.new }
@@ -159,7 +159,7 @@ fn answer_messages<N: Node>(
     greeted: &mut Option<u32>,
     node: &mut N,
     replies: &mut Vec<Reply>,
-) -> Result<Stage, AllocError>
+) -> Result<ConnectionState, AllocError>
     ensures { HasAnswered (point_at (N.shown node.old) greeted.old true) feed.old replies.old.items
         result feed.new replies.new.items (N.shown node.new) greeted.new }
 {
@@ -168,10 +168,10 @@ fn answer_messages<N: Node>(
             Ok(found) => match found {
                 Some(message) => {
                     if !turn(alloc, greeted, node, &message, replies)? {
-                        return Ok(Stage::Down);
+                        return Ok(ConnectionState::Down);
                     }
                 }
-                None => return Ok(Stage::Open),
+                None => return Ok(ConnectionState::Open),
             },
             Err(fault) => return refuse_frame(fault, replies),
         }
@@ -179,25 +179,23 @@ fn answer_messages<N: Node>(
 }
 
 // Refuses a frame that is no message, which ends the connection.
-fn refuse_frame(fault: FrameFault, replies: &mut Vec<Reply>) -> Result<Stage, AllocError>
+fn refuse_frame(fault: FrameFault, replies: &mut Vec<Reply>) -> Result<ConnectionState, AllocError>
     ensures broken { IfOk result (λ stage. (fault ≢ Memory)
-        × (stage ≡ Malformed (detail_of fault))) }
+        × (stage ≡ states.Malformed (detail_of fault))) }
     ensures told { OnOk result (replies.new.items
         ≡ replies.old.items ++ refused (refusals.Malformed (detail_of fault)) ∷ []) }
 {
     let detail = detail_of(fault)?;
     replies.push(Refusal::Malformed(detail).reply())?;
-    Ok(Stage::Malformed(detail))
+    Ok(ConnectionState::Malformed(detail))
 }
 
 // The offset that is reported to the client for a fault of a frame; `Memory` is none.
 fn detail_of(fault: FrameFault) -> Result<u32, AllocError>
     ensures { IfOk result (λ detail. (fault ≢ Memory) × (detail ≡ detail_of fault)) }
 {
-    match fault {
-        FrameFault::Memory => Err(AllocError),
-        FrameFault::EmptyFrame => Ok(0),
-        FrameFault::FrameTooLong(_) => Ok(0),
-        FrameFault::Malformed(offset) => Ok(offset),
+    match fault.offset() {
+        Some(offset) => Ok(offset),
+        None => Err(AllocError),
     }
 }

@@ -12,7 +12,7 @@ use linda_bag::IndexBag;
 use linda_disk::Torn;
 use linda_hold::Holds;
 use linda_store_state::{Deed, State};
-use linda_store_step::{Step, Steps, Store};
+use linda_store_step::{Served, Step, Store};
 use linda_wire::{Message, Reply};
 use std::alloc::{AllocError, Global};
 use std::snapshot::Snapshot;
@@ -103,8 +103,8 @@ impl Node for Volatile {
         }
         self.before = Snapshot::of(self.store.state());
         match self.store.step_all(alloc, messages) {
-            Ok(steps) => {
-                let Steps { sends, .. } = steps;
+            Ok(served) => {
+                let Served { sends, .. } = served;
                 Ok(sends)
             }
             Err(_) => Err(NodeFault::Down),
@@ -143,8 +143,8 @@ impl Node for Volatile {
         }
         self.before = Snapshot::of(self.store.state());
         match do_work(alloc, &mut self.store, work) {
-            Ok(steps) => {
-                let Steps { deeds, .. } = steps;
+            Ok(served) => {
+                let Served { deeds, .. } = served;
                 self.store.forget(alloc);
                 Ok(deeds)
             }
@@ -158,7 +158,7 @@ impl Node for Volatile {
 }
 
 // Does all of the work.
-fn do_work(alloc: Global, store: &mut Store<IndexBag>, work: Work) -> Result<Steps, AllocError>
+fn do_work(alloc: Global, store: &mut Store<IndexBag>, work: Work) -> Result<Served, AllocError>
     ensures ok { IfOk result (λ s. Happens store.old.state store.old.soft (in_hand work)
         (record {
           deeds = s.deeds.items;

@@ -32,7 +32,10 @@ deed_bodies form = (
   body_is (out_is form) (format.spell_deed form) (format.FitsDeed form) (kind.OUT ∷ []) (λ p. Out p.0 p.1.0 p.1.1) (λ p. refl) (λ p fits. fits),
   (
     body_is reference_is (format.spell_deed form) (format.FitsDeed form) (kind.TAKE ∷ []) (λ p. Take p.0 p.1.0 p.1.1) (λ p. refl) (λ p fits. fits),
-    (body_is reference_is (format.spell_deed form) (format.FitsDeed form) (kind.PASS ∷ []) (λ p. Pass p.0 p.1.0 p.1.1) (λ p. refl) (λ p fits. fits), leave_bodies form),
+    (
+      body_is reference_is (format.spell_deed form) (format.FitsDeed form) (kind.PASS ∷ []) (λ p. Pass p.0 p.1.0 p.1.1) (λ p. refl) (λ p fits. fits),
+      leave_bodies form,
+    ),
   ),
 )
 
@@ -44,7 +47,8 @@ deed_again One (Leave client n) rest fits = absurd fits.0
 deed_again Two (Leave client n) rest fits = made_again leave_is format.leave_of (client, n) rest fits.1
 
 pub deed_is : (form : Form) → IsFormat (format.deed form)
-deed_is form = choice_is (format.spell_deed form) (format.FitsDeed form) (format.deed_kinds form) no_kind (deed_bodies form) (no_kind_is (format.spell_deed form) (format.FitsDeed form)) (deed_again form)
+deed_is form = choice_is (format.spell_deed form) (format.FitsDeed form) (format.deed_kinds form) no_kind
+    (deed_bodies form) (no_kind_is (format.spell_deed form) (format.FitsDeed form)) (deed_again form)
 
 -- ---- how many bytes
 
@@ -76,5 +80,6 @@ module _ (form : Form) (bytes rest : List ℕ) where
   pass_at e = rw e refl
 
 -- An Out does, where after its kind byte its parts do.
-pub out_there : (form : Form) (bytes rest : List ℕ) → bytes ≡ kind.OUT ∷ rest → IsOk (made_at (λ p. Out p.0 p.1.0 p.1.1) (format.out form) rest) → IsOk ((format.deed form).read bytes)
+pub out_there : (form : Form) (bytes rest : List ℕ) → bytes ≡ kind.OUT ∷ rest
+    → IsOk (made_at (λ p. Out p.0 p.1.0 p.1.1) (format.out form) rest) → IsOk ((format.deed form).read bytes)
 out_there form bytes rest e there = rw e there

@@ -1,11 +1,13 @@
 -- One deed that is allowed: the state that it leads to, which keeps the ranges of states.
-use Rattle.std.proofs.Common.{◌≡◌, ◌≢◌, ℕ, ◌+◌, ◌-◌, ◌<◌, ◌≤◌, Bool, true, false, cond, ◌||◌, ◌==◌, List, [], ◌∷◌, Option, Some, None, IfSome, IsSome, is_some, map, option_to_list, Result, Ok, Err, OnOk, inl, inr, refl, ap, sym, ◌∙◌, subst, arith, eq-eqb, ne_eqb, nat_cmp, slice_get}
+use Rattle.std.proofs.Common.{◌≡◌, ℕ, ◌+◌, ◌-◌, ◌<◌, ◌≤◌, true, false, cond, ◌||◌, ◌==◌, [], ◌∷◌, Option, Some, None}
+use Rattle.std.proofs.Common.{IfSome, is_some, map, option_to_list, Result, Ok, Err, OnOk, inl, inr, refl, ap, sym, ◌∙◌}
+use Rattle.std.proofs.Common.{subst, arith, eq-eqb, ne_eqb, nat_cmp, slice_get}
 use Rattle.std.proofs.lemmas.Bool.{cond-true, cases_lt, cases_eq}
 use Rattle.std.specs.FinMap.{FinMap, get, insert, remove, len}
 use Rattle.linda_wire.specs.declared.limits.TheConstants.{MAX_CLIENTS}
 use Rattle.linda_wire.specs.declared.limits.TheConstants.{NUMBER_LIMIT}
 use Rattle.linda_tuple.specs.Tuple.{Tuple}
-use Rattle.linda_maps.proofs.MapLaws.{get_inserted, get_same, get_other, get_removed, get_removed_same, get_removed_other, len_new, len_old}
+use Rattle.linda_map_laws.proofs.MapLaws.{get_inserted, get_same, get_other, get_removed, get_removed_same, get_removed_other, len_new, len_old}
 use Rattle.linda_store_state.specs.declared.deed.Deed.{Deed}
 use Rattle.linda_store_state.specs.declared.deed.Deed.TheVariants.{Out, Take, Pass, Leave}
 use Rattle.linda_book.specs.declared.kept_reply.KeptReply.TheVariants as kept
@@ -53,7 +55,8 @@ tuple_after_take st c n taken is id =
         ]
 
 -- A deed that neither puts nor takes leaves the bag as it is.
-tuple_after_none : (st : State) (d : Deed) → IsState st → ((id : ℕ) → is_taken id (d ∷ []) ≡ false) → outs_of (d ∷ []) ≡ [] → (id : ℕ) → get st.bag id ≡ bag_after st (d ∷ []) id
+tuple_after_none : (st : State) (d : Deed) → IsState st → ((id : ℕ) → is_taken id (d ∷ []) ≡ false)
+    → outs_of (d ∷ []) ≡ [] → (id : ℕ) → get st.bag id ≡ bag_after st (d ∷ []) id
 tuple_after_none st d is free none id =
     elim (cases_lt id st.next) [
       | inl below ↦ sym (old_id st (d ∷ []) id (free id) below)
@@ -82,14 +85,17 @@ if_some None P Q none f = tt
 if_some (Some x) P Q some f = f some
 
 -- Ids stay in range.
-ids_by : (st : State) (put : Option Tuple) (gone : Option ℕ) → IsState st → (id : ℕ) → IfSome (get (bag_by st put gone) id) (λ _. (1 ≤ id) × (id < next_by st put))
+ids_by : (st : State) (put : Option Tuple) (gone : Option ℕ) → IsState st → (id : ℕ)
+    → IfSome (get (bag_by st put gone) id) (λ _. (1 ≤ id) × (id < next_by st put))
 ids_by st (Some tuple) gone is id =
     elim (cases_eq id st.next) [
       | inl here ↦
           let low = is.next_low in
-          subst (λ o. IfSome o (λ _. (1 ≤ id) × (id < st.next + 1))) (sym (ap (get (insert st.bag st.next tuple)) here ∙ get_same st.bag st.next tuple)) (omega arith, omega arith)
+          subst (λ o. IfSome o (λ _. (1 ≤ id) × (id < st.next + 1)))
+          (sym (ap (get (insert st.bag st.next tuple)) here ∙ get_same st.bag st.next tuple)) (omega arith, omega arith)
       | inr apart ↦
-          subst (λ o. IfSome o (λ _. (1 ≤ id) × (id < st.next + 1))) (sym (get_other st.bag st.next tuple id apart)) (if_some (get st.bag id) _ _ (is.ids id) (λ p. (p.0, omega (arith, p.1))))
+          subst (λ o. IfSome o (λ _. (1 ≤ id) × (id < st.next + 1))) (sym (get_other st.bag st.next tuple id apart))
+          (if_some (get st.bag id) _ _ (is.ids id) (λ p. (p.0, omega (arith, p.1))))
     ]
 ids_by st None (Some taken) is id =
     elim (cases_eq id taken) [
@@ -118,13 +124,16 @@ numbers_done : (st : State) (d : Deed) → IsState st → IsAllowed st d → (c 
 numbers_done st d is allowed c =
     elim (cases_eq c (client_of d)) [
       | inl same ↦
-          subst (λ o. IfSome o (λ (e : Entry). (1 ≤ e.0) × (e.0 < NUMBER_LIMIT))) (sym (ap (get (done st d).book) same ∙ get_same st.book (client_of d) (number_of d, reply_of_deed st [] d)))
+          subst (λ o. IfSome o (λ (e : Entry). (1 ≤ e.0) × (e.0 < NUMBER_LIMIT)))
+          (sym (ap (get (done st d).book) same ∙ get_same st.book (client_of d) (number_of d, reply_of_deed st [] d)))
           (number_low (number_of d) (number_in (get st.book (client_of d))) allowed.number, allowed.below)
       | inr apart ↦
-          subst (λ o. IfSome o (λ (e : Entry). (1 ≤ e.0) × (e.0 < NUMBER_LIMIT))) (sym (get_other st.book (client_of d) (number_of d, reply_of_deed st [] d) c apart)) (is.numbers c)
+          subst (λ o. IfSome o (λ (e : Entry). (1 ≤ e.0) × (e.0 < NUMBER_LIMIT)))
+          (sym (get_other st.book (client_of d) (number_of d, reply_of_deed st [] d) c apart)) (is.numbers c)
     ]
 
-clients_kept : (book : FinMap nat_cmp Entry) (c : ℕ) (e : Entry) → len book ≤ MAX_CLIENTS → (get book c ≡ None → len book < MAX_CLIENTS) → len (insert book c e) ≤ MAX_CLIENTS
+clients_kept : (book : FinMap nat_cmp Entry) (c : ℕ) (e : Entry) → len book ≤ MAX_CLIENTS
+    → (get book c ≡ None → len book < MAX_CLIENTS) → len (insert book c e) ≤ MAX_CLIENTS
 clients_kept book c e few room = by_entry (get book c) refl
   where
     by_entry : (o : Option Entry) → get book c ≡ o → len (insert book c e) ≤ MAX_CLIENTS
@@ -147,7 +156,8 @@ pub one_state : (st new : State) (d : Deed) → IsState st → IsAllowed st d �
 one_state st new d is allowed after = subst IsState (one_after st (d ∷ []) (done st d) new (done_after st d is) after) (done_state st d is allowed)
 
 -- An Out as changes of maps, where the old state is known by another name.
-pub put_at : (old st new : State) (c n : ℕ) (tuple : Tuple) → old ≡ st → IsState st → new.bag ≡ insert old.bag old.next tuple → new.book ≡ insert old.book c (n, kept.Stored old.next) → new.next ≡ old.next + 1 → IsAfter st (Out c n tuple ∷ []) new
+pub put_at : (old st new : State) (c n : ℕ) (tuple : Tuple) → old ≡ st → IsState st → new.bag ≡ insert old.bag old.next tuple
+    → new.book ≡ insert old.book c (n, kept.Stored old.next) → new.next ≡ old.next + 1 → IsAfter st (Out c n tuple ∷ []) new
 put_at old st new c n tuple same is bag book next =
     subst (λ s. IsAfter s (Out c n tuple ∷ []) new) same (put_after old new c n tuple (subst IsState (sym same) is) bag book next)
 
@@ -155,7 +165,8 @@ put_at old st new c n tuple same is bag book next =
 taken_kept : (st : State) (id : ℕ) (row : Tuple) → IsState st → get st.bag id ≡ Some row → taken_reply id (bag_after st [] id) ≡ kept.Taken id row
 taken_kept st id row is there = ap (taken_reply id) (sym ((none_after st is).bag id) ∙ there)
 
-take_after : (st new : State) (c n id : ℕ) (row : Tuple) → IsState st → get st.bag id ≡ Some row → new.bag ≡ remove st.bag id → new.book ≡ insert st.book c (n, kept.Taken id row) → new.next ≡ st.next → IsAfter st (Take c n id ∷ []) new
+take_after : (st new : State) (c n id : ℕ) (row : Tuple) → IsState st → get st.bag id ≡ Some row → new.bag ≡ remove st.bag id
+    → new.book ≡ insert st.book c (n, kept.Taken id row) → new.next ≡ st.next → IsAfter st (Take c n id ∷ []) new
 take_after st new c n id row is there bag book next =
     let d = done_after st (Take c n id) is in
     record {
@@ -164,11 +175,14 @@ take_after st new c n id row is there bag book next =
       next = next ∙ d.next;
     }
 
-pub take_at : (old st new : State) (c n id : ℕ) (row : Tuple) → old ≡ st → IsState st → get st.bag id ≡ Some row → new.bag ≡ remove old.bag id → new.book ≡ insert old.book c (n, kept.Taken id row) → new.next ≡ old.next → IsAfter st (Take c n id ∷ []) new
+pub take_at : (old st new : State) (c n id : ℕ) (row : Tuple) → old ≡ st → IsState st → get st.bag id ≡ Some row
+    → new.bag ≡ remove old.bag id → new.book ≡ insert old.book c (n, kept.Taken id row) → new.next ≡ old.next → IsAfter st (Take c n id ∷ []) new
 take_at old st new c n id row same is there bag book next =
-    subst (λ s. IsAfter s (Take c n id ∷ []) new) same (take_after old new c n id row (subst IsState (sym same) is) (subst (λ s. get s.bag id ≡ Some row) (sym same) there) bag book next)
+    subst (λ s. IsAfter s (Take c n id ∷ []) new) same
+    (take_after old new c n id row (subst IsState (sym same) is) (subst (λ s. get s.bag id ≡ Some row) (sym same) there) bag book next)
 
-pub pass_at : (old st new : State) (c n id : ℕ) → old ≡ st → IsState st → new.bag ≡ old.bag → new.book ≡ insert old.book c (n, kept.Gone) → new.next ≡ old.next → IsAfter st (Pass c n id ∷ []) new
+pub pass_at : (old st new : State) (c n id : ℕ) → old ≡ st → IsState st → new.bag ≡ old.bag
+    → new.book ≡ insert old.book c (n, kept.Gone) → new.next ≡ old.next → IsAfter st (Pass c n id ∷ []) new
 pass_at old st new c n id same is bag book next =
     subst (λ s. IsAfter s (Pass c n id ∷ []) new) same
     (let d = done_after old (Pass c n id) (subst IsState (sym same) is) in
@@ -178,7 +192,8 @@ pass_at old st new c n id same is bag book next =
       next = next ∙ d.next;
     })
 
-pub leave_at : (old st new : State) (c n : ℕ) → old ≡ st → IsState st → new.bag ≡ old.bag → new.book ≡ insert old.book c (n, kept.Left) → new.next ≡ old.next → IsAfter st (Leave c n ∷ []) new
+pub leave_at : (old st new : State) (c n : ℕ) → old ≡ st → IsState st → new.bag ≡ old.bag
+    → new.book ≡ insert old.book c (n, kept.Left) → new.next ≡ old.next → IsAfter st (Leave c n ∷ []) new
 leave_at old st new c n same is bag book next =
     subst (λ s. IsAfter s (Leave c n ∷ []) new) same
     (let d = done_after old (Leave c n) (subst IsState (sym same) is) in
@@ -194,5 +209,6 @@ on_ok P Q (Ok x) f p = f p
 on_ok P Q (Err e) f p = tt
 
 -- A Take of a tuple that was found is the one deed that was done.
-pub take_found : (st new : State) (c n id : ℕ) (row : Tuple) (found : Option Tuple) → found ≡ Some row → IsAfter st (Take c n id ∷ []) new → IsAfter st (map (λ _. Take c n id) (option_to_list found)) new
+pub take_found : (st new : State) (c n id : ℕ) (row : Tuple) (found : Option Tuple) → found ≡ Some row
+    → IsAfter st (Take c n id ∷ []) new → IsAfter st (map (λ _. Take c n id) (option_to_list found)) new
 take_found st new c n id row found is after = subst (λ o. IsAfter st (map (λ _. Take c n id) (option_to_list o)) new) (sym is) after

@@ -3,7 +3,7 @@ use Rattle.std.proofs.Common.{◌≡◌, ◌≢◌, ℕ, true, List, [], ◌∷�
 use Rattle.std.proofs.lemmas.Bool.{true≢false}
 use Rattle.std.proofs.lemmas.List.Elements.{All-nil, All-cons}
 use Rattle.std.specs.FinMap.{get}
-use Rattle.linda_maps.proofs.MapLaws.{get_same, get_other}
+use Rattle.linda_map_laws.proofs.MapLaws.{get_same, get_other}
 use Rattle.linda_book.specs.Entries.{left_in}
 use Rattle.linda_book.specs.declared.kept_reply.KeptReply.TheVariants as kept
 use Rattle.linda_store_state.specs.declared.deed.Deed.{Deed}
@@ -31,7 +31,8 @@ other : (st : State) (d : Deed) (c : ℕ) → IsAllowed st d → left_in (get st
 other st d c allowed left same = true≢false (sym left ∙ (ap (λ k. left_in (get st.book k)) (sym same) ∙ allowed.stays))
 
 pub others_later : (ds : List Deed) (st new : State) (c : ℕ) → IsState st → AreDone st ds new → left_in (get st.book c) ≡ true → AreOthers st ds new c
-others_later [] st new c is all left = record { others = All-nil (IsOther c); stays = ap (λ (s : State). get s.book c) (one_after st [] new st all.after (none_after st is)) }
+others_later [] st new c is all left =
+    record { others = All-nil (IsOther c); stays = ap (λ (s : State). get s.book c) (one_after st [] new st all.after (none_after st is)) }
 others_later (d ∷ ds) st new c is all left =
     let allowed : IsAllowed st d = all.proper [] d ds st refl (none_after st is) in
     let apart : IsOther c d = other st d c allowed left in
@@ -39,7 +40,8 @@ others_later (d ∷ ds) st new c is all left =
     let rest = others_later ds (done st d) new c (done_state st d is allowed) (behind_one st new d ds is allowed all) (ap left_in kept ∙ left) in
     record { others = All-cons (IsOther c) d ds apart rest.others; stays = rest.stays ∙ kept }
 
-others_behind : (front : List Deed) (st new : State) (later : List Deed) (c n : ℕ) → IsState st → AreDone st (front ++ Leave c n ∷ later) new → All (IsOther c) later
+others_behind : (front : List Deed) (st new : State) (later : List Deed) (c n : ℕ) → IsState st
+    → AreDone st (front ++ Leave c n ∷ later) new → All (IsOther c) later
 others_behind [] st new later c n is all =
     let allowed : IsAllowed st (Leave c n) = all.proper [] (Leave c n) later st refl (none_after st is) in
     let left : left_in (get (done st (Leave c n)).book c) ≡ true = ap left_in (get_same st.book c (n, kept.Left)) in

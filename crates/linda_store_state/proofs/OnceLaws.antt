@@ -1,5 +1,6 @@
 -- Over a proper list of deeds no tuple is taken twice.
-use Rattle.std.proofs.Common.{◌≡◌, ℕ, ◌≤◌, Bool, true, false, true≢false, cond, ◌||◌, List, [], ◌∷◌, ◌++◌, length, filter, IfSome, IsSome, is_some, refl, sym, ap, ◌∙◌, subst, append_assoc, arith}
+use Rattle.std.proofs.Common.{◌≡◌, ℕ, ◌≤◌, Bool, true, false, true≢false, cond, ◌||◌, List, [], ◌∷◌, ◌++◌, length}
+use Rattle.std.proofs.Common.{filter, IfSome, IsSome, is_some, refl, sym, ap, ◌∙◌, subst, append_assoc, arith}
 use Rattle.std.specs.List.{list_any}
 use Rattle.std.specs.FinMap.{get}
 use Rattle.linda_store_state.specs.declared.deed.Deed.{Deed}
@@ -48,7 +49,8 @@ module _ {X : Type 0} (t : X → Bool) where
       ] refl
 
 -- What a deed takes was not taken before.
-not_before : (st : State) (before : List Deed) (d : Deed) (later : List Deed) (id : ℕ) → IsState st → IsProper st (before ++ d ∷ later) → takes id d ≡ true → is_taken id before ≡ false
+not_before : (st : State) (before : List Deed) (d : Deed) (later : List Deed) (id : ℕ) → IsState st
+    → IsProper st (before ++ d ∷ later) → takes id d ≡ true → is_taken id before ≡ false
 not_before st before d later id is proper named = by (is_taken id before) refl
   where
     there : Reaches st before

@@ -1,5 +1,7 @@
 -- Lists of deeds that a server can do: there is a state after them, and it keeps the ranges of states.
-use Rattle.std.proofs.Common.{◌≡◌, ℕ, ◌+◌, ◌<◌, ◌≤◌, true, false, List, [], ◌∷◌, ◌++◌, length, Option, Some, None, IfSome, IsSome, is_some, ◌⊎◌, inl, inr, refl, ap, sym, ◌∙◌, subst, arith, append_assoc, append-nil, length-append}
+use Rattle.std.proofs.Common.{◌≡◌, ℕ, ◌+◌, ◌<◌, ◌≤◌, true, false, List, [], ◌∷◌, ◌++◌, length, Option, Some, None}
+use Rattle.std.proofs.Common.{IfSome, IsSome, is_some, ◌⊎◌, inl, inr, refl, ap, sym, ◌∙◌, subst, arith, append_assoc}
+use Rattle.std.proofs.Common.{append-nil, length-append}
 use Rattle.std.proofs.lemmas.Bool.{or_cases, true≢false}
 use Rattle.std.specs.FinMap.{get}
 use Rattle.linda_store_state.specs.declared.deed.Deed.{Deed}
@@ -27,7 +29,8 @@ not_empty : {X : Type 0} (xs : List X) (y : X) (ys : List X) → [] ≡ xs ++ y 
 not_empty [] y ys same = cc
 not_empty (x ∷ xs) y ys same = cc
 
-last_or_before : {X : Type 0} (xs before later : List X) (x y : X) → xs ++ x ∷ [] ≡ before ++ y ∷ later → ((xs ≡ before) × (x ≡ y)) ⊎ ((rest : List X) × (xs ≡ before ++ y ∷ rest))
+last_or_before : {X : Type 0} (xs before later : List X) (x y : X) → xs ++ x ∷ [] ≡ before ++ y ∷ later
+    → ((xs ≡ before) × (x ≡ y)) ⊎ ((rest : List X) × (xs ≡ before ++ y ∷ rest))
 last_or_before [] [] later x y same = inl (refl, same_head x y [] later same)
 last_or_before [] (b ∷ before) later x y same = absurd (not_empty before y later (same_tail x b [] (before ++ y ∷ later) same))
 last_or_before (a ∷ xs) [] later x y same = inr (xs, ap (λ e. e ∷ xs) (same_head a y (xs ++ x ∷ []) later same))
@@ -66,7 +69,8 @@ one_taken st d id is room taken =
 
 takes_more : (st mid : State) (ds : List Deed) (d : Deed) → TakesBelow st ds → IsAfter st ds mid → IsState mid → IsAllowed mid d → TakesBelow st (ds ++ d ∷ [])
 takes_more st mid ds d below after is allowed id taken =
-    let puts : length (outs_of (ds ++ d ∷ [])) ≡ length (outs_of ds) + length (outs_of (d ∷ [])) = ap length (outs_of-joined ds (d ∷ [])) ∙ length-append (outs_of ds) (outs_of (d ∷ [])) in
+    let puts : length (outs_of (ds ++ d ∷ [])) ≡ length (outs_of ds) + length (outs_of (d ∷ [])) =
+    ap length (outs_of-joined ds (d ∷ [])) ∙ length-append (outs_of ds) (outs_of (d ∷ [])) in
     elim (or_cases (is_taken id ds) (is_taken id (d ∷ [])) (sym (is_taken-joined id ds (d ∷ [])) ∙ taken)) [
       | inl before ↦ let low = below id before in omega arith
       | inr last ↦ let low = one_taken mid d id is allowed.room last in omega (arith, after.next)
@@ -79,8 +83,10 @@ pub record Reaches (st : State) (ds : List Deed) : Type 0 where
   pub state : IsState new
   pub below : TakesBelow st ds
 
-reached_from : (st mid : State) (before later : List Deed) → IsAfter st before mid → IsState mid → TakesBelow st before → IsProper st (before ++ later) → Reaches st (before ++ later)
-reached_from st mid before [] after is below proper = subst (Reaches st) (sym (append-nil before)) (record { new = mid; after = after; state = is; below = below })
+reached_from : (st mid : State) (before later : List Deed) → IsAfter st before mid → IsState mid
+    → TakesBelow st before → IsProper st (before ++ later) → Reaches st (before ++ later)
+reached_from st mid before [] after is below proper =
+    subst (Reaches st) (sym (append-nil before)) (record { new = mid; after = after; state = is; below = below })
 reached_from st mid before (d ∷ later) after is below proper =
     let allowed : IsAllowed mid d = proper before d later mid refl after in
     let whole : (before ++ d ∷ []) ++ later ≡ before ++ d ∷ later = append_assoc before (d ∷ []) later in
@@ -109,9 +115,14 @@ proper_state st new ds is proper after =
 pub none_done : (st : State) → IsState st → AreDone st [] st
 none_done st is = record { proper = none_proper st; after = none_after st is }
 
-pub more_done : (st mid new : State) (ds : List Deed) (d : Deed) → IsState st → AreDone st ds mid → IsAllowed mid d → IsAfter mid (d ∷ []) new → AreDone st (ds ++ d ∷ []) new
+pub more_done : (st mid new : State) (ds : List Deed) (d : Deed) → IsState st → AreDone st ds mid
+    → IsAllowed mid d → IsAfter mid (d ∷ []) new → AreDone st (ds ++ d ∷ []) new
 more_done st mid new ds d is done allowed after =
-    record { proper = more_proper st mid ds d done.proper done.after allowed; after = more_after st mid new ds d done.after after (takes_below st ds is done.proper) }
+    record {
+      proper = more_proper st mid ds d done.proper done.after allowed;
+      after =
+          more_after st mid new ds d done.after after (takes_below st ds is done.proper);
+    }
 
 pub never_done : (st mid : State) (ds later : List Deed) (d : Deed) → AreDone st ds mid → (IsAllowed mid d → ⊥) → IsProper st (ds ++ d ∷ later) → ⊥
 never_done st mid ds later d done never proper = never (proper ds d later mid refl done.after)

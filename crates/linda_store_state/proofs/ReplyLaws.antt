@@ -28,6 +28,7 @@ kept_behind st new d after =
     after.book (client_of d) ∙ ap (λ b. entry_after st (client_of d) (cond b (Some ([], d)) None)) own
 
 -- So what is found there for the client is that reply.
-pub entry_behind : (st new : State) (d : Deed) (c : ℕ) (entry : Entry) → IsAfter st (d ∷ []) new → client_of d ≡ c → get new.book c ≡ Some entry → entry.1 ≡ reply_of_deed st [] d
+pub entry_behind : (st new : State) (d : Deed) (c : ℕ) (entry : Entry) → IsAfter st (d ∷ []) new
+    → client_of d ≡ c → get new.book c ≡ Some entry → entry.1 ≡ reply_of_deed st [] d
 entry_behind st new d c entry after mine there =
     ap (λ (e : Entry). e.1) (same_Some entry (number_of d, reply_of_deed st [] d) (sym there ∙ (ap (get new.book) (sym mine) ∙ kept_behind st new d after)))

@@ -4,7 +4,7 @@ use Rattle.std.specs.FinMap.{len-empty}
 use Rattle.linda_wire.specs.declared.limits.TheConstants.{MAX_CLIENTS}
 use Rattle.linda_wire.specs.declared.limits.TheConstants.{NUMBER_LIMIT}
 use Rattle.linda_tuple.specs.Tuple.{Tuple}
-use Rattle.linda_maps.proofs.MapLaws.{get_empty}
+use Rattle.linda_map_laws.proofs.MapLaws.{get_empty}
 use Rattle.linda_book.specs.Entries.{Entry}
 use Rattle.linda_store_state.specs.State.{IsState, empty_state}
 

@@ -2,7 +2,7 @@
 use Rattle.std.proofs.Common.{◌≡◌, ◌+◌, List, [], ◌∷◌, length, Option, Some, None, refl, subst, arith}
 use Rattle.std.specs.Option.{unwrap_or, option_map}
 use Rattle.std.specs.FinMap.{get}
-use Rattle.linda_maps.proofs.SumLaws.{sum_inserted}
+use Rattle.linda_map_laws.proofs.SumLaws.{sum_inserted}
 use Rattle.linda_book.specs.Entries.{Entry, number_in}
 use Rattle.linda_store_state.specs.declared.deed.Deed.{Deed}
 use Rattle.linda_store_state.specs.Deed.{client_of, number_of}

@@ -20,18 +20,23 @@ module _ (P : ℕ → Type 0) where
   AllSent sends = All (λ (send : ℕ × Reply). P send.0) sends
 
   -- A dispatch sends only to those that waited.
-  pub dispatch_sent : (id : ℕ) (row : Tuple) (soft : Soft) → All (λ (w : Wait). P w.0.client) soft.waits → All (λ (send : ℕ × Reply). P send.0) (dispatch id row soft).sends
+  pub dispatch_sent : (id : ℕ) (row : Tuple) (soft : Soft) → All (λ (w : Wait). P w.0.client) soft.waits
+      → All (λ (send : ℕ × Reply). P send.0) (dispatch id row soft).sends
   dispatch_sent id row soft waiting =
-      All-append (λ (send : ℕ × Reply). P send.0) (map (read_to id row) (readers row soft.waits)) (map (offer_to id row) (option_to_list (longest row soft.waits)))
-      (All-map (λ (send : ℕ × Reply). P send.0) (read_to id row) (readers row soft.waits) (All-filter {X = Wait} (is_reader row) (λ w. P w.0.client) soft.waits waiting))
+      All-append (λ (send : ℕ × Reply). P send.0) (map (read_to id row) (readers row soft.waits))
+      (map (offer_to id row) (option_to_list (longest row soft.waits)))
+      (All-map (λ (send : ℕ × Reply). P send.0) (read_to id row) (readers row soft.waits)
+      (All-filter {X = Wait} (is_reader row) (λ w. P w.0.client) soft.waits waiting))
       (All-map (λ (send : ℕ × Reply). P send.0) (offer_to id row) (option_to_list (longest row soft.waits)) (by (longest row soft.waits) refl))
     where
       by : (first : Option Wait) → longest row soft.waits ≡ first → AllWait (option_to_list first)
       by None none = All-nil (λ (w : Wait). P w.0.client)
-      by (Some first) found = All-cons (λ (w : Wait). P w.0.client) first [] (found_has {X = Wait} (is_taker row) (λ w. P w.0.client) soft.waits first found waiting) (All-nil (λ (w : Wait). P w.0.client))
+      by (Some first) found = All-cons (λ (w : Wait). P w.0.client) first []
+          (found_has {X = Wait} (is_taker row) (λ w. P w.0.client) soft.waits first found waiting) (All-nil (λ (w : Wait). P w.0.client))
 
   -- A release sends only to those that waited, and lets only those wait on.
-  pub freed_sent : (bag : Bagged) (id : ℕ) (soft : Soft) → All (λ (w : Wait). P w.0.client) soft.waits → All (λ (send : ℕ × Reply). P send.0) (release bag id soft).sends
+  pub freed_sent : (bag : Bagged) (id : ℕ) (soft : Soft) → All (λ (w : Wait). P w.0.client) soft.waits
+      → All (λ (send : ℕ × Reply). P send.0) (release bag id soft).sends
   freed_sent bag id soft waiting = by (get bag id)
     where
       by : (there : Option Tuple) → AllSent (release_tuple id there soft).sends
@@ -53,7 +58,8 @@ module _ (P : ℕ → Type 0) where
       by (Some row) = first row (longest row soft.waits)
 
   -- So do releases one after the other.
-  pub all_freed_sent : (bag : Bagged) (ids : List ℕ) (soft : Soft) → All (λ (w : Wait). P w.0.client) soft.waits → All (λ (send : ℕ × Reply). P send.0) (release_all bag ids soft).sends
+  pub all_freed_sent : (bag : Bagged) (ids : List ℕ) (soft : Soft) → All (λ (w : Wait). P w.0.client) soft.waits
+      → All (λ (send : ℕ × Reply). P send.0) (release_all bag ids soft).sends
   all_freed_sent bag [] soft waiting = All-nil (λ (send : ℕ × Reply). P send.0)
   all_freed_sent bag (id ∷ ids) soft waiting =
       All-append (λ (send : ℕ × Reply). P send.0) (release bag id soft).sends (release_all bag ids (release bag id soft).soft).sends

@@ -12,7 +12,8 @@ use Rattle.linda_store_step.specs.Answer.{Answer, IsStep}
 use Rattle.linda_store_step.proofs.AnswerCourse.{Course, unnumbered, turned_down, told_again, stored, taken, passed, left, course_of}
 use Rattle.linda_store_step.specs.Reported.{IsDeedOf, number_of_message}
 
-pub step_deed : (st new : State) (c : ℕ) (old : Soft) (m : Message) (answered : Answer) (d : Deed) → IsStep st old c m answered new → answered.deed ≡ Some d → IsDeedOf c m d
+pub step_deed : (st new : State) (c : ℕ) (old : Soft) (m : Message) (answered : Answer) (d : Deed)
+    → IsStep st old c m answered new → answered.deed ≡ Some d → IsDeedOf c m d
 step_deed st new c old m answered d step = by m answered (course_of st old c m answered step.answer)
   where
     by : (m : Message) (a : Answer) → Course st old c m a → a.deed ≡ Some d → IsDeedOf c m d
@@ -59,5 +60,6 @@ deed_number c (messages.Hello version client fresh) d is = absurd is
 deed_number c (messages.Ask ticket remove shape) d is = absurd is
 deed_number c (messages.Cancel ticket) d is = absurd is
 
-pub step_client : (st new : State) (c : ℕ) (old : Soft) (m : Message) (answered : Answer) (d : Deed) → IsStep st old c m answered new → answered.deed ≡ Some d → client_of d ≡ c
+pub step_client : (st new : State) (c : ℕ) (old : Soft) (m : Message) (answered : Answer) (d : Deed)
+    → IsStep st old c m answered new → answered.deed ≡ Some d → client_of d ≡ c
 step_client st new c old m answered d step is = deed_client c m d (step_deed st new c old m answered d step is)

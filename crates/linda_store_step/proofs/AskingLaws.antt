@@ -17,16 +17,19 @@ use Rattle.linda_store_step.proofs.LeastLaws.{some_least}
 
 module _ (bag : Bagged) (request : Request) (remove : Bool) (shape : Template) (soft : Soft) (sends : List (ℕ × Reply)) where
   -- The request holds a tuple.
-  pub offered_again : (id : ℕ) → get soft.holds id ≡ Some request → sends ≡ offer_of bag id request → AnswersAsk bag request remove shape soft (only_sent sends soft)
+  pub offered_again : (id : ℕ) → get soft.holds id ≡ Some request → sends ≡ offer_of bag id request
+      → AnswersAsk bag request remove shape soft (only_sent sends soft)
   offered_again id held offered =
       let least = some_least bag shape (passed_over remove soft.holds) in
       record { held = Some id; is_held = held; least = least.0; is_least = least.1; told_is = ap (λ s. only_sent s soft) offered }
 
   -- The request waits.
-  pub waits_on : IsHeldAt soft.holds request None → is_waiting request soft.waits ≡ true → sends ≡ [] → AnswersAsk bag request remove shape soft (only_sent sends soft)
+  pub waits_on : IsHeldAt soft.holds request None → is_waiting request soft.waits ≡ true → sends ≡ []
+      → AnswersAsk bag request remove shape soft (only_sent sends soft)
   waits_on nothing waits none =
       let least = some_least bag shape (passed_over remove soft.holds) in
-      let rest : Sends = cond (nat_le MAX_ASKS (open_asks request.client soft)) (only_sent ((request.client, (refused (refusals.TooManyAsks request.ticket))) ∷ []) soft) (serve bag request remove shape least.0 soft) in
+      let rest : Sends = cond (nat_le MAX_ASKS (open_asks request.client soft))
+      (only_sent ((request.client, (refused (refusals.TooManyAsks request.ticket))) ∷ []) soft) (serve bag request remove shape least.0 soft) in
       record {
         held = None;
         is_held = nothing;
@@ -36,7 +39,8 @@ module _ (bag : Bagged) (request : Request) (remove : Bool) (shape : Template) (
       }
 
   -- The request is new, and the client has as many open asks as it may have.
-  pub turned_away : IsHeldAt soft.holds request None → is_waiting request soft.waits ≡ false → nat_le MAX_ASKS (open_asks request.client soft) ≡ true → sends ≡ (request.client, (refused (refusals.TooManyAsks request.ticket))) ∷ [] → AnswersAsk bag request remove shape soft (only_sent sends soft)
+  pub turned_away : IsHeldAt soft.holds request None → is_waiting request soft.waits ≡ false → nat_le MAX_ASKS (open_asks request.client soft) ≡ true
+      → sends ≡ (request.client, (refused (refusals.TooManyAsks request.ticket))) ∷ [] → AnswersAsk bag request remove shape soft (only_sent sends soft)
   turned_away nothing never many told =
       let least = some_least bag shape (passed_over remove soft.holds) in
       let only : Sends = only_sent ((request.client, (refused (refusals.TooManyAsks request.ticket))) ∷ []) soft in

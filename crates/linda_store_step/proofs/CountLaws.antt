@@ -1,9 +1,12 @@
 -- How many asks of a client are open after some are gone, and after a wait became a hold.
-use Rattle.std.proofs.Common.{◌≡◌, ℕ, suc, ◌+◌, ◌≤◌, Bool, true, false, cond, not, List, [], ◌∷◌, length, Some, None, filter, find, refl, sym, ap, ◌∙◌, subst, nat_cmp, Less, Equal, Greater, arith}
+use Rattle.std.proofs.Common.{◌≡◌, ℕ, suc, ◌+◌, ◌≤◌, Bool, true, false, cond, not, List, [], ◌∷◌, length, Some, None}
+use Rattle.std.proofs.Common.{filter, find, refl, sym, ap, ◌∙◌, subst, nat_cmp, Less, Equal, Greater, arith}
 use Rattle.std.proofs.lemmas.Option.{none-some, same_Some}
 use Rattle.std.specs.Ordering.{eq_by_cmp}
 use Rattle.std.specs.Cmp.{nat_cmp_total, eq_by_cmp_equiv}
-use Rattle.std.specs.FinMap.{FinMap, get, insert, remove, entries, put, from_sorted, entries_sorted, same_map, nat_cmp-IsAntisymmetric, get-entries, get-remove, get-from_sorted, entries-from_sorted, entries-insert}
+use Rattle.std.specs.FinMap.{FinMap, get, insert, remove, entries, put, from_sorted, entries_sorted, same_map}
+use Rattle.std.specs.FinMap.{nat_cmp-IsAntisymmetric, get-entries, get-remove, get-from_sorted, entries-from_sorted}
+use Rattle.std.specs.FinMap.{entries-insert}
 use Rattle.std.specs.FinMap.Entries.{by_order, where_key, is_sorted-where_key, find-where_key}
 
 module _ {X : Type 0} where
@@ -71,7 +74,8 @@ module _ {X : Type 0} where
     found_gone test [] x found counts gone = absurd (none-some x found)
     found_gone test (y ∷ xs) x found counts gone =
         elim (test y) as (λ b. cond b (Some y) (find test xs) ≡ Some x → length (left (y ∷ xs)) + 1 ≤ length (filter p (y ∷ xs))) [
-          | true ↦ λ some. let same : y ≡ x = same_Some y x some in first_gone y xs (subst (λ z. p z ≡ true) (sym same) counts) (subst (λ z. r z ≡ false) (sym same) gone)
+          | true ↦ λ some. let same : y ≡ x = same_Some y x some in
+              first_gone y xs (subst (λ z. p z ≡ true) (sym same) counts) (subst (λ z. r z ≡ false) (sym same) gone)
           | false ↦ λ later. left_more y xs 1 (found_gone test xs x later counts gone)
         ] found
 
@@ -90,7 +94,8 @@ module _ {X : Type 0} where
       ∙ ap (λ b. cond b None (get m q)) ((eq_by_cmp_equiv nat_cmp_total).symm q k)
       ∙ sym (turned (eq_by_cmp nat_cmp k q) (get m q) None)
       ∙ ap (λ o. cond (not (eq_by_cmp nat_cmp k q)) o None) (get-entries m q)
-      ∙ sym (find-where_key nat_cmp (λ x. not (eq_by_cmp nat_cmp k x)) q (λ x tied. ap (λ y. not (eq_by_cmp nat_cmp k y)) (sym (nat_cmp-IsAntisymmetric q x tied))) (entries m))
+      ∙ sym (find-where_key nat_cmp (λ x. not (eq_by_cmp nat_cmp k x)) q
+      (λ x tied. ap (λ y. not (eq_by_cmp nat_cmp k y)) (sym (nat_cmp-IsAntisymmetric q x tied))) (entries m))
       ∙ sym (get-from_sorted nat_cmp kept q sorted))
       in
       ap entries same ∙ entries-from_sorted nat_cmp kept sorted
@@ -100,7 +105,8 @@ module _ {X : Type 0} where
     put_counted k v [] = one_more (t v) (k, v) []
     put_counted k v (e ∷ es) =
         let old = filter (λ (f : ℕ × X). t f.1) es in
-        elim (nat_cmp k e.0) as (λ o. length (filter (λ (f : ℕ × X). t f.1) (by_order o ((k, v) ∷ e ∷ es) ((e.0, v) ∷ es) (e ∷ put nat_cmp k v es))) ≤ length (filter (λ (f : ℕ × X). t f.1) (e ∷ es)) + cond (t v) 1 0) [
+        elim (nat_cmp k e.0) as (λ o. length (filter (λ (f : ℕ × X). t f.1) (by_order o ((k, v) ∷ e ∷ es) ((e.0, v) ∷ es) (e ∷ put nat_cmp k v es)))
+        ≤ length (filter (λ (f : ℕ × X). t f.1) (e ∷ es)) + cond (t v) 1 0) [
           | Less ↦ one_more (t v) (k, v) (filter (λ (f : ℕ × X). t f.1) (e ∷ es))
           | Equal ↦
               let one = one_more (t v) (e.0, v) old in
@@ -109,14 +115,18 @@ module _ {X : Type 0} where
           | Greater ↦ later (t e.1) e (filter (λ (f : ℕ × X). t f.1) (put nat_cmp k v es)) old (cond (t v) 1 0) (put_counted k v es)
         ]
       where
-        later : (b : Bool) (e : ℕ × X) (us vs : List (ℕ × X)) (n : ℕ) → length us ≤ length vs + n → length (cond b (e ∷ us) us) ≤ length (cond b (e ∷ vs) vs) + n
+        later : (b : Bool) (e : ℕ × X) (us vs : List (ℕ × X)) (n : ℕ) → length us ≤ length vs + n
+            → length (cond b (e ∷ us) us) ≤ length (cond b (e ∷ vs) vs) + n
         later true e us vs n fewer = omega arith
         later false e us vs n fewer = fewer
 
     -- After an insertion at most one entry more passes, and none where the new value doesn't.
-    pub insert_counted : (m : FinMap nat_cmp X) (k : ℕ) (v : X) → length (filter (λ e. t e.1) (entries (insert m k v))) ≤ length (filter (λ e. t e.1) (entries m)) + cond (t v) 1 0
-    insert_counted m k v = subst (λ es. length (filter (λ e. t e.1) es) ≤ length (filter (λ e. t e.1) (entries m)) + cond (t v) 1 0) (sym (entries-insert nat_cmp_total m k v)) (put_counted k v (entries m))
+    pub insert_counted : (m : FinMap nat_cmp X) (k : ℕ) (v : X)
+        → length (filter (λ e. t e.1) (entries (insert m k v))) ≤ length (filter (λ e. t e.1) (entries m)) + cond (t v) 1 0
+    insert_counted m k v = subst (λ es. length (filter (λ e. t e.1) es) ≤ length (filter (λ e. t e.1) (entries m)) + cond (t v) 1 0)
+        (sym (entries-insert nat_cmp_total m k v)) (put_counted k v (entries m))
 
     -- After a removal no more entries pass.
     pub remove_counted : (m : FinMap nat_cmp X) (k : ℕ) → length (filter (λ e. t e.1) (entries (remove m k))) ≤ length (filter (λ e. t e.1) (entries m))
-    remove_counted m k = subst (λ es. length (filter (λ e. t e.1) es) ≤ length (filter (λ e. t e.1) (entries m))) (sym (entries_removed m k)) (fewer_pass (λ e. t e.1) (λ e. not (eq_by_cmp nat_cmp k e.0)) (entries m))
+    remove_counted m k = subst (λ es. length (filter (λ e. t e.1) es) ≤ length (filter (λ e. t e.1) (entries m)))
+        (sym (entries_removed m k)) (fewer_pass (λ e. t e.1) (λ e. not (eq_by_cmp nat_cmp k e.0)) (entries m))

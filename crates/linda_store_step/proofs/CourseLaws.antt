@@ -21,22 +21,26 @@ front_goes_on st ds front all is proper =
     let whole : ds ++ all ≡ (ds ++ front) ++ is.0 = ap (λ l. ds ++ l) (sym is.1) ∙ sym (append_assoc ds front is.0) in
     front_proper st (ds ++ front) is.0 (subst (IsProper st) whole proper)
 
-stopped : (st mid : State) (soft : Soft) (xs : List Coming) (ds : List Deed) (all : History) → IsState st → Stands st ds mid soft → IsStop mid soft xs all → StandsAfter st ds all
+stopped : (st mid : State) (soft : Soft) (xs : List Coming) (ds : List Deed) (all : History) → IsState st
+    → Stands st ds mid soft → IsStop mid soft xs all → StandsAfter st ds all
 stopped st mid soft xs ds all is stands stop =
     let done : StandsAfter st ds stop.whole = happened st mid soft xs ds stop.whole is stands stop.happens in
     let proper : IsProper st (ds ++ all.deeds) = front_goes_on st ds all.deeds stop.whole.deeds stop.front done.proper in
-    let after : IsAfter st (ds ++ all.deeds) all.state = joined_after st mid all.state ds all.deeds stands.after stop.state_is (takes_below st ds is stands.proper) in
+    let after : IsAfter st (ds ++ all.deeds) all.state =
+    joined_after st mid all.state ds all.deeds stands.after stop.state_is (takes_below st ds is stands.proper) in
     record {
       proper = proper;
       after = after;
       orderly = new_store_orderly all.state all.soft (proper_state st all.state (ds ++ all.deeds) is proper after) stop.soft_is;
     }
 
-led : (st mid : State) (soft : Soft) (x : Turn) (ds : List Deed) (all : History) → IsState st → Stands st ds mid soft → Leads mid soft x all → StandsAfter st ds all
+led : (st mid : State) (soft : Soft) (x : Turn) (ds : List Deed) (all : History) → IsState st
+    → Stands st ds mid soft → Leads mid soft x all → StandsAfter st ds all
 led st mid soft (comes x) ds all is stands leads = happened st mid soft (x ∷ []) ds all is stands leads
 led st mid soft (stops xs) ds all is stands leads = stopped st mid soft xs ds all is stands leads
 
-endured : (st mid : State) (soft : Soft) (xs : List Turn) (ds : List Deed) (all : History) → IsState st → Stands st ds mid soft → Endures mid soft xs all → StandsAfter st ds all
+endured : (st mid : State) (soft : Soft) (xs : List Turn) (ds : List Deed) (all : History) → IsState st
+    → Stands st ds mid soft → Endures mid soft xs all → StandsAfter st ds all
 endured st mid soft [] ds all is stands endures =
     subst (StandsAfter st ds) (sym endures) (subst (λ l. Stands st l mid soft) (sym (append-nil ds)) stands)
 endured st mid soft (x ∷ xs) ds all is stands endures =

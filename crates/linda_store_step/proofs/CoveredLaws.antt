@@ -1,5 +1,6 @@
 -- What is covered stays covered while more is done, and what is sent is covered.
-use Rattle.std.proofs.Common.{◌≡◌, ℕ, ◌+◌, ◌<◌, inl, inr, true, ◌==◌, List, [], ◌∷◌, Option, Some, None, All, option_to_list, cond, refl, sym, ap, ◌∙◌, subst, eqb-true, arith}
+use Rattle.std.proofs.Common.{◌≡◌, ℕ, ◌+◌, ◌<◌, inl, inr, true, ◌==◌, List, [], ◌∷◌, Option, Some, None, All}
+use Rattle.std.proofs.Common.{option_to_list, cond, refl, sym, ap, ◌∙◌, subst, eqb-true, arith}
 use Rattle.std.proofs.lemmas.Bool.{cases_Bool}
 use Rattle.std.proofs.lemmas.List.Elements.{All-nil, All-append, All-weaker}
 use Rattle.std.specs.FinMap.{get}
@@ -48,12 +49,14 @@ passed st mid send more covered reports =
     ]
 
 -- One deed more, or none.
-covered_behind : (st mid : State) (o : Option Deed) → IsAfter st (option_to_list o) mid → ((d : Deed) → o ≡ Some d → IsAllowed st d) → (send : ℕ × Reply) → IsCovered st send → IsCovered mid send
+covered_behind : (st mid : State) (o : Option Deed) → IsAfter st (option_to_list o) mid
+    → ((d : Deed) → o ≡ Some d → IsAllowed st d) → (send : ℕ × Reply) → IsCovered st send → IsCovered mid send
 covered_behind st mid None after allowed send covered = same_entry st mid send (after.book send.0) covered
 covered_behind st mid (Some d) after allowed send covered =
     elim (cases_Bool (client_of d == send.0)) [
       | inl own ↦
-          let there : get mid.book send.0 ≡ Some (number_of d, reply_of_deed st [] d) = after.book send.0 ∙ ap (λ b. entry_after st send.0 (cond b (Some ([], d)) None)) own in
+          let there : get mid.book send.0 ≡ Some (number_of d, reply_of_deed st [] d) = after.book send.0
+          ∙ ap (λ b. entry_after st send.0 (cond b (Some ([], d)) None)) own in
           let next = (allowed d refl).number in
           let mine : number_of d ≡ last_number st send.0 + 1 = subst (λ c. number_of d ≡ last_number st c + 1) (eqb-true (client_of d) send.0 own) next in
           passed st mid send (ap number_in there ∙ mine) covered
@@ -62,15 +65,18 @@ covered_behind st mid (Some d) after allowed send covered =
 
 -- What reports a deed and is kept is covered.
 pub kept_covered : (st : State) (sends : List (ℕ × Reply)) → KeepsReports st sends → All (IsCovered st) sends
-kept_covered st sends keeps = All-weaker (λ (send : ℕ × Reply). reports_deed send.1 ≡ true → KeepsReply st send.0 send.1) (IsCovered st) (λ send kept reports. inr (kept reports)) sends keeps
+kept_covered st sends keeps = All-weaker (λ (send : ℕ × Reply). reports_deed send.1 ≡ true
+    → KeepsReply st send.0 send.1) (IsCovered st) (λ send kept reports. inr (kept reports)) sends keeps
 
 -- ---- one step, and one closing
 
-pub step_covered : (st new : State) (soft : Soft) (c : ℕ) (m : Message) (answered : Answer) → IsState st → IsStep st soft c m answered new → (send : ℕ × Reply) → IsCovered st send → IsCovered new send
+pub step_covered : (st new : State) (soft : Soft) (c : ℕ) (m : Message) (answered : Answer) → IsState st
+    → IsStep st soft c m answered new → (send : ℕ × Reply) → IsCovered st send → IsCovered new send
 step_covered st new soft c m answered is step =
     covered_behind st new answered.deed step.state_is (λ d deed. answer_allowed st soft c m answered d is step.answer deed)
 
-pub step_sends : (st new : State) (soft : Soft) (c : ℕ) (m : Message) (answered : Answer) → IsState st → IsStep st soft c m answered new → All (IsCovered new) answered.sends
+pub step_sends : (st new : State) (soft : Soft) (c : ℕ) (m : Message) (answered : Answer) → IsState st
+    → IsStep st soft c m answered new → All (IsCovered new) answered.sends
 step_sends st new soft c m answered is step = kept_covered new answered.sends (step_backed st new soft c m answered is step)
 
 pub close_sends : (st : State) (bag : Bagged) (client : ℕ) (old : Soft) → All (IsCovered st) (on_close bag client old).sends
@@ -96,9 +102,12 @@ coming_covers st mid soft (hangs_up c) first is comes = record {
   sent = subst (λ l. All (IsCovered mid) l) (sym (ap (λ (a : Answer). a.sends) comes.0)) (close_sends mid st.bag c soft);
 }
 
-pub all_covered : (xs : List Coming) (st : State) (soft : Soft) (all : History) → IsState st → Happens st soft xs all → ((send : ℕ × Reply) → IsCovered st send → IsCovered all.state send) × All (IsCovered all.state) all.sends
-all_covered [] st soft all is happens =
-    (λ send covered. subst (λ (h : History). IsCovered h.state send) (sym happens) covered, subst (λ (h : History). All (IsCovered h.state) h.sends) (sym happens) (All-nil (IsCovered st)))
+pub all_covered : (xs : List Coming) (st : State) (soft : Soft) (all : History) → IsState st → Happens st soft xs all
+    → ((send : ℕ × Reply) → IsCovered st send → IsCovered all.state send) × All (IsCovered all.state) all.sends
+all_covered [] st soft all is happens = (
+  λ send covered. subst (λ (h : History). IsCovered h.state send) (sym happens) covered,
+  subst (λ (h : History). All (IsCovered h.state) h.sends) (sym happens) (All-nil (IsCovered st)),
+)
 all_covered (x ∷ xs) st soft all is happens =
     let first : Answer = happens.0 in
     let mid : State = happens.1.0 in
@@ -108,5 +117,6 @@ all_covered (x ∷ xs) st soft all is happens =
     let whole : all ≡ first_then first later = happens.1.1.1.1.1 in (
       λ send covered. subst (λ (h : History). IsCovered h.state send) (sym whole) (rest.0 send (covers.stays send covered)),
       subst (λ (h : History). All (IsCovered h.state) h.sends) (sym whole)
-          (All-append (IsCovered later.state) first.sends later.sends (All-weaker (IsCovered mid) (IsCovered later.state) rest.0 first.sends covers.sent) rest.1),
+          (All-append (IsCovered later.state) first.sends later.sends
+          (All-weaker (IsCovered mid) (IsCovered later.state) rest.0 first.sends covers.sent) rest.1),
     )

@@ -36,7 +36,8 @@ no_longest row waits none = by (longest row waits) none
     by None e = refl
     by (Some w) e = absurd (none-some w.0 (sym e))
 
-pub one_longest : (row : Tuple) (waits : List Wait) (request : Request) → option_map (λ (w : Wait). w.0) (longest row waits) ≡ Some request → Offered row waits request
+pub one_longest : (row : Tuple) (waits : List Wait) (request : Request)
+    → option_map (λ (w : Wait). w.0) (longest row waits) ≡ Some request → Offered row waits request
 one_longest row waits request some = by (longest row waits) refl some
   where
     by : (o : Option Wait) → longest row waits ≡ o → option_map (λ (w : Wait). w.0) o ≡ Some request → Offered row waits request
@@ -46,22 +47,44 @@ one_longest row waits request some = by (longest row waits) refl some
 module _ (id : ℕ) (row : Tuple) (soft : Soft) where
   -- No input takes the tuple: the reads are told, and wait no longer.
   pub told_reads : option_map (λ (w : Wait). w.0) (longest row soft.waits) ≡ None
-      → dispatch id row soft ≡ record { sends = map (read_for id row) (map (λ w. w.0) (readers row soft.waits)); soft = record { holds = soft.holds; waits = without_readers row soft.waits } }
+      → dispatch id row soft ≡ record {
+        sends = map (read_for id row) (map (λ w. w.0) (readers row soft.waits));
+        soft = record { holds = soft.holds; waits = without_readers row soft.waits };
+      }
   told_reads none =
-      ap (λ (o : Option Wait). let t : Sends = record { sends = map (read_to id row) (readers row soft.waits) ++ map (offer_to id row) (option_to_list o); soft = held_for id o (record { holds = soft.holds; waits = without_readers row soft.waits }) } in t) (no_longest row soft.waits none)
-      ∙ ap (λ sends. let t : Sends = record { sends = sends; soft = record { holds = soft.holds; waits = without_readers row soft.waits } } in t) (append-nil (map (read_to id row) (readers row soft.waits)) ∙ sym (reads_by_requests id row (readers row soft.waits)))
+      ap (λ (o : Option Wait). let t : Sends = record {
+        sends = map (read_to id row) (readers row soft.waits) ++ map (offer_to id row) (option_to_list o);
+        soft = held_for id o (record { holds = soft.holds; waits = without_readers row soft.waits });
+      } in t) (no_longest row soft.waits none)
+      ∙ ap (λ sends. let t : Sends = record { sends = sends; soft = record { holds = soft.holds; waits = without_readers row soft.waits } } in t)
+      (append-nil (map (read_to id row) (readers row soft.waits)) ∙ sym (reads_by_requests id row (readers row soft.waits)))
 
   -- An input takes it: the reads are told, it is offered, and what was told waits no longer.
   pub told_offer : (request : Request) → option_map (λ (w : Wait). w.0) (longest row soft.waits) ≡ Some request
-      → dispatch id row soft ≡ record { sends = map (read_for id row) (map (λ w. w.0) (readers row soft.waits)) ++ offer_for id row request ∷ []; soft = record { holds = insert soft.holds id request; waits = without request (without_readers row soft.waits) } }
+      → dispatch id row soft ≡ record {
+        sends = map (read_for id row) (map (λ w. w.0) (readers row soft.waits)) ++ offer_for id row request ∷ [];
+        soft = record { holds = insert soft.holds id request; waits = without request (without_readers row soft.waits) };
+      }
   told_offer request some =
       let offered = one_longest row soft.waits request some in
-      ap (λ (o : Option Wait). let t : Sends = record { sends = map (read_to id row) (readers row soft.waits) ++ map (offer_to id row) (option_to_list o); soft = held_for id o (record { holds = soft.holds; waits = without_readers row soft.waits }) } in t) offered.found
-      ∙ ap (λ (p : Request). let t : Sends = record { sends = map (read_to id row) (readers row soft.waits) ++ offer_for id row p ∷ []; soft = record { holds = insert soft.holds id p; waits = without p (without_readers row soft.waits) } } in t) offered.request_is
-      ∙ ap (λ sends. let t : Sends = record { sends = sends ++ offer_for id row request ∷ []; soft = record { holds = insert soft.holds id request; waits = without request (without_readers row soft.waits) } } in t) (sym (reads_by_requests id row (readers row soft.waits)))
+      ap (λ (o : Option Wait). let t : Sends = record {
+        sends = map (read_to id row) (readers row soft.waits) ++ map (offer_to id row) (option_to_list o);
+        soft = held_for id o (record { holds = soft.holds; waits = without_readers row soft.waits });
+      } in t) offered.found
+      ∙ ap (λ (p : Request). let t : Sends = record {
+        sends = map (read_to id row) (readers row soft.waits) ++ offer_for id row p ∷ [];
+        soft = record { holds = insert soft.holds id p; waits = without p (without_readers row soft.waits) };
+      } in t) offered.request_is
+      ∙ ap (λ sends. let t : Sends = record {
+        sends = sends ++ offer_for id row request ∷ [];
+        soft =
+            record { holds = insert soft.holds id request; waits = without request (without_readers row soft.waits) };
+      } in t)
+      (sym (reads_by_requests id row (readers row soft.waits)))
 
   -- Who takes it holds nothing, where holds and waits are apart.
-  pub longest_holds_nothing : (request : Request) → AreApart soft → option_map (λ (w : Wait). w.0) (longest row soft.waits) ≡ Some request → IsHeldAt soft.holds request None
+  pub longest_holds_nothing : (request : Request) → AreApart soft
+      → option_map (λ (w : Wait). w.0) (longest row soft.waits) ≡ Some request → IsHeldAt soft.holds request None
   longest_holds_nothing request apart some =
       let offered = one_longest row soft.waits request some in
       subst (λ p. IsHeldAt soft.holds p None) offered.request_is

@@ -1,5 +1,6 @@
 -- Whatever comes to a server in order has an outcome: what a request looks up is found by going through the ids.
-use Rattle.std.proofs.Common.{◌≡◌, ℕ, zero, suc, ◌<◌, Bool, true, false, true≢false, not, ◌&&◌, List, [], ◌∷◌, Option, Some, None, IsSome, is_some, option_to_list, inl, inr, refl, sym, ap, ◌∙◌, arith}
+use Rattle.std.proofs.Common.{◌≡◌, ℕ, zero, suc, ◌<◌, Bool, true, false, true≢false, not, ◌&&◌, List, [], ◌∷◌, Option}
+use Rattle.std.proofs.Common.{Some, None, IsSome, is_some, option_to_list, inl, inr, refl, sym, ap, ◌∙◌, arith}
 use Rattle.std.proofs.lemmas.Bool.{cases_lt, and_parts, and_from, not-true, not_from_false}
 use Rattle.std.specs.FinMap.{get}
 use Rattle.linda_tuple.specs.Tuple.{Tuple}
@@ -22,7 +23,9 @@ use Rattle.linda_store_step.specs.Soft.{Soft}
 use Rattle.linda_store_step.specs.Looking.{IsLeast, passed_over}
 use Rattle.linda_store_step.specs.Dispatch.{Sends, on_cancel, on_close}
 use Rattle.linda_store_step.specs.Asking.{on_ask, only_sent}
-use Rattle.linda_store_step.specs.Answer.{Answer, only_sends, only_reply, greeting, on_out, out_without_deed, on_accept, accept_without_deed, on_leave, leave_without_deed, has_left, last_number, SaysAsk, is_for, IsAnswer, IsStep}
+use Rattle.linda_store_step.specs.Answer.{Answer, only_sends, only_reply, greeting, on_out, out_without_deed, on_accept}
+use Rattle.linda_store_step.specs.Answer.{accept_without_deed, on_leave, leave_without_deed, has_left, last_number}
+use Rattle.linda_store_step.specs.Answer.{SaysAsk, is_for, IsAnswer, IsStep}
 use Rattle.linda_store_step.specs.History.{Coming, says, hangs_up, Comes, History, Happens, nothing_yet, first_then}
 use Rattle.linda_store_step.specs.Store.{IsOrderly}
 use Rattle.linda_store_step.proofs.ApartLaws.{same_request_is, same_request_yes}
@@ -109,12 +112,15 @@ module _ (st : State) (is : IsState st) where
 -- ---- answers
 
 -- There is something to tell for an Ask.
-said_of : (gone : Bool) (st : State) (soft : Soft) (c ticket : ℕ) (remove : Bool) (shape : Template) → IsOrderly st soft → (told : Sends) × SaysAsk gone st c ticket remove shape soft told
+said_of : (gone : Bool) (st : State) (soft : Soft) (c ticket : ℕ) (remove : Bool) (shape : Template)
+    → IsOrderly st soft → (told : Sends) × SaysAsk gone st c ticket remove shape soft told
 said_of true st soft c ticket remove shape orderly = (only_sent ((c, refused (refusals.Left (last_number st c))) ∷ []) soft, refl)
 said_of false st soft c ticket remove shape orderly =
     let held = held_of st orderly.state_is soft orderly.soft_is.there (request_of c ticket) in
-    let least = least_of st orderly.state_is shape (passed_over remove soft.holds) in
-    (on_ask st.bag (request_of c ticket) remove shape held.0 least.0 soft, record { held = held.0; is_held = held.1; least = least.0; is_least = least.1; told_is = refl })
+    let least = least_of st orderly.state_is shape (passed_over remove soft.holds) in (
+      on_ask st.bag (request_of c ticket) remove shape held.0 least.0 soft,
+      record { held = held.0; is_held = held.1; least = least.0; is_least = least.1; told_is = refl },
+    )
 
 answer_of : (st : State) (soft : Soft) (c : ℕ) (m : Message) → IsOrderly st soft → (answered : Answer) × IsAnswer st soft c m answered
 answer_of st soft c (messages.Hello version client fresh) orderly = (only_reply c (greeting st c version fresh) soft, refl)

@@ -1,12 +1,14 @@
 -- Which tuples are free after a step: those that were before, those that are new, and the one that is released.
-use Rattle.std.proofs.Common.{◌≡◌, ℕ, ◌+◌, ◌<◌, inl, inr, true, false, ◌||◌, List, [], ◌∷◌, length, Option, None, Some, is_some, option_to_list, Result, Ok, Err, OnOk, IfOk, refl, sym, ap, subst, ◌∙◌, true≢false, eq-eqb, arith}
+use Rattle.std.proofs.Common.{◌≡◌, ℕ, ◌+◌, ◌<◌, inl, inr, true, false, ◌||◌, List, [], ◌∷◌, length, Option, None, Some}
+use Rattle.std.proofs.Common.{is_some, option_to_list, Result, Ok, Err, OnOk, IfOk, refl, sym, ap, subst, ◌∙◌}
+use Rattle.std.proofs.Common.{true≢false, eq-eqb, arith}
 use Rattle.std.proofs.lemmas.Bool.{cases_eq, cases_lt}
 use Rattle.std.proofs.lemmas.Option.{none-some}
 use Rattle.std.specs.FinMap.{get, insert, remove}
 use Rattle.linda_tuple.specs.Tuple.{Tuple}
-use Rattle.linda_bag.specs.declared.starts.Starts.{Starts}
-use Rattle.linda_bag.specs.Starts.{AreRight}
-use Rattle.linda_maps.proofs.MapLaws.{get_same, get_other, get_removed_other}
+use Rattle.linda_bag.specs.declared.search_hints.SearchHints.{SearchHints}
+use Rattle.linda_bag.specs.SearchHints.{AreRight}
+use Rattle.linda_map_laws.proofs.MapLaws.{get_same, get_other, get_removed_other}
 use Rattle.linda_bag.proofs.ColumnLaws.{stay_right}
 use Rattle.linda_hold.specs.declared.request.Request.{Request}
 use Rattle.linda_hold.specs.Waits.{Wait, longest, without_readers}
@@ -33,9 +35,12 @@ dispatched_elsewhere id row soft k other = by (longest row soft.waits)
     by (Some w) = ap is_some (get_other soft.holds id w.0 k other)
 
 -- So where a tuple was released, what is free elsewhere was free before.
-pub released_elsewhere : (id : ℕ) (row : Tuple) (soft : Soft) (holds : HeldFor) → holds ≡ (dispatch id row (record { holds = remove soft.holds id; waits = soft.waits })).soft.holds → (k : ℕ) → (k ≡ id → ⊥) → is_held holds k ≡ false → is_held soft.holds k ≡ false
+pub released_elsewhere : (id : ℕ) (row : Tuple) (soft : Soft) (holds : HeldFor)
+    → holds ≡ (dispatch id row (record { holds = remove soft.holds id; waits = soft.waits })).soft.holds
+    → (k : ℕ) → (k ≡ id → ⊥) → is_held holds k ≡ false → is_held soft.holds k ≡ false
 released_elsewhere id row soft holds is k other free =
-    sym (dispatched_elsewhere id row (record { holds = remove soft.holds id; waits = soft.waits }) k other ∙ ap is_some (get_removed_other soft.holds id k other))
+    sym (dispatched_elsewhere id row (record { holds = remove soft.holds id; waits = soft.waits }) k other
+    ∙ ap is_some (get_removed_other soft.holds id k other))
     ∙ ap (λ h. is_held h k) (sym is) ∙ free
 
 -- A tuple that a bag has below the next id it had before the deeds.
@@ -46,11 +51,13 @@ below_kept st new ds after k row below stored =
       | false ↦ λ is. sym (old_id st ds k is below) ∙ sym (after.bag k) ∙ stored
     ] refl
 
--- Right starts stay right where deeds are done, and nothing that is there is free below the next id that was not.
-pub done_right : (st new : State) (ds : List Deed) (holds now : HeldFor) (starts : Starts) → IsAfter st ds new → ((k : ℕ) (row : Tuple) → k < st.next → get new.bag k ≡ Some row → is_held now k ≡ false → is_held holds k ≡ false) → AreRight st.bag (is_held holds) st.next starts → AreRight new.bag (is_held now) new.next starts
-done_right st new ds holds now starts after free rights =
+-- Right hints stay right where deeds are done, and nothing that is there is free below the next id that was not.
+pub done_right : (st new : State) (ds : List Deed) (holds now : HeldFor) (hints : SearchHints) → IsAfter st ds new
+    → ((k : ℕ) (row : Tuple) → k < st.next → get new.bag k ≡ Some row → is_held now k ≡ false → is_held holds k ≡ false)
+    → AreRight st.bag (is_held holds) st.next hints → AreRight new.bag (is_held now) new.next hints
+done_right st new ds holds now hints after free rights =
     let more : new.next ≡ st.next + length (outs_of ds) = after.next in
-    stay_right st.bag new.bag (is_held holds) (is_held now) st.next new.next starts (omega arith)
+    stay_right st.bag new.bag (is_held holds) (is_held now) st.next new.next hints (omega arith)
     (λ k row stored. elim (cases_lt k st.next) [
       | inl below ↦ inr (below_kept st new ds after k row below stored)
       | inr above ↦ inl above
@@ -62,21 +69,25 @@ done_right st new ds holds now starts after free rights =
     rights
 
 -- A tuple is put, and dispatched.
-pub put_right : (st new : State) (c n : ℕ) (tuple : Tuple) (soft now : Soft) (starts : Starts) → IsAfter st (deeds.Out c n tuple ∷ []) new → now ≡ (dispatch st.next tuple soft).soft → AreRight st.bag (is_held soft.holds) st.next starts → AreRight new.bag (is_held now.holds) new.next starts
-put_right st new c n tuple soft now starts after is rights =
-    done_right st new (deeds.Out c n tuple ∷ []) soft.holds now.holds starts after
+pub put_right : (st new : State) (c n : ℕ) (tuple : Tuple) (soft now : Soft) (hints : SearchHints) → IsAfter st (deeds.Out c n tuple ∷ []) new
+    → now ≡ (dispatch st.next tuple soft).soft → AreRight st.bag (is_held soft.holds) st.next hints → AreRight new.bag (is_held now.holds) new.next hints
+put_right st new c n tuple soft now hints after is rights =
+    done_right st new (deeds.Out c n tuple ∷ []) soft.holds now.holds hints after
     (λ k row below stored free. sym (dispatched_elsewhere st.next tuple soft k (λ same. omega arith)) ∙ ap (λ (s : Soft). is_held s.holds k) (sym is) ∙ free)
     rights
 
 -- An offer is accepted, or is gone.
-pub accepted_right : (st new : State) (c n id : ℕ) (held : Option Tuple) (deed : Option Deed) (sends : List (ℕ × Reply)) (soft now : Soft) (starts : Starts) → (let a : Answer = record { deed = deed; sends = sends; soft = now } in a) ≡ take_or_pass c n id held soft → IsAfter st (option_to_list deed) new → AreRight st.bag (is_held soft.holds) st.next starts → AreRight new.bag (is_held now.holds) new.next starts
-accepted_right st new c n id None deed sends soft now starts is after rights =
-    done_right st new (option_to_list deed) soft.holds now.holds starts after
+pub accepted_right : (st new : State) (c n id : ℕ) (held : Option Tuple) (deed : Option Deed) (sends : List (ℕ × Reply)) (soft now : Soft)
+    (hints : SearchHints) → (let a : Answer = record { deed = deed; sends = sends; soft = now } in a) ≡ take_or_pass c n id held soft
+    → IsAfter st (option_to_list deed) new → AreRight st.bag (is_held soft.holds) st.next hints → AreRight new.bag (is_held now.holds) new.next hints
+accepted_right st new c n id None deed sends soft now hints is after rights =
+    done_right st new (option_to_list deed) soft.holds now.holds hints after
     (λ k row below stored free. ap (λ (a : Answer). is_held a.soft.holds k) (sym is) ∙ free)
     rights
-accepted_right st new c n id (Some taken) deed sends soft now starts is after rights =
-    let done : IsAfter st (deeds.Take c n id ∷ []) new = subst (λ (o : Option Deed). IsAfter st (option_to_list o) new) (ap (λ (a : Answer). a.deed) is) after in
-    done_right st new (deeds.Take c n id ∷ []) soft.holds now.holds starts done
+accepted_right st new c n id (Some taken) deed sends soft now hints is after rights =
+    let done : IsAfter st (deeds.Take c n id ∷ []) new =
+    subst (λ (o : Option Deed). IsAfter st (option_to_list o) new) (ap (λ (a : Answer). a.deed) is) after in
+    done_right st new (deeds.Take c n id ∷ []) soft.holds now.holds hints done
     (λ k row below stored free. elim (cases_eq k id) [
       | inl same ↦ absurd (none-some row (sym (done.bag k ∙ taken_id st (deeds.Take c n id ∷ []) k (ap (λ b. b || false) (eq-eqb id k (sym same)))) ∙ stored))
       | inr other ↦ sym (ap is_some (get_removed_other soft.holds id k other)) ∙ ap (λ (a : Answer). is_held a.soft.holds k) (sym is) ∙ free
@@ -84,17 +95,21 @@ accepted_right st new c n id (Some taken) deed sends soft now starts is after ri
     rights
 
 -- A Leave changes neither the bag nor the next id.
-pub left_right : (st new : State) (c n : ℕ) (now : Soft) (starts : Starts) → IsState st → IsAfter st (deeds.Leave c n ∷ []) new → AreRight st.bag (is_held now.holds) st.next starts → AreRight new.bag (is_held now.holds) new.next starts
-left_right st new c n now starts is after rights =
-    subst (λ (s : State). AreRight s.bag (is_held now.holds) s.next starts) (one_after st (deeds.Leave c n ∷ []) (done st (deeds.Leave c n)) new (done_after st (deeds.Leave c n) is) after) rights
+pub left_right : (st new : State) (c n : ℕ) (now : Soft) (hints : SearchHints) → IsState st → IsAfter st (deeds.Leave c n ∷ []) new
+    → AreRight st.bag (is_held now.holds) st.next hints → AreRight new.bag (is_held now.holds) new.next hints
+left_right st new c n now hints is after rights =
+    subst (λ (s : State). AreRight s.bag (is_held now.holds) s.next hints)
+    (one_after st (deeds.Leave c n ∷ []) (done st (deeds.Leave c n)) new (done_after st (deeds.Leave c n) is) after) rights
 
--- Starts that were right stay so where one more tuple is held.
-pub holding_right : (bag : Bagged) (holds now : HeldFor) (id : ℕ) (request : Request) (next : ℕ) (starts : Starts) → now ≡ insert holds id request → AreRight bag (is_held holds) next starts → AreRight bag (is_held now) next starts
-holding_right bag holds now id request next starts is rights =
-    stay_right bag bag (is_held holds) (is_held now) next next starts (omega arith)
+-- Hints that were right stay so where one more tuple is held.
+pub holding_right : (bag : Bagged) (holds now : HeldFor) (id : ℕ) (request : Request) (next : ℕ) (hints : SearchHints)
+    → now ≡ insert holds id request → AreRight bag (is_held holds) next hints → AreRight bag (is_held now) next hints
+holding_right bag holds now id request next hints is rights =
+    stay_right bag bag (is_held holds) (is_held now) next next hints (omega arith)
     (λ k row stored. inr stored)
     (λ k row stored free. elim (cases_eq k id) [
-      | inl same ↦ absurd (true≢false (sym (ap is_some (get_same holds id request)) ∙ ap (λ i. is_held (insert holds id request) i) (sym same) ∙ ap (λ h. is_held h k) (sym is) ∙ free))
+      | inl same ↦ absurd (true≢false (sym (ap is_some (get_same holds id request))
+          ∙ ap (λ i. is_held (insert holds id request) i) (sym same) ∙ ap (λ h. is_held h k) (sym is) ∙ free))
       | inr other ↦ inr (stored, sym (ap is_some (get_other holds id request k other)) ∙ ap (λ h. is_held h k) (sym is) ∙ free)
     ])
     rights

@@ -40,7 +40,8 @@ came st mid new soft (hangs_up c) ds answered is stands closed =
 abbrev pub StandsAfter : State → List Deed → History → Type 0
 StandsAfter st ds all = Stands st (ds ++ all.deeds) all.state all.soft
 
-pub happened : (st mid : State) (soft : Soft) (xs : List Coming) (ds : List Deed) (all : History) → IsState st → Stands st ds mid soft → Happens mid soft xs all → StandsAfter st ds all
+pub happened : (st mid : State) (soft : Soft) (xs : List Coming) (ds : List Deed) (all : History)
+    → IsState st → Stands st ds mid soft → Happens mid soft xs all → StandsAfter st ds all
 happened st mid soft [] ds all is stands happens =
     subst (StandsAfter st ds) (sym happens) (subst (λ l. Stands st l mid soft) (sym (append-nil ds)) stands)
 happened st mid soft (x ∷ xs) ds all is stands happens =
@@ -48,7 +49,8 @@ happened st mid soft (x ∷ xs) ds all is stands happens =
     let later : History = happens.1.1.0 in
     subst (StandsAfter st ds) (sym happens.1.1.1.1.1)
     (subst (λ l. Stands st l later.state later.soft) (append_assoc ds (option_to_list first.deed) later.deeds)
-    (happened st happens.1.0 first.soft xs (ds ++ option_to_list first.deed) later is (came st mid happens.1.0 soft x ds first is stands happens.1.1.1.0) happens.1.1.1.1.0))
+    (happened st happens.1.0 first.soft xs (ds ++ option_to_list first.deed) later is
+    (came st mid happens.1.0 soft x ds first is stands happens.1.1.1.0) happens.1.1.1.1.0))
 
 -- Each history of a server in order is safe.
 pub all_safe : (st : State) (soft : Soft) (xs : List Coming) (all : History) → IsOrderly st soft → Happens st soft xs all → IsSafe st all

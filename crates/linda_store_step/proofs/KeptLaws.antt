@@ -2,7 +2,7 @@
 use Rattle.std.proofs.Common.{◌≡◌, ℕ, ◌+◌, List, [], ◌∷◌, Some, None, IsSome, option_to_list, refl, sym, ap, ◌∙◌, true≢false, arith}
 use Rattle.std.specs.FinMap.{get}
 use Rattle.linda_tuple.specs.Tuple.{Tuple}
-use Rattle.linda_maps.proofs.MapLaws.{get_same}
+use Rattle.linda_map_laws.proofs.MapLaws.{get_same}
 use Rattle.linda_hold.specs.Request.{request_of}
 use Rattle.linda_book.specs.declared.kept_reply.KeptReply.{KeptReply}
 use Rattle.linda_book.specs.declared.kept_reply.KeptReply.TheVariants as kept
@@ -45,7 +45,8 @@ module _ (st new : State) (c : ℕ) (is : IsState st) where
       ∙ ap (get (done st d).book) (sym mine)
       ∙ get_same st.book (client_of d) (number_of d, reply_of_deed st [] d)
 
-  kept_as : (d : Deed) (n : ℕ) (reply : KeptReply) (sends others : List (ℕ × Reply)) → client_of d ≡ c → number_of d ≡ n → reply_of_deed st [] d ≡ reply → IsAfter st (d ∷ []) new
+  kept_as : (d : Deed) (n : ℕ) (reply : KeptReply) (sends others : List (ℕ × Reply)) → client_of d ≡ c
+      → number_of d ≡ n → reply_of_deed st [] d ≡ reply → IsAfter st (d ∷ []) new
       → sends ≡ (c, reply_of_kept n reply) ∷ others → IsKeptFor c n sends new
   kept_as d n reply sends others mine number as_kept after first = record {
     reply = reply;
@@ -60,7 +61,8 @@ module _ (st new : State) (c : ℕ) (is : IsState st) where
   pub stored_kept : (n : ℕ) (tuple : Tuple) (soft : Soft) → IsAfter st (deeds.Out c n tuple ∷ []) new → IsKeptFor c n (on_out st c n tuple None soft).sends new
   stored_kept n tuple soft after = kept_as (deeds.Out c n tuple) n (kept.Stored st.next) _ _ refl refl (ap (λ id. kept.Stored id) stored_at) after refl
 
-  pub taken_kept : (n id : ℕ) (row : Tuple) → get st.bag id ≡ Some row → IsAfter st (deeds.Take c n id ∷ []) new → IsKeptFor c n ((c, replies.Taken n id row) ∷ []) new
+  pub taken_kept : (n id : ℕ) (row : Tuple) → get st.bag id ≡ Some row → IsAfter st (deeds.Take c n id ∷ []) new
+      → IsKeptFor c n ((c, replies.Taken n id row) ∷ []) new
   taken_kept n id row there after =
       kept_as (deeds.Take c n id) n (kept.Taken id row) _ _ refl refl (ap (taken_reply id) (sym ((none_after st is).bag id) ∙ there)) after refl
 
@@ -71,7 +73,8 @@ module _ (st new : State) (c : ℕ) (is : IsState st) where
   left_kept n soft after = kept_as (deeds.Leave c n) n kept.Left _ _ refl refl refl after refl
 
   -- A message that does a deed is answered with the reply that is kept for its number.
-  pub kept_by : (soft : Soft) (m : Message) (a : Answer) → Course st soft c m a → IsSome a.deed → IsAfter st (option_to_list a.deed) new → IsKeptBy c m a.sends new
+  pub kept_by : (soft : Soft) (m : Message) (a : Answer) → Course st soft c m a → IsSome a.deed
+      → IsAfter st (option_to_list a.deed) new → IsKeptBy c m a.sends new
   kept_by soft _ _ (unnumbered m told none answer) some after = absurd (true≢false (sym some))
   kept_by soft _ _ (turned_down m d why asked verdict) some after = absurd (true≢false (sym some))
   kept_by soft _ _ (told_again m d reply asked verdict kept) some after = absurd (true≢false (sym some))
@@ -82,7 +85,8 @@ module _ (st new : State) (c : ℕ) (is : IsState st) where
   kept_by soft _ _ (left n none) some after = record { demand = to_leave n; asked = refl; kept = left_kept n soft after }
 
   -- A step that does a deed is answered with the reply that is kept for it.
-  pub answered_as_kept : (soft : Soft) (m : Message) (answered : Answer) → IsStep st soft c m answered new → IsSome answered.deed → IsAnsweredAsKept c answered.sends new
+  pub answered_as_kept : (soft : Soft) (m : Message) (answered : Answer) → IsStep st soft c m answered new
+      → IsSome answered.deed → IsAnsweredAsKept c answered.sends new
   answered_as_kept soft m answered step some =
       let found : IsKeptBy c m answered.sends new = kept_by soft m answered (course_of st soft c m answered step.answer) some step.state_is in
       record { entry = (found.demand.n, found.kept.reply); others = found.kept.others; kept = found.kept.kept; first = found.kept.first }

@@ -1,5 +1,6 @@
 -- Each look-up of the least id has an answer.
-use Rattle.std.proofs.Common.{◌≡◌, ℕ, ◌<◌, ◌⊎◌, Bool, true, false, ◌==◌, cond, List, [], ◌∷◌, Option, Some, None, inl, inr, refl, sym, ap, subst, ◌∙◌, true≢false, nat_cmp, arith}
+use Rattle.std.proofs.Common.{◌≡◌, ℕ, ◌<◌, ◌⊎◌, Bool, true, false, ◌==◌, cond, List, [], ◌∷◌, Option, Some, None, inl}
+use Rattle.std.proofs.Common.{inr, refl, sym, ap, subst, ◌∙◌, true≢false, nat_cmp, arith}
 use Rattle.std.proofs.lemmas.Bool.{cases_lt}
 use Rattle.std.proofs.lemmas.Option.{none-some, same_Some}
 use Rattle.std.specs.Cmp.{unsigned_ties, unsigned_Decides}
@@ -18,7 +19,8 @@ LeastOf Good es (Some id) = Good id × ((k : ℕ) → HasKey k es → k < id →
 LeastOf Good es None = (k : ℕ) → HasKey k es → Good k → ⊥
 
 module _ (Good : ℕ → Type 0) (decide : (k : ℕ) → Good k ⊎ (Good k → ⊥)) where
-  with_first : (e : ℕ × Tuple) (es : List (ℕ × Tuple)) → Good e.0 ⊎ (Good e.0 → ⊥) → (o : Option ℕ) → LeastOf Good es o → (r : Option ℕ) × LeastOf Good (e ∷ es) r
+  with_first : (e : ℕ × Tuple) (es : List (ℕ × Tuple)) → Good e.0 ⊎ (Good e.0 → ⊥) → (o : Option ℕ)
+      → LeastOf Good es o → (r : Option ℕ) × LeastOf Good (e ∷ es) r
   unfolding LeastOf
   with_first e es (inl good) None none =
       (Some e.0, (good, λ k has below is. elim has [ inl same ↦ omega arith | inr later ↦ none k later is ]))
@@ -47,10 +49,12 @@ has_key k row (e ∷ es) found =
     ] refl
 
 module _ (bag : Bagged) (shape : Template) (passed : ℕ → Bool) where
-  by_tests : (k : ℕ) (row : Tuple) → get bag k ≡ Some row → (fits out : Bool) → is_match shape row ≡ fits → passed k ≡ out → IsFreeMatch bag shape passed k ⊎ (IsFreeMatch bag shape passed k → ⊥)
+  by_tests : (k : ℕ) (row : Tuple) → get bag k ≡ Some row → (fits out : Bool) → is_match shape row ≡ fits
+      → passed k ≡ out → IsFreeMatch bag shape passed k ⊎ (IsFreeMatch bag shape passed k → ⊥)
   by_tests k row stored true false fits free = inl record { row = row; stored = stored; matches = fits; free = free }
   by_tests k row stored true true fits free = inr (λ is. true≢false (sym free ∙ is.free))
-  by_tests k row stored false out fits free = inr (λ is. true≢false (sym is.matches ∙ ap (is_match shape) (same_Some is.row row (sym is.stored ∙ stored)) ∙ fits))
+  by_tests k row stored false out fits free =
+      inr (λ is. true≢false (sym is.matches ∙ ap (is_match shape) (same_Some is.row row (sym is.stored ∙ stored)) ∙ fits))
 
   by_get : (k : ℕ) (there : Option Tuple) → get bag k ≡ there → IsFreeMatch bag shape passed k ⊎ (IsFreeMatch bag shape passed k → ⊥)
   by_get k None none = inr (λ is. none-some is.row (sym none ∙ is.stored))

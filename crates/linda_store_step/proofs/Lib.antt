@@ -37,3 +37,4 @@ pub mod TakeLaws
 pub mod ReportLaws
 pub mod AskedLaws
 pub mod CoveredLaws
+pub mod ServedLaws

@@ -1,5 +1,6 @@
 -- Look-ups have one answer each; what is passed over.
-use Rattle.std.proofs.Common.{◌≡◌, ℕ, ◌<◌, Bool, true, false, ◌&&◌, Option, Some, None, IfSome, IfNone, is_some, inl, inr, refl, sym, ap, ◌∙◌, true≢false, arith}
+use Rattle.std.proofs.Common.{◌≡◌, ℕ, ◌<◌, Bool, true, false, ◌&&◌, Option, Some, None, IfSome, IfNone, is_some, inl}
+use Rattle.std.proofs.Common.{inr, refl, sym, ap, ◌∙◌, true≢false, arith}
 use Rattle.std.proofs.lemmas.Bool.{cases_lt, cases_eq}
 use Rattle.linda_tuple.specs.Template.{Template}
 use Rattle.linda_bag.specs.FreeMatch.{IsFreeMatch}
@@ -45,6 +46,8 @@ module _ (bag : Bagged) (shape : Template) (ids passed : ℕ → Bool) (same : (
   in_set : (k : ℕ) → IsFreeMatch bag shape passed k → IsFreeMatch bag shape ids k
   in_set k is = same_free bag shape passed ids k (sym (same k)) is
 
-  pub least_found : (result : Option ℕ) → IfSome result (IsFreeMatch bag shape ids) → IfSome result (λ id. (k : ℕ) → k < id → IsFreeMatch bag shape ids k → ⊥) → IfNone result ((k : ℕ) → IsFreeMatch bag shape ids k → ⊥) → IsLeast bag shape passed result
+  pub least_found : (result : Option ℕ) → IfSome result (IsFreeMatch bag shape ids)
+      → IfSome result (λ id. (k : ℕ) → k < id → IsFreeMatch bag shape ids k → ⊥)
+      → IfNone result ((k : ℕ) → IsFreeMatch bag shape ids k → ⊥) → IsLeast bag shape passed result
   least_found (Some id) found least none = (same_free bag shape ids passed id (same id) found, λ k below is. least k below (in_set k is))
   least_found None found least none = λ k is. none k (in_set k is)

@@ -1,5 +1,7 @@
 -- A step and a closing as moves of a few kinds, so that what holds of each kind holds of all that a server does.
-use Rattle.std.proofs.Common.{◌≡◌, ℕ, ◌-◌, ◌≤◌, Bool, true, false, true≢false, cond, not, ◌&&◌, ◌==◌, nat_lt, List, [], ◌∷◌, ◌++◌, Option, Some, None, option_to_list, slice_get, All, Contains, refl, sym, ap, ◌∙◌, subst, arith}
+use Rattle.std.proofs.Common.{◌≡◌, ℕ, ◌-◌, ◌≤◌, Bool, true, false, true≢false, cond, not, ◌&&◌, ◌==◌, nat_lt, List, []}
+use Rattle.std.proofs.Common.{◌∷◌, ◌++◌, Option, Some, None, option_to_list, slice_get, All, Contains, refl, sym, ap}
+use Rattle.std.proofs.Common.{◌∙◌, subst, arith}
 use Rattle.std.specs.Prelude.{nat_le}
 use Rattle.std.proofs.lemmas.Option.{none-some}
 use Rattle.std.proofs.lemmas.List.Elements.{All-contains_itself, All-filter}
@@ -89,13 +91,15 @@ module _ (Known : ℕ → Reply → Type 0) (bag : Bagged) (x : Coming) where
 
   all_released : (old : Soft) (ids : List ℕ) → Move Known bag x old (release_all bag ids old)
   all_released old [] = stays old
-  all_released old (id ∷ ids) = goes_on old (release bag id old) (release_all bag ids (release bag id old).soft) (released old id) (all_released (release bag id old).soft ids)
+  all_released old (id ∷ ids) = goes_on old (release bag id old) (release_all bag ids (release bag id old).soft)
+      (released old id) (all_released (release bag id old).soft ids)
 
   -- A client that is closed.
   pub close_move : (client : ℕ) (old : Soft) → Move Known bag x old (on_close bag client old)
   close_move client old =
       let mid : Soft = record { holds = old.holds; waits = without_client client old.waits } in
-      goes_on old (no_sends mid) (release_all bag (held_in client (entries old.holds)) mid) (fewer _ old) (all_released mid (held_in client (entries old.holds)))
+      goes_on old (no_sends mid) (release_all bag (held_in client (entries old.holds)) mid) (fewer _ old)
+      (all_released mid (held_in client (entries old.holds)))
 
   -- A request that is given up.
   cancel_move : (request : Request) (held : Option ℕ) (old : Soft) → Move Known bag x old (on_cancel bag request held old)
@@ -103,21 +107,26 @@ module _ (Known : ℕ → Reply → Type 0) (bag : Bagged) (x : Coming) where
 
   -- ---- what is asked
 
-  module _ (c ticket : ℕ) (remove : Bool) (shape : Template) (x_is : IsAskOf x (wait_of (request_of c ticket) remove shape)) (known : Known c (refused (refusals.TooManyAsks ticket))) (old : Soft) where
-    found : (b : Bool) → remove ≡ b → (id : ℕ) → IsFreeMatch bag shape (passed_over b old.holds) id → Move Known bag x old (serve bag (request_of c ticket) b shape (Some id) old)
+  module _ (c ticket : ℕ) (remove : Bool) (shape : Template) (x_is : IsAskOf x (wait_of (request_of c ticket) remove shape))
+      (known : Known c (refused (refusals.TooManyAsks ticket))) (old : Soft) where
+    found : (b : Bool) → remove ≡ b → (id : ℕ) → IsFreeMatch bag shape (passed_over b old.holds) id
+        → Move Known bag x old (serve bag (request_of c ticket) b shape (Some id) old)
     found true is id free =
         offers old id (wait_of (request_of c ticket) remove shape) free.row x_is is free.stored free.matches
     found false is id free = reads old id (request_of c ticket)
 
-    serve_move : (least : Option ℕ) → IsLeast bag shape (passed_over remove old.holds) least → Move Known bag x old (serve bag (request_of c ticket) remove shape least old)
+    serve_move : (least : Option ℕ) → IsLeast bag shape (passed_over remove old.holds) least
+        → Move Known bag x old (serve bag (request_of c ticket) remove shape least old)
     serve_move None is = waits old (wait_of (request_of c ticket) remove shape) x_is
     serve_move (Some id) is = found remove refl id is.0
 
-    ask_move : (held least : Option ℕ) → IsHeldAt old.holds (request_of c ticket) held → IsLeast bag shape (passed_over remove old.holds) least → Move Known bag x old (on_ask bag (request_of c ticket) remove shape held least old)
+    ask_move : (held least : Option ℕ) → IsHeldAt old.holds (request_of c ticket) held → IsLeast bag shape (passed_over remove old.holds) least
+        → Move Known bag x old (on_ask bag (request_of c ticket) remove shape held least old)
     ask_move (Some id) least is_held is_least = repeats old id (request_of c ticket) is_held
     ask_move None least is_held is_least =
         either old (is_waiting (request_of c ticket) old.waits) (no_sends old) _ (stays old)
-        (either old (nat_le MAX_ASKS (open_asks c old)) _ (serve bag (request_of c ticket) remove shape least old) (tells old c (refused (refusals.TooManyAsks ticket)) refl known) (serve_move least is_least))
+        (either old (nat_le MAX_ASKS (open_asks c old)) _ (serve bag (request_of c ticket) remove shape least old)
+        (tells old c (refused (refusals.TooManyAsks ticket)) refl known) (serve_move least is_least))
 
 -- ---- what is told without a deed
 
@@ -132,7 +141,8 @@ plain_if false r s h k = k
 plain_greeting : (st : State) (c version : ℕ) (fresh : Bool) → IsPlain (greeting st c version fresh)
 plain_greeting st c version fresh =
     plain_if (not (version == VERSION)) _ _ (refl, refl)
-    (plain_if (fresh && nat_lt 0 (last_number st c)) _ _ (refl, refl) (plain_if (is_one_too_many st c) _ (replies.Welcome (last_number st c)) (refl, refl) (refl, refl)))
+    (plain_if (fresh && nat_lt 0 (last_number st c)) _ _ (refl, refl)
+    (plain_if (is_one_too_many st c) _ (replies.Welcome (last_number st c)) (refl, refl) (refl, refl)))
 
 kept_is_no_offer : (n : ℕ) (k : KeptReply) → is_offer (reply_of_kept n k) ≡ false
 kept_is_no_offer n (kept.Stored id) = refl
@@ -185,25 +195,30 @@ module _ (st new : State) (c : ℕ) (old : Soft) (is : IsState st) where
   told_move : (m : Message) (told : Sends) → Move (KnownIn new) st.bag (says c m) old told → IsAfter st [] new → Move (KnownIn new) new.bag (says c m) old told
   told_move m told move after = subst (λ (s : State). Move (KnownIn new) s.bag (says c m) old told) (same_state after) move
 
-  said_move : (gone : Bool) (ticket : ℕ) (remove : Bool) (shape : Template) (told : Sends) → SaysAsk gone st c ticket remove shape old told → Move (KnownIn new) st.bag (says c (messages.Ask ticket remove shape)) old told
+  said_move : (gone : Bool) (ticket : ℕ) (remove : Bool) (shape : Template) (told : Sends)
+      → SaysAsk gone st c ticket remove shape old told → Move (KnownIn new) st.bag (says c (messages.Ask ticket remove shape)) old told
   said_move true ticket remove shape told same =
       let r = refused (refusals.Left (last_number st c)) in
       subst (Move (KnownIn new) st.bag (says c (messages.Ask ticket remove shape)) old) (sym same) (tells old c r refl (plain_known r (refl, refl)))
   said_move false ticket remove shape told asked =
       subst (Move (KnownIn new) st.bag (says c (messages.Ask ticket remove shape)) old) (sym asked.told_is)
-      (ask_move (KnownIn new) st.bag _ c ticket remove shape refl (plain_known (refused (refusals.TooManyAsks ticket)) (refl, refl)) old asked.held asked.least asked.is_held asked.is_least)
+      (ask_move (KnownIn new) st.bag _ c ticket remove shape refl
+      (plain_known (refused (refusals.TooManyAsks ticket)) (refl, refl)) old asked.held asked.least asked.is_held asked.is_least)
 
   sent_move : (m : Message) (told : Sends) → demand_of m ≡ None → IsAnswer st old c m (only_sends told) → Move (KnownIn new) st.bag (says c m) old told
   sent_move (messages.Hello version client fresh) told none answer =
       let plain = plain_greeting st c version fresh in
-      subst (λ (a : Answer). Move (KnownIn new) st.bag (says c (messages.Hello version client fresh)) old (record { sends = a.sends; soft = a.soft })) (sym answer)
+      subst (λ (a : Answer). Move (KnownIn new) st.bag (says c (messages.Hello version client fresh)) old (record { sends = a.sends; soft = a.soft }))
+      (sym answer)
       (tells old c (greeting st c version fresh) plain.0 (plain_known (greeting st c version fresh) plain))
   sent_move (messages.Ask ticket remove shape) told none answer =
-      subst (λ (a : Answer). Move (KnownIn new) st.bag (says c (messages.Ask ticket remove shape)) old (record { sends = a.sends; soft = a.soft })) (sym answer.1.1)
+      subst (λ (a : Answer). Move (KnownIn new) st.bag (says c (messages.Ask ticket remove shape)) old (record { sends = a.sends; soft = a.soft }))
+      (sym answer.1.1)
       (said_move (has_left st c) ticket remove shape answer.0 answer.1.0)
   sent_move (messages.Cancel ticket) told none answer =
       let asked : AnswersCancel st.bag (request_of c ticket) old answer.0 = answer.1.0 in
-      subst (λ (a : Answer). Move (KnownIn new) st.bag (says c (messages.Cancel ticket)) old (record { sends = a.sends; soft = a.soft })) (sym (answer.1.1 ∙ ap only_sends asked.told_is))
+      subst (λ (a : Answer). Move (KnownIn new) st.bag (says c (messages.Cancel ticket)) old (record { sends = a.sends; soft = a.soft }))
+      (sym (answer.1.1 ∙ ap only_sends asked.told_is))
       (cancel_move (KnownIn new) st.bag _ (request_of c ticket) asked.held old)
   sent_move (messages.Out n tuple) told some answer = absurd (none-some (to_put n) (sym some))
   sent_move (messages.Accept n ticket id) told some answer = absurd (none-some (to_take n) (sym some))
@@ -213,7 +228,8 @@ module _ (st new : State) (c : ℕ) (old : Soft) (is : IsState st) where
   moved _ _ (unnumbered m told none answer) after = told_move m told (sent_move m told none answer) after
   moved _ _ (turned_down m d why asked verdict) after = tells old c (refused why) refl (plain_known (refused why) (refl, refl))
   moved _ _ (told_again m d reply asked verdict kept) after =
-      tells old c (reply_of_kept d.n reply) (kept_is_no_offer d.n reply) (same_known (reply_of_kept d.n reply) (λ reports. record { entry = (d.n, reply); kept = kept; reply = refl }) after)
+      tells old c (reply_of_kept d.n reply) (kept_is_no_offer d.n reply)
+      (same_known (reply_of_kept d.n reply) (λ reports. record { entry = (d.n, reply); kept = kept; reply = refl }) after)
   moved _ _ (stored n tuple none) after =
       goes_on old (only_sent ((c, replies.Stored n st.next) ∷ []) old) (dispatch st.next tuple old)
       (tells old c (replies.Stored n st.next) refl (first_known n (replies.Stored n st.next) _ (stored_kept st new c is n tuple old after)))
@@ -222,12 +238,14 @@ module _ (st new : State) (c : ℕ) (old : Soft) (is : IsState st) where
       let mid : Soft = record { holds = remove old.holds id; waits = old.waits } in
       goes_on old (no_sends mid) (only_sent ((c, replies.Taken n id row) ∷ []) mid)
       (gives_up old mid (record { holds = held_before old.holds id; waits = All-contains_itself old.waits }))
-      (tells mid c (replies.Taken n id row) refl (first_known n (replies.Taken n id row) [] (taken_kept st new c is n id row (held_there st (request_of c ticket) id old row held) after)))
+      (tells mid c (replies.Taken n id row) refl
+      (first_known n (replies.Taken n id row) [] (taken_kept st new c is n id row (held_there st (request_of c ticket) id old row held) after)))
   moved _ _ (passed n ticket id none held) after = tells old c (replies.Gone n) refl (first_known n (replies.Gone n) [] (passed_kept st new c is n id after))
   moved _ _ (left n none) after =
       goes_on old (only_sent ((c, replies.Left n) ∷ []) old) (on_close st.bag c old)
       (tells old c (replies.Left n) refl (first_known n (replies.Left n) _ (left_kept st new c is n old after)))
-      (subst (λ bag. Move (KnownIn new) new.bag (says c (messages.Leave n)) old (on_close bag c old)) (same_bag n after) (close_move (KnownIn new) new.bag (says c (messages.Leave n)) c old))
+      (subst (λ bag. Move (KnownIn new) new.bag (says c (messages.Leave n)) old (on_close bag c old))
+      (same_bag n after) (close_move (KnownIn new) new.bag (says c (messages.Leave n)) c old))
 
   -- Each step is a move.
   pub step_move : (m : Message) (answered : Answer) → IsStep st old c m answered new → MoveOf m answered

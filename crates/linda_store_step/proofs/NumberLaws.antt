@@ -1,5 +1,7 @@
 -- A numbered message for which there is no reply without a deed: its deed is done, and allowed.
-use Rattle.std.proofs.Common.{◌≡◌, ℕ, ◌+◌, ◌<◌, ◌≤◌, false, ◌==◌, nat_le, Option, Some, None, IfSome, IsSome, option_map, inl, inr, refl, ap, sym, subst, arith, leb-false, le_trans, lt_of_lt_of_le, zero-lt-suc}
+use Rattle.std.proofs.Common.{◌≡◌, ℕ, ◌+◌, ◌<◌, ◌≤◌, false, ◌==◌, nat_le, Option, Some, None, IfSome, IsSome}
+use Rattle.std.proofs.Common.{option_map, inl, inr, refl, ap, sym, subst, arith, leb-false, le_trans, lt_of_lt_of_le}
+use Rattle.std.proofs.Common.{zero-lt-suc}
 use Rattle.std.proofs.lemmas.Option.{none-some}
 use Rattle.std.proofs.lemmas.Bool.{eqb-false, or_parts, and_cases}
 use Rattle.std.specs.FinMap.{get, len}
@@ -14,7 +16,8 @@ use Rattle.linda_store_step.specs.declared.judge.Demand.{Demand}
 use Rattle.linda_store_step.specs.declared.judge.Verdict.{Verdict}
 use Rattle.linda_store_step.specs.declared.judge.Verdict.TheVariants.{Refused, Repeated, Done}
 use Rattle.linda_store_step.specs.Judge.{to_put, to_take, to_leave, judge}
-use Rattle.linda_store_step.specs.Answer.{last_number, standing_of, is_one_too_many, reply_by, without_deed, out_without_deed, accept_without_deed, leave_without_deed, reply_of_kept}
+use Rattle.linda_store_step.specs.Answer.{last_number, standing_of, is_one_too_many, reply_by, without_deed}
+use Rattle.linda_store_step.specs.Answer.{out_without_deed, accept_without_deed, leave_without_deed, reply_of_kept}
 use Rattle.linda_store_step.proofs.JudgeLaws.{IsFresh, IsVerdict, verdict_means}
 
 unmapped : {X Y : Type 0} (f : X → Y) (o : Option X) → option_map f o ≡ None → o ≡ None
@@ -30,7 +33,8 @@ none_is_done st c d = by (judge d (standing_of st c)) (verdict_means d (standing
   where
     by : (v : Verdict) → IsVerdict d (standing_of st c) v → reply_by st c d.n v ≡ None → v ≡ Done
     by Done means none = refl
-    by Repeated means none = absurd (not_below_zero (last_number st c) means.1 (ap number_in (unmapped (λ (e : Entry). reply_of_kept d.n e.1) (get st.book c) none)))
+    by Repeated means none =
+        absurd (not_below_zero (last_number st c) means.1 (ap number_in (unmapped (λ (e : Entry). reply_of_kept d.n e.1) (get st.book c) none)))
     by (Refused refusal) means none = absurd (none-some _ (sym none))
 
 fresh : (st : State) (c : ℕ) (d : Demand) → without_deed st c d ≡ None → IsFresh d (standing_of st c)

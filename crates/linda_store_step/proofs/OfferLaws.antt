@@ -1,8 +1,11 @@
 -- What a move offers is sought.
-use Rattle.std.proofs.Common.{◌≡◌, ℕ, Bool, true, false, true≢false, ◌&&◌, not, List, [], ◌∷◌, ◌++◌, map, Option, Some, None, option_to_list, All, Contains, ◌⊎◌, inl, inr, refl, sym, ap, ◌∙◌, subst}
+use Rattle.std.proofs.Common.{◌≡◌, ℕ, true, false, true≢false, not, List, [], ◌∷◌, ◌++◌, map, Option, Some, None}
+use Rattle.std.proofs.Common.{option_to_list, All, Contains, ◌⊎◌, inl, inr, refl, sym, ap, ◌∙◌, subst}
 use Rattle.std.proofs.lemmas.Option.{same_Some}
 use Rattle.std.proofs.lemmas.Bool.{and_parts}
-use Rattle.std.proofs.lemmas.List.Elements.{All-nil, All-cons, All-append, All-map, All-push, All-filter, All-weaker, All-contains, All-contains_itself, Contains-append_left, Contains-append_right}
+use Rattle.std.proofs.lemmas.List.Elements.{All-nil, All-cons, All-append, All-map, All-push, All-filter, All-weaker}
+use Rattle.std.proofs.lemmas.List.Elements.{All-contains, All-contains_itself, Contains-append_left}
+use Rattle.std.proofs.lemmas.List.Elements.{Contains-append_right}
 use Rattle.std.specs.FinMap.{get, insert}
 use Rattle.linda_tuple.specs.Tuple.{Tuple}
 use Rattle.linda_tuple.specs.Matching.{is_match}
@@ -24,7 +27,8 @@ use Rattle.linda_store_step.specs.Offers.{IsAskOf, Seeks, HasTaker, MakesOffer, 
 use Rattle.linda_store_step.proofs.MoveLaws.{Move, gives_up, tells, dispatches, repeats, reads, offers, waits, goes_on, KnownIn, step_move, close_move}
 
 -- two offers that are one
-same_offer : (p q : Request) (i k : ℕ) (s t : Tuple) → ◌≡◌ {A = ℕ × Reply} (p.client, replies.Offer p.ticket i s) (q.client, replies.Offer q.ticket k t) → (p ≡ q) × ((i ≡ k) × (s ≡ t))
+same_offer : (p q : Request) (i k : ℕ) (s t : Tuple)
+    → ◌≡◌ {A = ℕ × Reply} (p.client, replies.Offer p.ticket i s) (q.client, replies.Offer q.ticket k t) → (p ≡ q) × ((i ≡ k) × (s ≡ t))
 same_offer p q i k s t e =
     let reply : replies.Offer p.ticket i s ≡ replies.Offer q.ticket k t = ap (λ (send : ℕ × Reply). send.1) e in
     let ticket : p.ticket ≡ q.ticket = cc in
@@ -39,11 +43,13 @@ module _ (bag : Bagged) (x : Coming) where
   -- What is said of one send: if it is an offer, it is made again or has a taker.
   abbrev IsSought : Soft → ℕ × Reply → Type 0
   IsSought old send =
-      (request : Request) (id : ℕ) (tuple : Tuple) → send ≡ (request.client, replies.Offer request.ticket id tuple) → OffersAgain bag old id request tuple ⊎ HasTaker old x request tuple
+      (request : Request) (id : ℕ) (tuple : Tuple) → send ≡ (request.client, replies.Offer request.ticket id tuple)
+      → OffersAgain bag old id request tuple ⊎ HasTaker old x request tuple
 
   -- the same as `OffersWhatIsSought`, of all elements
   record IsFair (old : Soft) (told : Sends) : Type 0 where
-    holds : (id : ℕ) (request : Request) → get told.soft.holds id ≡ Some request → (get old.holds id ≡ Some request) ⊎ MakesOffer bag old x told.sends id request
+    holds : (id : ℕ) (request : Request) → get told.soft.holds id ≡ Some request
+        → (get old.holds id ≡ Some request) ⊎ MakesOffer bag old x told.sends id request
     waits : All (Seeks old x) told.soft.waits
     offers : All (IsSought old) told.sends
 
@@ -85,7 +91,10 @@ module _ (bag : Bagged) (x : Coming) where
     left_wait = All-filter (λ (w : Wait). not (is_reader tuple w)) (Contains old.waits) old.waits (All-contains_itself old.waits)
 
     dispatched_by : (o : Option Wait) → longest tuple old.waits ≡ o
-        → IsFair old (record { sends = map (read_to id tuple) (readers tuple old.waits) ++ map (offer_to id tuple) (option_to_list o); soft = held_for id o left })
+        → IsFair old (record {
+          sends = map (read_to id tuple) (readers tuple old.waits) ++ map (offer_to id tuple) (option_to_list o);
+          soft = held_for id o left;
+        })
     dispatched_by None found = record {
       holds = λ k request h. inl h;
       waits = all_wait old left.waits left_wait;
@@ -103,16 +112,25 @@ module _ (bag : Bagged) (x : Coming) where
         all_sends = map (read_to id tuple) (readers tuple old.waits) ++ offer_to id tuple w ∷ []
 
         made : MakesOffer bag old x all_sends id w.0
-        made = record { tuple = tuple; there = there; sent = Contains-append_right (map (read_to id tuple) (readers tuple old.waits)) (offer_to id tuple w ∷ []) (offer_to id tuple w) (one_of (offer_to id tuple w)); taker = taker_of w found }
+        made = record {
+          tuple = tuple;
+          there = there;
+          sent = Contains-append_right (map (read_to id tuple) (readers tuple old.waits))
+              (offer_to id tuple w ∷ []) (offer_to id tuple w) (one_of (offer_to id tuple w));
+          taker = taker_of w found;
+        }
 
-        held : (k : ℕ) (request : Request) → ((k ≡ id) × (w.0 ≡ request)) ⊎ (get old.holds k ≡ Some request) → (get old.holds k ≡ Some request) ⊎ MakesOffer bag old x all_sends k request
+        held : (k : ℕ) (request : Request) → ((k ≡ id) × (w.0 ≡ request)) ⊎ (get old.holds k ≡ Some request)
+            → (get old.holds k ≡ Some request) ⊎ MakesOffer bag old x all_sends k request
         held k request (inr before) = inl before
-        held k request (inl new) = inr (subst (λ i. MakesOffer bag old x all_sends i request) (sym new.0) (subst (MakesOffer bag old x all_sends id) new.1 made))
+        held k request (inl new) =
+            inr (subst (λ i. MakesOffer bag old x all_sends i request) (sym new.0) (subst (MakesOffer bag old x all_sends id) new.1 made))
 
   -- ---- an offer to a request that asks
 
   -- what is sent of the tuple of an id
-  all_of_id : (P : ℕ × Reply → Type 0) (f : Tuple → ℕ × Reply) (id : ℕ) → ((tuple : Tuple) → get bag id ≡ Some tuple → P (f tuple)) → All P (map f (option_to_list (get bag id)))
+  all_of_id : (P : ℕ × Reply → Type 0) (f : Tuple → ℕ × Reply) (id : ℕ)
+      → ((tuple : Tuple) → get bag id ≡ Some tuple → P (f tuple)) → All P (map f (option_to_list (get bag id)))
   all_of_id P f id gives = by (get bag id) refl
     where
       by : (o : Option Tuple) → get bag id ≡ o → All P (map f (option_to_list o))
@@ -124,7 +142,8 @@ module _ (bag : Bagged) (x : Coming) where
       let same = same_offer request other id k tuple t e in
       inl (ap (get old.holds) (sym same.1.0) ∙ held ∙ ap Some same.0, ap (get bag) (sym same.1.0) ∙ there ∙ ap Some same.1.1))
 
-  module _ (old : Soft) (id : ℕ) (w : Wait) (tuple : Tuple) (asked : IsAskOf x w) (removes : w.1.remove ≡ true) (there : get bag id ≡ Some tuple) (fits : is_match w.1.template tuple ≡ true) where
+  module _ (old : Soft) (id : ℕ) (w : Wait) (tuple : Tuple) (asked : IsAskOf x w) (removes : w.1.remove ≡ true)
+      (there : get bag id ≡ Some tuple) (fits : is_match w.1.template tuple ≡ true) where
     asker : HasTaker old x w.0 tuple
     asker = record { wait = w; seeks = inr asked; request_is = refl; removes = removes; matches = fits }
 
@@ -132,7 +151,8 @@ module _ (bag : Bagged) (x : Coming) where
     made_to_asker = record {
       tuple = tuple;
       there = there;
-      sent = subst (λ o. Contains {X = ℕ × Reply} (map (λ (t : Tuple). (w.0.client, replies.Offer w.0.ticket id t)) (option_to_list o)) (w.0.client, replies.Offer w.0.ticket id tuple)) (sym there) (one_of _);
+      sent = subst (λ o. Contains {X = ℕ × Reply} (map (λ (t : Tuple). (w.0.client, replies.Offer w.0.ticket id t)) (option_to_list o))
+          (w.0.client, replies.Offer w.0.ticket id tuple)) (sym there) (one_of _);
       taker = asker;
     }
 
@@ -146,9 +166,12 @@ module _ (bag : Bagged) (x : Coming) where
           inr (subst (λ p. HasTaker old x p t) same.0 (subst (HasTaker old x w.0) t_is asker)));
     }
       where
-        held : (k : ℕ) (request : Request) → ((k ≡ id) × (w.0 ≡ request)) ⊎ (get old.holds k ≡ Some request) → (get old.holds k ≡ Some request) ⊎ MakesOffer bag old x (offer_of bag id w.0) k request
+        held : (k : ℕ) (request : Request) → ((k ≡ id) × (w.0 ≡ request)) ⊎ (get old.holds k ≡ Some request)
+            → (get old.holds k ≡ Some request) ⊎ MakesOffer bag old x (offer_of bag id w.0) k request
         held k request (inr before) = inl before
-        held k request (inl new) = inr (subst (λ i. MakesOffer bag old x (offer_of bag id w.0) i request) (sym new.0) (subst (MakesOffer bag old x (offer_of bag id w.0) id) new.1 made_to_asker))
+        held k request (inl new) =
+            inr (subst (λ i. MakesOffer bag old x (offer_of bag id w.0) i request) (sym new.0)
+            (subst (MakesOffer bag old x (offer_of bag id w.0) id) new.1 made_to_asker))
 
   -- ---- one after the other
 
@@ -158,25 +181,43 @@ module _ (bag : Bagged) (x : Coming) where
     seeks_first w (inr asked) = inr asked
 
     taker_first : (request : Request) (tuple : Tuple) → HasTaker first.soft x request tuple → HasTaker old x request tuple
-    taker_first request tuple t = record { wait = t.wait; seeks = seeks_first t.wait t.seeks; request_is = t.request_is; removes = t.removes; matches = t.matches }
+    taker_first request tuple t = record {
+      wait = t.wait;
+      seeks = seeks_first t.wait t.seeks;
+      request_is =
+          t.request_is;
+      removes = t.removes;
+      matches = t.matches;
+    }
 
-    held_first : (id : ℕ) (request : Request) → (get old.holds id ≡ Some request) ⊎ MakesOffer bag old x first.sends id request → (get old.holds id ≡ Some request) ⊎ MakesOffer bag old x (first.sends ++ later.sends) id request
+    held_first : (id : ℕ) (request : Request) → (get old.holds id ≡ Some request) ⊎ MakesOffer bag old x first.sends id request
+        → (get old.holds id ≡ Some request) ⊎ MakesOffer bag old x (first.sends ++ later.sends) id request
     held_first id request (inl before) = inl before
-    held_first id request (inr o) = inr (record { tuple = o.tuple; there = o.there; sent = Contains-append_left first.sends later.sends _ o.sent; taker = o.taker })
+    held_first id request (inr o) =
+        inr (record { tuple = o.tuple; there = o.there; sent = Contains-append_left first.sends later.sends _ o.sent; taker = o.taker })
 
-    held_both : (id : ℕ) (request : Request) → (get first.soft.holds id ≡ Some request) ⊎ MakesOffer bag first.soft x later.sends id request → (get old.holds id ≡ Some request) ⊎ MakesOffer bag old x (first.sends ++ later.sends) id request
+    held_both : (id : ℕ) (request : Request) → (get first.soft.holds id ≡ Some request) ⊎ MakesOffer bag first.soft x later.sends id request
+        → (get old.holds id ≡ Some request) ⊎ MakesOffer bag old x (first.sends ++ later.sends) id request
     held_both id request (inl before) = held_first id request (a.holds id request before)
-    held_both id request (inr o) = inr (record { tuple = o.tuple; there = o.there; sent = Contains-append_right first.sends later.sends _ o.sent; taker = taker_first request o.tuple o.taker })
+    held_both id request (inr o) =
+        inr (record {
+          tuple = o.tuple;
+          there = o.there;
+          sent = Contains-append_right first.sends later.sends _ o.sent;
+          taker = taker_first request o.tuple o.taker;
+        })
 
     -- what is made again was held, or offered first
-    again_first : (request : Request) (id : ℕ) (tuple : Tuple) → get bag id ≡ Some tuple → (get old.holds id ≡ Some request) ⊎ MakesOffer bag old x first.sends id request → OffersAgain bag old id request tuple ⊎ HasTaker old x request tuple
+    again_first : (request : Request) (id : ℕ) (tuple : Tuple) → get bag id ≡ Some tuple → (get old.holds id ≡ Some request)
+        ⊎ MakesOffer bag old x first.sends id request → OffersAgain bag old id request tuple ⊎ HasTaker old x request tuple
     again_first request id tuple there (inl before) = inl (before, there)
     again_first request id tuple there (inr o) = inr (subst (HasTaker old x request) (same_Some o.tuple tuple (sym o.there ∙ there)) o.taker)
 
     sought_first : (send : ℕ × Reply) → IsSought first.soft send → IsSought old send
     sought_first send sought request id tuple e = by (sought request id tuple e)
       where
-        by : OffersAgain bag first.soft id request tuple ⊎ HasTaker first.soft x request tuple → OffersAgain bag old id request tuple ⊎ HasTaker old x request tuple
+        by : OffersAgain bag first.soft id request tuple ⊎ HasTaker first.soft x request tuple
+            → OffersAgain bag old id request tuple ⊎ HasTaker old x request tuple
         by (inl h) = again_first request id tuple h.1 (a.holds id request h.0)
         by (inr t) = inr (taker_first request tuple t)
 
@@ -209,12 +250,17 @@ module _ (bag : Bagged) (x : Coming) where
       record {
         holds = f.holds;
         waits = λ w there. All-contains (Seeks old x) told.soft.waits w f.waits there;
-        offers = λ request id tuple sent. All-contains (IsSought old) told.sends (request.client, replies.Offer request.ticket id tuple) f.offers sent request id tuple refl;
+        offers = λ request id tuple sent. All-contains (IsSought old) told.sends (
+          request.client,
+          replies.Offer request.ticket id tuple,
+        ) f.offers sent request id tuple refl;
       }
 
 -- A step, and a closing.
-pub step_sought : (st new : State) (old : Soft) (c : ℕ) (m : Message) (answered : Answer) → IsState st → IsStep st old c m answered new → OffersWhatIsSought new.bag (says c m) old answered.sends answered.soft
+pub step_sought : (st new : State) (old : Soft) (c : ℕ) (m : Message) (answered : Answer) → IsState st
+    → IsStep st old c m answered new → OffersWhatIsSought new.bag (says c m) old answered.sends answered.soft
 step_sought st new old c m answered is step = sought new.bag (says c m) (KnownIn new) old _ (step_move st new c old is m answered step)
 
-pub close_sought : (bag : Bagged) (x : Coming) (client : ℕ) (old : Soft) → OffersWhatIsSought bag x old (on_close bag client old).sends (on_close bag client old).soft
+pub close_sought : (bag : Bagged) (x : Coming) (client : ℕ) (old : Soft)
+    → OffersWhatIsSought bag x old (on_close bag client old).sends (on_close bag client old).soft
 close_sought bag x client old = sought bag x (λ c r. Unit {0}) old (on_close bag client old) (close_move (λ c r. Unit {0}) bag x client old)

@@ -11,7 +11,8 @@ use Rattle.linda_store_step.proofs.AnswerLaws.{one_answer}
 use Rattle.linda_store_step.proofs.OrderLaws.{step_orderly, close_orderly}
 
 -- One thing has one answer, and leads to one state.
-one_coming : (st : State) (soft : Soft) (x : Coming) (a b : Answer) (s t : State) → IsOrderly st soft → Comes st soft x a s → Comes st soft x b t → (a ≡ b) × (s ≡ t)
+one_coming : (st : State) (soft : Soft) (x : Coming) (a b : Answer) (s t : State) → IsOrderly st soft
+    → Comes st soft x a s → Comes st soft x b t → (a ≡ b) × (s ≡ t)
 one_coming st soft (says c m) a b s t orderly first second =
     let same : a ≡ b = one_answer st soft c m a b orderly.soft_is.one_each first.answer second.answer in
     (same, one_after st (option_to_list b.deed) s t (subst (λ (x : Answer). IsAfter st (option_to_list x.deed) s) same first.state_is) second.state_is)
@@ -28,7 +29,8 @@ one_outcome st soft (x ∷ xs) a b orderly first second =
     let once = one_coming st soft x first.0 second.0 first.1.0 second.1.0 orderly first.1.1.1.0 second.1.1.1.0 in
     let later : first.1.1.0 ≡ second.1.1.0 =
     one_outcome second.1.0 second.0.soft xs first.1.1.0 second.1.1.0 (came_orderly st second.1.0 soft x second.0 orderly second.1.1.1.0)
-    (subst (λ (s : State). Happens s second.0.soft xs first.1.1.0) once.1 (subst (λ (y : Answer). Happens first.1.0 y.soft xs first.1.1.0) once.0 first.1.1.1.1.0))
+    (subst (λ (s : State). Happens s second.0.soft xs first.1.1.0) once.1
+    (subst (λ (y : Answer). Happens first.1.0 y.soft xs first.1.1.0) once.0 first.1.1.1.1.0))
     second.1.1.1.1.0
     in
     first.1.1.1.1.1 ∙ ap (λ (y : Answer). first_then y first.1.1.0) once.0 ∙ ap (first_then second.0) later ∙ sym second.1.1.1.1.1

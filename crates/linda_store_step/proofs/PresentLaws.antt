@@ -1,10 +1,11 @@
 -- What holds of the client of each request that waits or holds: what each step keeps of it, and whom a Leave leaves.
-use Rattle.std.proofs.Common.{◌≡◌, ◌≢◌, ℕ, Bool, true, false, true≢false, cond, ◌==◌, List, [], ◌∷◌, Option, Some, None, IfSome, All, inl, inr, refl, sym, ap, ◌∙◌, subst, eq-eqb}
+use Rattle.std.proofs.Common.{◌≡◌, ◌≢◌, ℕ, Bool, true, false, true≢false, ◌==◌, List, [], ◌∷◌, Option, Some, None}
+use Rattle.std.proofs.Common.{IfSome, All, inl, inr, refl, sym, ap, ◌∙◌, subst, eq-eqb}
 use Rattle.std.proofs.lemmas.Bool.{cases_eq}
 use Rattle.std.proofs.lemmas.List.Elements.{All-nil, All-append, All-cons, All-filter}
 use Rattle.std.specs.FinMap.{get, insert, remove}
 use Rattle.linda_tuple.specs.Tuple.{Tuple}
-use Rattle.linda_maps.proofs.MapLaws.{get_same, get_other, get_removed_same, get_removed_other, get_empty}
+use Rattle.linda_map_laws.proofs.MapLaws.{get_same, get_other, get_removed_same, get_removed_other, get_empty}
 use Rattle.linda_hold.specs.declared.request.Request.{Request}
 use Rattle.linda_hold.specs.Request.{same_request}
 use Rattle.linda_hold.specs.Waits.{Wait, is_reader, is_taker, without_readers, longest}
@@ -49,12 +50,15 @@ module _ (P : ℕ → Type 0) where
   taken_asking id soft is = record { waits = is.waits; holds = held_fewer soft.holds id is.holds }
 
   -- One more is held, for such a client; or one such waits.
-  pub held_asking : (id : ℕ) (request : Request) (soft : Soft) → P request.client → OfAsking P soft → OfAsking P (record { holds = insert soft.holds id request; waits = soft.waits })
+  pub held_asking : (id : ℕ) (request : Request) (soft : Soft) → P request.client → OfAsking P soft
+      → OfAsking P (record { holds = insert soft.holds id request; waits = soft.waits })
   held_asking id request soft own is = record { waits = is.waits; holds = held_more soft.holds id request own is.holds }
 
-  pub waiting_asking : (w : Wait) (soft : Soft) → P w.0.client → OfAsking P soft → OfAsking P (record { holds = soft.holds; waits = Rattle.std.proofs.Common.◌++◌ soft.waits (w ∷ []) })
+  pub waiting_asking : (w : Wait) (soft : Soft) → P w.0.client → OfAsking P soft
+      → OfAsking P (record { holds = soft.holds; waits = Rattle.std.proofs.Common.◌++◌ soft.waits (w ∷ []) })
   waiting_asking w soft own is = record {
-    waits = All-append (λ (v : Wait). P v.0.client) soft.waits (w ∷ []) is.waits (All-cons (λ (v : Wait). P v.0.client) w [] own (All-nil (λ (v : Wait). P v.0.client)));
+    waits = All-append (λ (v : Wait). P v.0.client) soft.waits (w ∷ []) is.waits
+        (All-cons (λ (v : Wait). P v.0.client) w [] own (All-nil (λ (v : Wait). P v.0.client)));
     holds = is.holds;
   }
 
@@ -90,10 +94,14 @@ asking_by P Q soft gives is = record {
 }
 
 -- Once a client is closed, all who ask are others, who asked before.
-pub closed_asking : (P : ℕ → Type 0) (bag : Bagged) (client : ℕ) (soft : Soft) → IsSoft bag soft → OfAsking P (on_close bag client soft).soft → OfAsking (λ c. P c × (c ≢ client)) (on_close bag client soft).soft
+pub closed_asking : (P : ℕ → Type 0) (bag : Bagged) (client : ℕ) (soft : Soft) → IsSoft bag soft
+    → OfAsking P (on_close bag client soft).soft → OfAsking (λ c. P c × (c ≢ client)) (on_close bag client soft).soft
 closed_asking P bag client soft is asking = record {
-  waits = λ k d within.
-      (asking.waits k d within, λ same. true≢false (sym (eq-eqb client _ (sym same)) ∙ none_passes (λ (w : Wait). client == w.0.client) (on_close bag client soft).soft.waits (closed_waits bag client soft) k d within));
+  waits = λ k d within. (
+    asking.waits k d within,
+    λ same. true≢false (sym (eq-eqb client _ (sym same))
+        ∙ none_passes (λ (w : Wait). client == w.0.client) (on_close bag client soft).soft.waits (closed_waits bag client soft) k d within),
+  );
   holds = λ id.
       if_some_by (get (on_close bag client soft).soft.holds id) (λ (r : Request). P r.client) (λ (r : Request). P r.client × (r.client ≢ client))
       (λ r held own. (own, λ same. closed_holds bag client r same soft is id held)) (asking.holds id);

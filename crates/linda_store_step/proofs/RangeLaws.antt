@@ -1,5 +1,7 @@
 -- Each move keeps the ranges of holds and waits.
-use Rattle.std.proofs.Common.{◌≡◌, ◌≢◌, ℕ, suc, ◌+◌, ◌<◌, ◌≤◌, Bool, true, false, cond, not, ◌==◌, List, [], ◌∷◌, ◌++◌, length, Option, Some, None, IsSome, is_some, filter, inl, inr, refl, sym, ap, ◌∙◌, subst, true≢false, eq-eqb, ne_eqb, arith, length-append, nat_cmp}
+use Rattle.std.proofs.Common.{◌≡◌, ◌≢◌, ℕ, suc, ◌+◌, ◌<◌, ◌≤◌, Bool, true, false, cond, not, ◌==◌, List, [], ◌∷◌, ◌++◌}
+use Rattle.std.proofs.Common.{length, Option, Some, None, IsSome, is_some, filter, inl, inr, refl, sym, ap, ◌∙◌, subst}
+use Rattle.std.proofs.Common.{true≢false, eq-eqb, ne_eqb, arith, length-append, nat_cmp}
 use Rattle.std.proofs.lemmas.Bool.{cases_eq}
 use Rattle.std.proofs.lemmas.Option.{none-some}
 use Rattle.std.proofs.lemmas.List.{length-map}
@@ -12,14 +14,15 @@ use Rattle.linda_hold.specs.declared.request.Request.{Request}
 use Rattle.linda_hold.specs.Request.{same_request}
 use Rattle.linda_wire.specs.declared.limits.TheConstants.{MAX_ASKS}
 use Rattle.linda_tuple.specs.Tuple.{Tuple}
-use Rattle.linda_maps.proofs.MapLaws.{get_same, get_other, get_removed_same, get_removed_other, get_empty}
+use Rattle.linda_map_laws.proofs.MapLaws.{get_same, get_other, get_removed_same, get_removed_other, get_empty}
 use Rattle.linda_hold.specs.Waits.{Wait, AreDistinct, is_waiting, is_reader, is_taker, without_readers, longest, waits_of}
 use Rattle.linda_hold.specs.Holds.{HeldFor, IsHeldAt, IsOneEach, held_in}
 use Rattle.linda_store_step.specs.Soft.{Soft, Bagged, IsSoft, AreApart, open_asks, no_asks}
 use Rattle.linda_store_step.specs.Dispatch.{dispatch, held_for, release, release_tuple, on_cancel, on_close}
 use Rattle.linda_store_step.proofs.WaitLaws.{or_none, found_has}
 use Rattle.linda_store_step.proofs.SoftLaws.{kept_waits, cancelling_keeps, closing_keeps}
-use Rattle.linda_store_step.proofs.ApartLaws.{same_request_yes, turned_no, held_before, new_or_before, fewer_apart, dispatch_apart, taken_apart, waiting_apart, offer_apart}
+use Rattle.linda_store_step.proofs.ApartLaws.{same_request_yes, turned_no, held_before, new_or_before, fewer_apart}
+use Rattle.linda_store_step.proofs.ApartLaws.{dispatch_apart, taken_apart, waiting_apart, offer_apart}
 use Rattle.linda_store_step.proofs.CountLaws.{fewer_pass, found_gone, insert_counted, remove_counted}
 
 -- A tuple is held for a request that held nothing.
@@ -42,14 +45,16 @@ pub one_each_gone : (holds : HeldFor) (id : ℕ) → IsOneEach holds → IsOneEa
 one_each_gone holds id each i k request first second = each i k request (held_before holds id i request first) (held_before holds id k request second)
 
 -- What is held is in the bag, after a hold came and after one went.
-there_held : (bag : Bagged) (holds : HeldFor) (id : ℕ) (request : Request) → IsSome (get bag id) → ((k : ℕ) → IsSome (get holds k) → IsSome (get bag k)) → (k : ℕ) → IsSome (get (insert holds id request) k) → IsSome (get bag k)
+there_held : (bag : Bagged) (holds : HeldFor) (id : ℕ) (request : Request) → IsSome (get bag id)
+    → ((k : ℕ) → IsSome (get holds k) → IsSome (get bag k)) → (k : ℕ) → IsSome (get (insert holds id request) k) → IsSome (get bag k)
 there_held bag holds id request stored there k held =
     elim (cases_eq k id) [
       | inl same ↦ subst (λ i. IsSome (get bag i)) (sym same) stored
       | inr other ↦ there k (subst IsSome (get_other holds id request k other) held)
     ]
 
-there_gone : (bag : Bagged) (holds : HeldFor) (id : ℕ) → ((k : ℕ) → IsSome (get holds k) → IsSome (get bag k)) → (k : ℕ) → IsSome (get (remove holds id) k) → IsSome (get bag k)
+there_gone : (bag : Bagged) (holds : HeldFor) (id : ℕ) → ((k : ℕ) → IsSome (get holds k) → IsSome (get bag k))
+    → (k : ℕ) → IsSome (get (remove holds id) k) → IsSome (get bag k)
 there_gone bag holds id there k held =
     elim (cases_eq k id) [
       | inl same ↦ absurd (true≢false (sym held ∙ ap is_some (ap (get (remove holds id)) same ∙ get_removed_same holds id)))
@@ -64,18 +69,25 @@ all_pass (x ∷ xs) = ap suc (all_pass xs)
 held_count : (client : ℕ) (holds : HeldFor) → length (held_in client (entries holds)) ≡ length (filter (λ e. e.1.client == client) (entries holds))
 held_count client holds = length-map (filter (λ (e : ℕ × Request). e.1.client == client) (entries holds)) (λ e. e.0)
 
-held_more : (client id : ℕ) (request : Request) (holds : HeldFor) → length (held_in client (entries (insert holds id request))) ≤ length (held_in client (entries holds)) + cond (request.client == client) 1 0
+held_more : (client id : ℕ) (request : Request) (holds : HeldFor)
+    → length (held_in client (entries (insert holds id request))) ≤ length (held_in client (entries holds)) + cond (request.client == client) 1 0
 held_more client id request holds =
     let counted = insert_counted (λ (p : Request). p.client == client) holds id request in
     let old = held_count client holds in
     let new = held_count client (insert holds id request) in
     omega (arith, counted, old, new)
 
-held_one : (client id : ℕ) (request : Request) (holds : HeldFor) → request.client ≡ client → length (held_in client (entries (insert holds id request))) ≤ length (held_in client (entries holds)) + 1
-held_one client id request holds same = subst (λ b. length (held_in client (entries (insert holds id request))) ≤ length (held_in client (entries holds)) + cond b 1 0) (eq-eqb request.client client same) (held_more client id request holds)
+held_one : (client id : ℕ) (request : Request) (holds : HeldFor) → request.client ≡ client
+    → length (held_in client (entries (insert holds id request))) ≤ length (held_in client (entries holds)) + 1
+held_one client id request holds same =
+    subst (λ b. length (held_in client (entries (insert holds id request))) ≤ length (held_in client (entries holds)) + cond b 1 0)
+    (eq-eqb request.client client same) (held_more client id request holds)
 
-held_none : (client id : ℕ) (request : Request) (holds : HeldFor) → request.client ≢ client → length (held_in client (entries (insert holds id request))) ≤ length (held_in client (entries holds)) + 0
-held_none client id request holds other = subst (λ b. length (held_in client (entries (insert holds id request))) ≤ length (held_in client (entries holds)) + cond b 1 0) (ne_eqb request.client client other) (held_more client id request holds)
+held_none : (client id : ℕ) (request : Request) (holds : HeldFor) → request.client ≢ client
+    → length (held_in client (entries (insert holds id request))) ≤ length (held_in client (entries holds)) + 0
+held_none client id request holds other =
+    subst (λ b. length (held_in client (entries (insert holds id request))) ≤ length (held_in client (entries holds)) + cond b 1 0)
+    (ne_eqb request.client client other) (held_more client id request holds)
 
 held_less : (client id : ℕ) (holds : HeldFor) → length (held_in client (entries (remove holds id))) ≤ length (held_in client (entries holds))
 held_less client id holds =
@@ -105,7 +117,8 @@ gone_soft bag id soft is = record {
 }
 
 -- A request that didn't wait and held nothing, of a client with room for one more, gets an offer.
-pub offer_soft : (bag : Bagged) (id : ℕ) (request : Request) (soft : Soft) → IsSome (get bag id) → is_waiting request soft.waits ≡ false → IsHeldAt soft.holds request None → open_asks request.client soft < MAX_ASKS
+pub offer_soft : (bag : Bagged) (id : ℕ) (request : Request) (soft : Soft) → IsSome (get bag id)
+    → is_waiting request soft.waits ≡ false → IsHeldAt soft.holds request None → open_asks request.client soft < MAX_ASKS
     → IsSoft bag soft → IsSoft bag (record { holds = insert soft.holds id request; waits = soft.waits })
 offer_soft bag id request soft stored never nothing room is = record {
   distinct = is.distinct;
@@ -132,9 +145,12 @@ offer_soft bag id request soft stored never nothing room is = record {
 taken_soft_by : (bag : Bagged) (id : ℕ) (row : Tuple) (soft : Soft) (first : Wait) → longest row soft.waits ≡ Some first → IsSome (get bag id) → IsSoft bag soft
     → IsSoft bag (held_for id (Some first) (record { holds = soft.holds; waits = without_readers row soft.waits }))
 taken_soft_by bag id row soft first found stored is = record {
-  distinct = IsDistinct-keys_filter same_request (λ w. not (same_request first.0 w.0)) (without_readers row soft.waits) (IsDistinct-keys_filter same_request (λ w. not (is_reader row w)) soft.waits is.distinct);
-  one_each = one_each_held soft.holds id first.0 (found_has (is_taker row) (λ w. (k : ℕ) → get soft.holds k ≡ Some w.0 → ⊥) soft.waits first found is.apart) is.one_each;
-  apart = subst (λ o. AreApart (held_for id o (record { holds = soft.holds; waits = without_readers row soft.waits }))) found (dispatch_apart id row soft is.apart);
+  distinct = IsDistinct-keys_filter same_request (λ w. not (same_request first.0 w.0)) (without_readers row soft.waits)
+      (IsDistinct-keys_filter same_request (λ w. not (is_reader row w)) soft.waits is.distinct);
+  one_each = one_each_held soft.holds id first.0
+      (found_has (is_taker row) (λ w. (k : ℕ) → get soft.holds k ≡ Some w.0 → ⊥) soft.waits first found is.apart) is.one_each;
+  apart = subst (λ o. AreApart (held_for id o (record { holds = soft.holds; waits = without_readers row soft.waits }))) found
+      (dispatch_apart id row soft is.apart);
   few = few;
   there = there_held bag soft.holds id first.0 stored is.there;
 }
@@ -145,7 +161,8 @@ taken_soft_by bag id row soft first found stored is = record {
         elim (cases_eq first.0.client client) [
           | inl same ↦
               let more = held_one client id first.0 soft.holds same in
-              let less = found_gone (λ (w : Wait). client == w.0.client) (λ w. not (is_reader row w)) (λ w. not (same_request first.0 w.0)) (is_taker row) soft.waits first found (eq-eqb client first.0.client (sym same)) (ap not (same_request_yes first.0 first.0 refl)) in
+              let less = found_gone (λ (w : Wait). client == w.0.client) (λ w. not (is_reader row w)) (λ w. not (same_request first.0 w.0))
+              (is_taker row) soft.waits first found (eq-eqb client first.0.client (sym same)) (ap not (same_request_yes first.0 first.0 refl)) in
               omega (arith, old, more, less)
           | inr other ↦
               let more = held_none client id first.0 soft.holds other in
@@ -158,7 +175,8 @@ taken_soft_by bag id row soft first found stored is = record {
 pub dispatch_soft : (bag : Bagged) (id : ℕ) (row : Tuple) (soft : Soft) → IsSome (get bag id) → IsSoft bag soft → IsSoft bag (dispatch id row soft).soft
 dispatch_soft bag id row soft stored is = by (longest row soft.waits) refl
   where
-    by : (first : Option Wait) → longest row soft.waits ≡ first → IsSoft bag (held_for id first (record { holds = soft.holds; waits = without_readers row soft.waits }))
+    by : (first : Option Wait) → longest row soft.waits ≡ first
+        → IsSoft bag (held_for id first (record { holds = soft.holds; waits = without_readers row soft.waits }))
     by None none = fewer_soft bag (λ w. not (is_reader row w)) soft is
     by (Some first) found = taken_soft_by bag id row soft first found stored is
 
@@ -207,12 +225,14 @@ distinct_push w (v ∷ waits) never distinct =
     let parts = or_none (same_request w.0 v.0) (is_waiting w.0 waits) never in
     (others waits distinct.0, distinct_push w waits parts.1 distinct.1)
   where
-    others : (ws : List Wait) → AllByRecursion (λ p. same_request v.0 p ≡ false) (keys_of ws) → AllByRecursion (λ p. same_request v.0 p ≡ false) (keys_of (ws ++ w ∷ []))
+    others : (ws : List Wait) → AllByRecursion (λ p. same_request v.0 p ≡ false) (keys_of ws)
+        → AllByRecursion (λ p. same_request v.0 p ≡ false) (keys_of (ws ++ w ∷ []))
     others [] all = (turned_no w.0 v.0 (or_none (same_request w.0 v.0) (is_waiting w.0 waits) never).0, tt)
     others (u ∷ ws) all = (all.0, others ws all.1)
 
 -- A request that didn't wait and holds nothing, of a client with room for one more, waits.
-pub waiting_soft : (bag : Bagged) (w : Wait) (soft : Soft) → is_waiting w.0 soft.waits ≡ false → IsHeldAt soft.holds w.0 None → open_asks w.0.client soft < MAX_ASKS
+pub waiting_soft : (bag : Bagged) (w : Wait) (soft : Soft) → is_waiting w.0 soft.waits ≡ false
+    → IsHeldAt soft.holds w.0 None → open_asks w.0.client soft < MAX_ASKS
     → IsSoft bag soft → IsSoft bag (record { holds = soft.holds; waits = soft.waits ++ w ∷ [] })
 waiting_soft bag w soft never nothing room is = record {
   distinct = distinct_push w soft.waits never is.distinct;
@@ -223,7 +243,8 @@ waiting_soft bag w soft never nothing room is = record {
 }
   where
     counted : (client : ℕ) → length (waits_of client (soft.waits ++ w ∷ [])) ≡ length (waits_of client soft.waits) + length (waits_of client (w ∷ []))
-    counted client = ap length (filter-append (λ (v : Wait). client == v.0.client) soft.waits (w ∷ [])) ∙ length-append (waits_of client soft.waits) (waits_of client (w ∷ []))
+    counted client = ap length (filter-append (λ (v : Wait). client == v.0.client) soft.waits (w ∷ []))
+        ∙ length-append (waits_of client soft.waits) (waits_of client (w ∷ []))
 
     few : (client : ℕ) → open_asks client (record { holds = soft.holds; waits = soft.waits ++ w ∷ [] }) ≤ MAX_ASKS
     few client =
@@ -235,7 +256,8 @@ waiting_soft bag w soft never nothing room is = record {
               let one : length (waits_of client (w ∷ [])) ≡ length (w ∷ []) = ap (λ b. length (cond b (w ∷ []) [])) (eq-eqb client w.0.client (sym same)) in
               omega (arith, here, one, more)
           | inr other ↦
-              let none : length (waits_of client (w ∷ [])) ≡ length {A = Wait} [] = ap (λ b. length (cond b (w ∷ []) [])) (ne_eqb client w.0.client (λ e. other (sym e))) in
+              let none : length (waits_of client (w ∷ [])) ≡ length {A = Wait} [] =
+              ap (λ b. length (cond b (w ∷ []) [])) (ne_eqb client w.0.client (λ e. other (sym e))) in
               omega (arith, old, none, more)
         ]
 

@@ -28,11 +28,13 @@ module _ (new later : State) (c : ℕ) (d : Demand) (same : get later.book c ≡
   -- there is a reply without a deed: the one that is kept
   kept_again : (reply : KeptReply) → get new.book c ≡ Some (d.n, reply) → without_deed later c d ≡ Some (reply_of_kept d.n reply)
   kept_again reply there =
-      ap (λ class. reply_by later c d.n (judge_class d (standing_of later c) class)) (ap (λ o. class_of (number_in o) (left_in o) d.n) (same ∙ there) ∙ last_class d.n (left_in (Some (d.n, reply))) (low (d.n, reply) there))
+      ap (λ class. reply_by later c d.n (judge_class d (standing_of later c) class))
+      (ap (λ o. class_of (number_in o) (left_in o) d.n) (same ∙ there) ∙ last_class d.n (left_in (Some (d.n, reply))) (low (d.n, reply) there))
       ∙ ap (option_map (λ (e : Entry). reply_of_kept d.n e.1)) (same ∙ there)
 
 -- A message that did a deed, and comes again while the client's entry is as that left it, gets the same reply, and nothing else is done.
-pub answered_again : (st new later : State) (soft asks : Soft) (c : ℕ) (m : Message) (first again : Answer) → IsState st → IsStep st soft c m first new → IsSome first.deed
+pub answered_again : (st new later : State) (soft asks : Soft) (c : ℕ) (m : Message) (first again : Answer)
+    → IsState st → IsStep st soft c m first new → IsSome first.deed
     → get later.book c ≡ get new.book c → IsAnswer later asks c m again → IsAnsweredAgain c first again asks
 answered_again st new later soft asks c m first again is step some same answer =
     let found : IsKeptBy c m first.sends new = kept_by st new c is soft m first (course_of st soft c m first step.answer) some step.state_is in

@@ -1,9 +1,10 @@
 -- What a move tells is in the book where it reports a deed; and what is in the book was told of a deed.
-use Rattle.std.proofs.Common.{◌≡◌, ℕ, true, false, true≢false, cond, ◌==◌, List, [], ◌∷◌, ◌++◌, map, Some, None, option_to_list, All, refl, sym, ap, ◌∙◌, subst, eqb-true}
+use Rattle.std.proofs.Common.{◌≡◌, ℕ, true, false, true≢false, cond, ◌==◌, List, [], ◌∷◌, ◌++◌, map, Some, None}
+use Rattle.std.proofs.Common.{option_to_list, All, refl, sym, ap, ◌∙◌, subst, eqb-true}
 use Rattle.std.proofs.lemmas.Option.{none-some, same_Some}
 use Rattle.std.proofs.lemmas.List.Elements.{All-nil, All-cons, All-append, All-map}
 use Rattle.std.specs.FinMap.{get}
-use Rattle.linda_maps.proofs.MapLaws.{get_empty}
+use Rattle.linda_map_laws.proofs.MapLaws.{get_empty}
 use Rattle.linda_hold.specs.Waits.{readers, longest}
 use Rattle.linda_wire.specs.declared.message.Message.{Message}
 use Rattle.linda_wire.specs.declared.reply.Reply.{Reply}
@@ -35,14 +36,18 @@ module _ (st : State) (bag : Bagged) (x : Coming) where
   backed _ _ (dispatches old id tuple there) =
       All-append IsBacked (map (read_to id tuple) (readers tuple old.waits)) (map (offer_to id tuple) (option_to_list (longest tuple old.waits)))
       (silent (read_to id tuple) (readers tuple old.waits) (λ w. refl)) (silent (offer_to id tuple) (option_to_list (longest tuple old.waits)) (λ w. refl))
-  backed _ _ (repeats old id request held) = silent (λ (tuple : Tuple). (request.client, replies.Offer request.ticket id tuple)) (option_to_list (get bag id)) (λ tuple. refl)
-  backed _ _ (reads old id request) = silent (λ (tuple : Tuple). (request.client, replies.Read request.ticket id tuple)) (option_to_list (get bag id)) (λ tuple. refl)
-  backed _ _ (offers old id w tuple asked removes there fits) = silent (λ (row : Tuple). (w.0.client, replies.Offer w.0.ticket id row)) (option_to_list (get bag id)) (λ row. refl)
+  backed _ _ (repeats old id request held) =
+      silent (λ (tuple : Tuple). (request.client, replies.Offer request.ticket id tuple)) (option_to_list (get bag id)) (λ tuple. refl)
+  backed _ _ (reads old id request) =
+      silent (λ (tuple : Tuple). (request.client, replies.Read request.ticket id tuple)) (option_to_list (get bag id)) (λ tuple. refl)
+  backed _ _ (offers old id w tuple asked removes there fits) =
+      silent (λ (row : Tuple). (w.0.client, replies.Offer w.0.ticket id row)) (option_to_list (get bag id)) (λ row. refl)
   backed _ _ (waits old w asked) = All-nil IsBacked
   backed _ _ (goes_on old first later a b) = All-append IsBacked first.sends later.sends (backed old first a) (backed first.soft later b)
 
 -- What a step reports is what the book then has.
-pub step_backed : (st new : State) (old : Soft) (c : ℕ) (m : Message) (answered : Answer) → IsState st → IsStep st old c m answered new → KeepsReports new answered.sends
+pub step_backed : (st new : State) (old : Soft) (c : ℕ) (m : Message) (answered : Answer) → IsState st
+    → IsStep st old c m answered new → KeepsReports new answered.sends
 step_backed st new old c m answered is step = backed new new.bag _ old _ (step_move st new c old is m answered step)
 
 -- A closing reports nothing.
@@ -63,10 +68,12 @@ last_of_is c (d ∷ ds) last is =
     elim (last_of c ds) as (λ o. last_of c ds ≡ o → last_with c d o ≡ Some last → IsLastOf c (d ∷ ds) last) [
       | Some found ↦ λ there same.
           let l = last_of_is c ds found there in
-          subst (IsLastOf c (d ∷ ds)) (same_Some (d ∷ found.0, found.1) last same) (record { later = l.later; parts = ap (λ es. d ∷ es) l.parts; mine = l.mine })
+          subst (IsLastOf c (d ∷ ds)) (same_Some (d ∷ found.0, found.1) last same)
+          (record { later = l.later; parts = ap (λ es. d ∷ es) l.parts; mine = l.mine })
       | None ↦ λ none.
           elim (client_of d == c) as (λ b. (client_of d == c) ≡ b → cond b (Some ([], d)) None ≡ Some last → IsLastOf c (d ∷ ds) last) [
-            | true ↦ λ mine same. subst (IsLastOf c (d ∷ ds)) (same_Some ([], d) last same) (record { later = ds; parts = refl; mine = eqb-true (client_of d) c mine })
+            | true ↦ λ mine same. subst (IsLastOf c (d ∷ ds)) (same_Some ([], d) last same)
+                (record { later = ds; parts = refl; mine = eqb-true (client_of d) c mine })
             | false ↦ λ other same. absurd (none-some last same)
           ] refl
     ] refl is
@@ -84,6 +91,7 @@ book_reports ds st c r after keeps =
             later = l.later;
             parts = l.parts;
             client = l.mine;
-            reply = keeps.reply ∙ ap (λ (e : Entry). reply_of_kept e.0 e.1) (sym (same_Some (number_of last.1, reply_of_deed empty_state last.0 last.1) keeps.entry there));
+            reply = keeps.reply ∙ ap (λ (e : Entry). reply_of_kept e.0 e.1)
+                (sym (same_Some (number_of last.1, reply_of_deed empty_state last.0 last.1) keeps.entry there));
           }
     ] refl (sym (after.book c) ∙ keeps.kept)

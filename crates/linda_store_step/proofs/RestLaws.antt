@@ -1,5 +1,6 @@
 -- Nobody waits in vain: after each move there is still nothing that a waiting request can have.
-use Rattle.std.proofs.Common.{◌≡◌, ◌≢◌, ℕ, Bool, true, false, not, ◌&&◌, [], ◌∷◌, ◌++◌, Option, Some, None, All, is_some, inl, inr, refl, sym, ap, ◌∙◌, subst, true≢false}
+use Rattle.std.proofs.Common.{◌≡◌, ◌≢◌, ℕ, Bool, true, false, not, ◌&&◌, [], ◌∷◌, ◌++◌, Option, Some, None, All}
+use Rattle.std.proofs.Common.{is_some, inl, inr, refl, sym, ap, ◌∙◌, subst, true≢false}
 use Rattle.std.proofs.lemmas.Bool.{cases_eq}
 use Rattle.std.proofs.lemmas.Option.{none-some, same_Some}
 use Rattle.std.proofs.lemmas.List.Elements.{All-nil, All-filter, All-push}
@@ -7,7 +8,7 @@ use Rattle.std.specs.FinMap.{get, insert, remove}
 use Rattle.linda_tuple.specs.Tuple.{Tuple}
 use Rattle.linda_tuple.specs.Matching.{is_match}
 use Rattle.linda_bag.specs.FreeMatch.{IsFreeMatch}
-use Rattle.linda_maps.proofs.MapLaws.{get_same, get_other, get_removed_same, get_removed_other}
+use Rattle.linda_map_laws.proofs.MapLaws.{get_same, get_other, get_removed_same, get_removed_other}
 use Rattle.linda_hold.specs.declared.request.Request.{Request}
 use Rattle.linda_hold.specs.Request.{same_request}
 use Rattle.linda_hold.specs.Waits.{Wait, is_reader, is_taker, without_readers, longest}
@@ -56,19 +57,28 @@ module _ (bag : Bagged) (id : ℕ) (row : Tuple) (stored : get bag id ≡ Some r
             let fits : is_match w.1.template row ≡ true = subst (λ r. is_match w.1.template r ≡ true) row_is may.matches in
             let takes : w.1.remove ≡ true = no_read w.1.remove (is_match w.1.template row) left fits in
             barred fits takes (subst (λ i. get new i ≡ None) same (not_held w.1.remove (get new k) may.free takes))
-        | inr other ↦ rest k other (record { row = may.row; stored = may.stored; matches = may.matches; free = passed_alike w.1.remove (get new k) (get old k) (apart k other) may.free })
+        | inr other ↦ rest k other
+            (record {
+              row = may.row;
+              stored = may.stored;
+              matches = may.matches;
+              free =
+                  passed_alike w.1.remove (get new k) (get old k) (apart k other) may.free;
+            })
       ]
 
   -- A dispatch brings to rest what was at rest but for its tuple.
   pub rested : (soft : Soft) → IsAtRestBut bag id soft → IsAtRest bag (dispatch id row soft).soft
   rested soft rest = by (longest row soft.waits) refl
     where
-      by : (first : Option Wait) → longest row soft.waits ≡ first → IsAtRest bag (held_for id first (record { holds = soft.holds; waits = without_readers row soft.waits }))
+      by : (first : Option Wait) → longest row soft.waits ≡ first
+          → IsAtRest bag (held_for id first (record { holds = soft.holds; waits = without_readers row soft.waits }))
       by None none =
           all_kept {X = Wait} (λ w. not (is_reader row w))
           (λ w. (is_taker row w ≡ false) × ((k : ℕ) → k ≢ id → CanHave bag soft.holds w k → ⊥))
           (λ w. (k : ℕ) → CanHave bag soft.holds w k → ⊥)
-          (λ w left was. nothing_left soft.holds soft.holds (λ k other. refl) w left (λ fits takes free. no_input w.1.remove (is_match w.1.template row) was.0 fits takes) was.1)
+          (λ w left was. nothing_left soft.holds soft.holds (λ k other. refl) w left
+          (λ fits takes free. no_input w.1.remove (is_match w.1.template row) was.0 fits takes) was.1)
           soft.waits (λ k d within. (none_found (is_taker row) soft.waits none k d within, rest k d within))
       by (Some first) some =
           let new = insert soft.holds id first.0 in
@@ -77,7 +87,8 @@ module _ (bag : Bagged) (id : ℕ) (row : Tuple) (stored : get bag id ≡ Some r
           (all_kept {X = Wait} (λ w. not (is_reader row w))
           (λ w. (k : ℕ) → k ≢ id → CanHave bag soft.holds w k → ⊥)
           (λ w. (k : ℕ) → CanHave bag new w k → ⊥)
-          (λ w left was. nothing_left soft.holds new (λ k other. get_other soft.holds id first.0 k other) w left (λ fits takes free. none-some first.0 (sym free ∙ held)) was)
+          (λ w left was. nothing_left soft.holds new (λ k other. get_other soft.holds id first.0 k other) w left
+          (λ fits takes free. none-some first.0 (sym free ∙ held)) was)
           soft.waits rest)
 
 -- A new tuple is put, and dispatched.
@@ -107,7 +118,8 @@ freed_rests bag id soft rest = by (get bag id) refl
         }))
 
 -- A tuple is taken, and its hold with it.
-pub taken_rests : (bag : Bagged) (id : ℕ) (soft : Soft) → IsAtRest bag soft → IsAtRest (remove bag id) (record { holds = remove soft.holds id; waits = soft.waits })
+pub taken_rests : (bag : Bagged) (id : ℕ) (soft : Soft) → IsAtRest bag soft
+    → IsAtRest (remove bag id) (record { holds = remove soft.holds id; waits = soft.waits })
 taken_rests bag id soft rest k d within j may =
     elim (cases_eq j id) [
       | inl same ↦ none-some may.row (sym (get_removed_same bag id) ∙ subst (λ i. get (remove bag id) i ≡ Some may.row) same may.stored)
@@ -120,7 +132,8 @@ taken_rests bag id soft rest k d within j may =
     ]
 
 -- A tuple is held, for whomever: what may be had after it might be had before.
-pub held_rests : (bag : Bagged) (id : ℕ) (request : Request) (soft : Soft) → IsAtRest bag soft → IsAtRest bag (record { holds = insert soft.holds id request; waits = soft.waits })
+pub held_rests : (bag : Bagged) (id : ℕ) (request : Request) (soft : Soft) → IsAtRest bag soft
+    → IsAtRest bag (record { holds = insert soft.holds id request; waits = soft.waits })
 held_rests bag id request soft rest k d within j may =
     rest k d within j (record { row = may.row; stored = may.stored; matches = may.matches; free = was_free _ may.free })
   where
@@ -133,7 +146,8 @@ held_rests bag id request soft rest k d within j may =
         ]
 
 -- A request that can have nothing waits.
-pub waiting_rests : (bag : Bagged) (w : Wait) (soft : Soft) → IsLeast bag w.1.template (passed_over w.1.remove soft.holds) None → IsAtRest bag soft → IsAtRest bag (record { holds = soft.holds; waits = soft.waits ++ w ∷ [] })
+pub waiting_rests : (bag : Bagged) (w : Wait) (soft : Soft) → IsLeast bag w.1.template (passed_over w.1.remove soft.holds) None
+    → IsAtRest bag soft → IsAtRest bag (record { holds = soft.holds; waits = soft.waits ++ w ∷ [] })
 waiting_rests bag w soft nothing rest = All-push (λ (v : Wait). (id : ℕ) → CanHave bag soft.holds v id → ⊥) soft.waits w rest nothing
 
 -- Where nobody asks, nobody waits.
@@ -145,7 +159,8 @@ pub fewer_rests : (bag : Bagged) (p : Wait → Bool) (soft : Soft) → IsAtRest 
 fewer_rests bag p soft rest = All-filter p (λ (w : Wait). (id : ℕ) → CanHave bag soft.holds w id → ⊥) soft.waits rest
 
 -- A request is given up; a client is closed.
-pub cancelling_rests : (bag : Bagged) (request : Request) (held : Option ℕ) (soft : Soft) → IsAtRest bag soft → IsAtRest bag (on_cancel bag request held soft).soft
+pub cancelling_rests : (bag : Bagged) (request : Request) (held : Option ℕ) (soft : Soft) → IsAtRest bag soft
+    → IsAtRest bag (on_cancel bag request held soft).soft
 cancelling_rests bag = cancelling_keeps bag (IsAtRest bag) (freed_rests bag) (fewer_rests bag)
 
 pub closing_rests : (bag : Bagged) (client : ℕ) (soft : Soft) → IsAtRest bag soft → IsAtRest bag (on_close bag client soft).soft

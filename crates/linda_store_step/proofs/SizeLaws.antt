@@ -1,6 +1,8 @@
 -- The bytes that the deeds of messages spell are those that were counted.
-use Rattle.std.proofs.Common.{◌≡◌, ℕ, ◌+◌, ◌<◌, ◌≤◌, Bool, true, false, cond, ◌&&◌, ◌||◌, ◌==◌, nat_le, List, [], ◌∷◌, ◌++◌, Option, Some, None, refl, sym, ap, ◌∙◌, subst, inl, inr, eq-eqb, ne_eqb, leb-false, add_assoc, suc, length, drop, get_or, drop-cons, arith, ◌%◌, ◌-◌, set, take}
-use Rattle.std.proofs.lemmas.List.{get_or-set_same, get_or-set_other, take_more}
+use Rattle.std.proofs.Common.{◌≡◌, ℕ, ◌+◌, ◌<◌, ◌≤◌, Bool, true, false, cond, ◌&&◌, ◌||◌, ◌==◌, nat_le, List, [], ◌∷◌}
+use Rattle.std.proofs.Common.{◌++◌, Option, Some, None, refl, sym, ap, ◌∙◌, subst, inl, inr, eq-eqb, ne_eqb, leb-false}
+use Rattle.std.proofs.Common.{add_assoc, suc, length, drop, get_or, drop-cons, arith, ◌%◌, ◌-◌, set, take}
+use Rattle.std.proofs.lemmas.List.{get_or-set_same, get_or-set_other, length-set, take_more}
 use Rattle.std.proofs.Math.Seq.{take-length}
 use Rattle.std.proofs.lemmas.Bool.{false≢true, cond-true, cond-false, cases_eq, eqb-false, or_parts}
 use mir.Val.{bool_byte}
@@ -16,8 +18,9 @@ use Rattle.linda_store_step.specs.declared.judge.Verdict.{Verdict}
 use Rattle.linda_store_step.specs.declared.judge.Verdict.TheVariants.{Refused, Repeated, Done}
 use Rattle.linda_store_step.specs.Judge.{demand_of, judge, puts, leaves}
 use Rattle.linda_store_step.proofs.JudgeLaws.{IsFresh, IsVerdict, verdict_means}
-use Rattle.linda_store_step.specs.Size.{Latest, Numbers, latest_of, if_done, done_by, done_of, deed_bytes, numbers_after, bytes_of, bytes_from, count_of, count_from, SuitsIfDone, Suits, AllSuit, last_behind, AreMarked}
-use Rattle.linda_store_step.specs.declared.size.TheConstants.{PLACES}
+use Rattle.linda_store_step.specs.Size.{Latest, Numbers, latest_of, if_done, done_by, done_of, deed_bytes}
+use Rattle.linda_store_step.specs.Size.{numbers_after, bytes_of, bytes_from, count_of, count_from, SuitsIfDone, Suits}
+use Rattle.linda_store_step.specs.Size.{AllSuit, last_behind, AreMarked}
 
 -- ---- what was counted so far
 
@@ -25,12 +28,14 @@ use Rattle.linda_store_step.specs.declared.size.TheConstants.{PLACES}
 abbrev pub numbers_behind : State → List (ℕ × Latest) → ℕ → ℕ → Numbers
 numbers_behind st es clients next = record { last = λ c. last_behind es c (latest_of st c); clients = clients; next = next }
 
-last_of_more : (es : List (ℕ × Latest)) (k : ℕ) (n : Latest) (c : ℕ) (last : Latest) → last_behind (es ++ (k, n) ∷ []) c last ≡ cond (k == c) n (last_behind es c last)
+last_of_more : (es : List (ℕ × Latest)) (k : ℕ) (n : Latest) (c : ℕ) (last : Latest)
+    → last_behind (es ++ (k, n) ∷ []) c last ≡ cond (k == c) n (last_behind es c last)
 last_of_more [] k n c last = refl
 last_of_more (e ∷ es) k n c last = last_of_more es k n c (cond (e.0 == c) e.1 last)
 
 -- The same with the last one first.
-pub last_of_last : (es : List (ℕ × Latest)) (e : ℕ × Latest) (c : ℕ) (last : Latest) → last_behind (es ++ e ∷ []) c last ≡ cond (e.0 == c) e.1 (last_behind es c last)
+pub last_of_last : (es : List (ℕ × Latest)) (e : ℕ × Latest) (c : ℕ) (last : Latest)
+    → last_behind (es ++ e ∷ []) c last ≡ cond (e.0 == c) e.1 (last_behind es c last)
 last_of_last es e c last = last_of_more es e.0 e.1 c last
 
 -- The same of some: by their last one, and those before it.
@@ -42,14 +47,17 @@ last_at_end es d c last some =
     ∙ last_of_last (take (length es - 1) es) (get_or es (length es - 1) d) c last
 
 -- With one more of a client whose place gets a mark all are marked.
-pub marked_more : (met : List Bool) (es : List (ℕ × Latest)) (k : ℕ) (n : Latest) → k % PLACES < length met → AreMarked met es
-    → AreMarked (set met (k % PLACES) true) (es ++ (k, n) ∷ [])
+pub marked_more : (met : List Bool) (es : List (ℕ × Latest)) (k : ℕ) (n : Latest) → k % length met < length met → AreMarked met es
+    → AreMarked (set met (k % length met) true) (es ++ (k, n) ∷ [])
 marked_more met es k n within marked c last unmarked =
-    elim (cases_eq (c % PLACES) (k % PLACES)) [
-      | inl same ↦ absurd (false≢true (sym unmarked ∙ ap (λ i. get_or (set met (k % PLACES) true) i false) same ∙ get_or-set_same met (k % PLACES) true false within))
+    let p = length met in
+    let none : get_or (set met (k % p) true) (c % p) false ≡ false =
+    subst (λ size. get_or (set met (k % p) true) (c % size) false ≡ false) (length-set met (k % p) true) unmarked in
+    elim (cases_eq (c % p) (k % p)) [
+      | inl same ↦ absurd (false≢true (sym none ∙ ap (λ i. get_or (set met (k % p) true) i false) same ∙ get_or-set_same met (k % p) true false within))
       | inr apart ↦
-          last_of_more es k n c last ∙ cond-false (k == c) n (last_behind es c last) (ne_eqb k c (λ e. apart (ap (λ i. i % PLACES) (sym e))))
-          ∙ marked c last (sym (get_or-set_other met (k % PLACES) (c % PLACES) true false apart) ∙ unmarked)
+          last_of_more es k n c last ∙ cond-false (k == c) n (last_behind es c last) (ne_eqb k c (λ e. apart (ap (λ i. i % p) (sym e))))
+          ∙ marked c last (sym (get_or-set_other met (k % p) (c % p) true false apart) ∙ none)
     ]
 
 turned_test : {A : Type 0} (a b : ℕ) (x y : A) → cond (a == b) x y ≡ cond (b == a) x y
@@ -80,8 +88,11 @@ at_most_next next n limit true low unspent =
 at_most_next next n limit false low unspent = omega arith
 
 -- One more message was counted, which does a deed.
-module _ (form : Form) (st : State) (es fs : List (ℕ × Latest)) (c : ℕ) (m : Message) (last : Latest) (clients next k x bytes total : ℕ) (d : Demand) (ms : List (ℕ × Message))
-    (last_is : last ≡ last_behind es c (latest_of st c)) (done : Some d ≡ done_by (demand_of m) (record { last = last.0; left = last.1; clients = clients; next = next })) (fs_is : fs ≡ es ++ (c, (d.n, leaves d.what)) ∷ [])
+module _ (form : Form) (st : State) (es fs : List (ℕ × Latest)) (c : ℕ) (m : Message) (last : Latest)
+    (clients next k x bytes total : ℕ) (d : Demand) (ms : List (ℕ × Message))
+    (last_is : last ≡ last_behind es c (latest_of st c))
+    (done : Some d ≡ done_by (demand_of m) (record { last = last.0; left = last.1; clients = clients; next = next }))
+    (fs_is : fs ≡ es ++ (c, (d.n, leaves d.what)) ∷ [])
     (k_is : k ≡ clients + cond (last.0 == 0) 1 0) (x_is : x ≡ next + cond (puts d.what) 1 0) where
   found : IsFresh d (record { last = last.0; left = last.1; clients = clients; next = next })
   found = done_is (demand_of m) (record { last = last.0; left = last.1; clients = clients; next = next }) d done
@@ -97,7 +108,8 @@ module _ (form : Form) (st : State) (es fs : List (ℕ × Latest)) (c : ℕ) (m 
 
   same_numbers : numbers_after (numbers_behind st es clients next) c (Some d) ≡ numbers_behind st fs k x
   same_numbers = λ i. record {
-    last = λ q. (turned_test q c (d.n, leaves d.what) (last_behind es q (latest_of st q)) ∙ sym (last_of_more es c (d.n, leaves d.what) q (latest_of st q)) ∙ ap (λ l. last_behind l q (latest_of st q)) (sym fs_is)) i;
+    last = λ q. (turned_test q c (d.n, leaves d.what) (last_behind es q (latest_of st q))
+        ∙ sym (last_of_more es c (d.n, leaves d.what) q (latest_of st q)) ∙ ap (λ l. last_behind l q (latest_of st q)) (sym fs_is)) i;
     clients = (ap (λ (l : Latest). clients + cond (l.0 == 0) 1 0) (sym last_is) ∙ sym k_is) i;
     next = sym x_is i;
   }
@@ -111,7 +123,8 @@ module _ (form : Form) (st : State) (es fs : List (ℕ × Latest)) (c : ℕ) (m 
       ∙ sym (add_assoc bytes (deed_bytes form m) (bytes_from form (numbers_behind st fs k x) ms))
       ∙ ap (λ s. bytes + s + bytes_from form (numbers_behind st fs k x) ms) (sym size_is)
 
-  pub one_more : (count all : ℕ) → all ≡ count + count_from (numbers_behind st es clients next) ((c, m) ∷ ms) → all ≡ count + 1 + count_from (numbers_behind st fs k x) ms
+  pub one_more : (count all : ℕ) → all ≡ count + count_from (numbers_behind st es clients next) ((c, m) ∷ ms)
+      → all ≡ count + 1 + count_from (numbers_behind st fs k x) ms
   one_more count all is =
       is
       ∙ ap (λ o. count + (count_of o + count_from (numbers_after (numbers_behind st es clients next) c o) ms)) same_done
@@ -130,27 +143,33 @@ module _ (form : Form) (st : State) (es fs : List (ℕ × Latest)) (c : ℕ) (m 
       (this, subst (λ ns. AllSuit form ns ms) (sym same_numbers) rest)
 
 -- Of what is done of a message, where all suit.
-pub suit_first : (form : Form) (st : State) (es : List (ℕ × Latest)) (c : ℕ) (m : Message) (last : Latest) (clients next : ℕ) (d : Demand) (ms : List (ℕ × Message))
+pub suit_first : (form : Form) (st : State) (es : List (ℕ × Latest)) (c : ℕ) (m : Message) (last : Latest)
+    (clients next : ℕ) (d : Demand) (ms : List (ℕ × Message))
     → last ≡ last_behind es c (latest_of st c) → Some d ≡ done_by (demand_of m) (record { last = last.0; left = last.1; clients = clients; next = next })
     → AllSuit form (numbers_behind st es clients next) ((c, m) ∷ ms) → Suits form m
 suit_first form st es c m last clients next d ms last_is done suit =
-    subst (SuitsIfDone form m) (ap (λ (l : Latest). done_by (demand_of m) (record { last = l.0; left = l.1; clients = clients; next = next })) (sym last_is) ∙ sym done) suit.0
+    subst (SuitsIfDone form m) (ap (λ (l : Latest). done_by (demand_of m) (record { last = l.0; left = l.1; clients = clients; next = next })) (sym last_is)
+    ∙ sym done) suit.0
 
 none_more : (a b : ℕ) → a + (0 + b) ≡ a + b
 none_more a b = omega arith
 
 -- One more message was looked at, of which nothing is done.
 module _ (form : Form) (st : State) (es : List (ℕ × Latest)) (c : ℕ) (m : Message) (last : Latest) (clients next : ℕ) (ms : List (ℕ × Message))
-    (last_is : last ≡ last_behind es c (latest_of st c)) (undone : None ≡ done_by (demand_of m) (record { last = last.0; left = last.1; clients = clients; next = next })) where
+    (last_is : last ≡ last_behind es c (latest_of st c))
+    (undone : None ≡ done_by (demand_of m) (record { last = last.0; left = last.1; clients = clients; next = next })) where
   same_undone : done_of (numbers_behind st es clients next) c m ≡ None
   same_undone = ap (λ (l : Latest). done_by (demand_of m) (record { last = l.0; left = l.1; clients = clients; next = next })) (sym last_is) ∙ sym undone
 
   pub passed_on : (bytes total : ℕ) → total ≡ bytes + bytes_from form (numbers_behind st es clients next) ((c, m) ∷ ms)
       → total ≡ bytes + bytes_from form (numbers_behind st es clients next) ms
-  passed_on bytes total all = all ∙ ap (λ o. bytes + (bytes_of form m o + bytes_from form (numbers_after (numbers_behind st es clients next) c o) ms)) same_undone ∙ none_more bytes _
+  passed_on bytes total all = all
+      ∙ ap (λ o. bytes + (bytes_of form m o + bytes_from form (numbers_after (numbers_behind st es clients next) c o) ms)) same_undone ∙ none_more bytes _
 
-  pub count_passed : (count all : ℕ) → all ≡ count + count_from (numbers_behind st es clients next) ((c, m) ∷ ms) → all ≡ count + count_from (numbers_behind st es clients next) ms
-  count_passed count all is = is ∙ ap (λ o. count + (count_of o + count_from (numbers_after (numbers_behind st es clients next) c o) ms)) same_undone ∙ none_more count _
+  pub count_passed : (count all : ℕ) → all ≡ count + count_from (numbers_behind st es clients next) ((c, m) ∷ ms)
+      → all ≡ count + count_from (numbers_behind st es clients next) ms
+  count_passed count all is = is ∙ ap (λ o. count + (count_of o + count_from (numbers_after (numbers_behind st es clients next) c o) ms)) same_undone
+      ∙ none_more count _
 
   pub suit_passed : AllSuit form (numbers_behind st es clients next) ((c, m) ∷ ms) → AllSuit form (numbers_behind st es clients next) ms
   suit_passed suit = (subst (λ o. SuitsIfDone form m o × AllSuit form (numbers_after (numbers_behind st es clients next) c o) ms) same_undone suit).1

@@ -21,7 +21,8 @@ module _ (bag : Bagged) (P : Soft → Type 0)
 
   pub cancelling_keeps : (request : Request) (held : Option ℕ) (soft : Soft) → P soft → P (on_cancel bag request held soft).soft
   cancelling_keeps request held soft is =
-      elim (is_waiting request soft.waits) as (λ b. P (cond b (no_sends (record { holds = soft.holds; waits = without request soft.waits })) (release_if bag held soft)).soft) [
+      elim (is_waiting request soft.waits) as
+      (λ b. P (cond b (no_sends (record { holds = soft.holds; waits = without request soft.waits })) (release_if bag held soft)).soft) [
         | true ↦ fewer_keeps (λ w. not (same_request request w.0)) soft is
         | false ↦ freed_if_keeps held soft is
       ]

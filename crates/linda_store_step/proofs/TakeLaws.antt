@@ -1,11 +1,14 @@
 -- What a Take of a list takes was put before it, and is taken by it alone; and what a Taken and a Gone report.
-use Rattle.std.proofs.Common.{◌≡◌, ℕ, zero, suc, ◌+◌, ◌-◌, ◌<◌, ◌≤◌, nat_lt, Bool, true, false, true≢false, cond, ◌==◌, List, [], ◌∷◌, ◌++◌, length, filter, take, drop, Option, Some, None, is_some, IsSome, All, Contains, slice_get, refl, sym, ap, ◌∙◌, subst, arith, eq-eqb, ltb-false, drop-cons, zero-lt-suc, get_or, ◌⊎◌, inl, inr}
+use Rattle.std.proofs.Common.{◌≡◌, ℕ, zero, suc, ◌+◌, ◌-◌, ◌<◌, ◌≤◌, nat_lt, Bool, true, false, true≢false, cond, ◌==◌}
+use Rattle.std.proofs.Common.{List, [], ◌∷◌, ◌++◌, length, filter, take, drop, Option, Some, None, is_some, IsSome, All}
+use Rattle.std.proofs.Common.{Contains, slice_get, refl, sym, ap, ◌∙◌, subst, arith, eq-eqb, ltb-false, drop-cons}
+use Rattle.std.proofs.Common.{zero-lt-suc, get_or, ◌⊎◌, inl, inr}
 use Rattle.std.proofs.lemmas.Bool.{or_left, or_right}
 use Rattle.std.proofs.lemmas.Option.{none-some, slice_get_within}
 use Rattle.std.proofs.lemmas.List.{take-append-drop, take_more}
 use Rattle.std.proofs.lemmas.List.Elements.{All-nil, All-cons, All-weaker, All-contains, Contains-append_right, Contains-push_cases}
 use Rattle.std.specs.FinMap.{get}
-use Rattle.linda_maps.proofs.MapLaws.{get_empty}
+use Rattle.linda_map_laws.proofs.MapLaws.{get_empty}
 use Rattle.linda_tuple.specs.Tuple.{Tuple}
 use Rattle.linda_wire.specs.declared.reply.Reply.TheVariants as replies
 use Rattle.linda_store_state.specs.declared.deed.Deed.{Deed}
@@ -34,7 +37,8 @@ module _ {X : Type 0} (p : X → Bool) where
   kept (y ∷ xs) =
       All-cons (λ x. p x ≡ true → Contains (filter p (y ∷ xs)) x) y xs
       (λ passes. subst (λ b. Contains (cond b (y ∷ filter p xs) (filter p xs)) y) (sym passes) (0, zero-lt-suc _, refl))
-      (All-weaker (λ x. p x ≡ true → Contains (filter p xs) x) (λ x. p x ≡ true → Contains (filter p (y ∷ xs)) x) (λ x there passes. behind (p y) x (there passes)) xs (kept xs))
+      (All-weaker (λ x. p x ≡ true → Contains (filter p xs) x) (λ x. p x ≡ true
+      → Contains (filter p (y ∷ xs)) x) (λ x there passes. behind (p y) x (there passes)) xs (kept xs))
     where
       behind : (b : Bool) (x : X) → Contains (filter p xs) x → Contains (cond b (y ∷ filter p xs) (filter p xs)) x
       behind true x there = Contains-append_right (y ∷ []) (filter p xs) x there
@@ -68,14 +72,19 @@ one_take ds c d n m id once first second =
     (kept_at (takes id) ds (Take c n id) first (eq-eqb id id refl)) (kept_at (takes id) ds (Take d m id) second (eq-eqb id id refl))
 
 -- A tuple that is in a bag was put, whatever came later.
-put_before : (before later : List Deed) (id : ℕ) (tuple : Tuple) → bag_after empty_state before id ≡ Some tuple → (1 ≤ id) × (slice_get (outs_of (before ++ later)) (id - 1) ≡ Some tuple)
+put_before : (before later : List Deed) (id : ℕ) (tuple : Tuple) → bag_after empty_state before id ≡ Some tuple
+    → (1 ≤ id) × (slice_get (outs_of (before ++ later)) (id - 1) ≡ Some tuple)
 put_before before later id tuple e = by (is_taken id before) (nat_lt id 1) refl e
   where
-    by : (a b : Bool) → nat_lt id 1 ≡ b → cond a None (cond b (get empty_state.bag id) (slice_get (outs_of before) (id - 1))) ≡ Some tuple → (1 ≤ id) × (slice_get (outs_of (before ++ later)) (id - 1) ≡ Some tuple)
+    by : (a b : Bool) → nat_lt id 1 ≡ b → cond a None (cond b (get empty_state.bag id) (slice_get (outs_of before) (id - 1))) ≡ Some tuple
+        → (1 ≤ id) × (slice_get (outs_of (before ++ later)) (id - 1) ≡ Some tuple)
     by true b low f = absurd (none-some tuple f)
     by false true low f = absurd (none-some tuple (sym (get_empty id) ∙ f))
-    by false false low f =
-        (ltb-false id 1 low, ap (λ l. slice_get l (id - 1)) (outs_of-joined before later) ∙ slice_get-front (outs_of before) (outs_of later) (id - 1) (slice_get_within (outs_of before) (id - 1) tuple f) ∙ f)
+    by false false low f = (
+      ltb-false id 1 low,
+      ap (λ l. slice_get l (id - 1)) (outs_of-joined before later)
+          ∙ slice_get-front (outs_of before) (outs_of later) (id - 1) (slice_get_within (outs_of before) (id - 1) tuple f) ∙ f,
+    )
 
 -- A Take of a proper list finds its tuple in the bag.
 take_finds : (before later : List Deed) (c n id : ℕ) → IsProper empty_state (before ++ Take c n id ∷ later) → IsSome (bag_after empty_state before id)
@@ -132,14 +141,16 @@ handed_over ds c n id proper taken = by (bag_after empty_state before id) refl
 -- ---- what is reported
 
 -- A Taken reports a Take, and the tuple that it found.
-taken_reports : (before : List Deed) (d : Deed) (n id : ℕ) (tuple : Tuple) → replies.Taken n id tuple ≡ reply_of_kept (number_of d) (reply_of_deed empty_state before d)
+taken_reports : (before : List Deed) (d : Deed) (n id : ℕ) (tuple : Tuple)
+    → replies.Taken n id tuple ≡ reply_of_kept (number_of d) (reply_of_deed empty_state before d)
     → (d ≡ Take (client_of d) n id) × (bag_after empty_state before id ≡ Some tuple)
 taken_reports before (Out c m t) n id tuple e = absurd (cc)
 taken_reports before (Pass c m i) n id tuple e = absurd (cc)
 taken_reports before (Leave c m) n id tuple e = absurd (cc)
 taken_reports before (Take c m i) n id tuple e = by (bag_after empty_state before i) refl e
   where
-    by : (o : Option Tuple) → bag_after empty_state before i ≡ o → replies.Taken n id tuple ≡ reply_of_kept m (taken_reply i o) → (Take c m i ≡ Take c n id) × (bag_after empty_state before id ≡ Some tuple)
+    by : (o : Option Tuple) → bag_after empty_state before i ≡ o → replies.Taken n id tuple ≡ reply_of_kept m (taken_reply i o)
+        → (Take c m i ≡ Take c n id) × (bag_after empty_state before id ≡ Some tuple)
     by None none f = absurd (cc)
     by (Some t) there f =
         let i_is : i ≡ id = cc in
@@ -154,14 +165,17 @@ module _ (ds : List Deed) (c n : ℕ) where
 
   pub taken_is_a_take : (id : ℕ) (tuple : Tuple) → ReportsOne ds c (replies.Taken n id tuple) → Contains ds (Take c n id)
   taken_is_a_take id tuple one =
-      among one.deed one.before one.later (Take c n id) one.parts ((taken_reports one.before one.deed n id tuple one.reply).0 ∙ ap (λ x. Take x n id) one.client)
+      among one.deed one.before one.later (Take c n id) one.parts
+      ((taken_reports one.before one.deed n id tuple one.reply).0 ∙ ap (λ x. Take x n id) one.client)
 
   pub taken_was_put : (id : ℕ) (tuple : Tuple) → ReportsOne ds c (replies.Taken n id tuple) → slice_get (outs_of ds) (id - 1) ≡ Some tuple
   taken_was_put id tuple one =
-      ap (λ l. slice_get (outs_of l) (id - 1)) one.parts ∙ (put_before one.before (one.deed ∷ one.later) id tuple (taken_reports one.before one.deed n id tuple one.reply).1).1
+      ap (λ l. slice_get (outs_of l) (id - 1)) one.parts
+      ∙ (put_before one.before (one.deed ∷ one.later) id tuple (taken_reports one.before one.deed n id tuple one.reply).1).1
 
   -- A Gone reports a Pass.
-  gone_reports : (before later : List Deed) (d : Deed) → IsProper empty_state (before ++ d ∷ later) → replies.Gone n ≡ reply_of_kept (number_of d) (reply_of_deed empty_state before d) → (id : ℕ) × (d ≡ Pass (client_of d) n id)
+  gone_reports : (before later : List Deed) (d : Deed) → IsProper empty_state (before ++ d ∷ later)
+      → replies.Gone n ≡ reply_of_kept (number_of d) (reply_of_deed empty_state before d) → (id : ℕ) × (d ≡ Pass (client_of d) n id)
   gone_reports before later (Out d m t) proper e = absurd (cc)
   gone_reports before later (Pass d m i) proper e = (i, cc)
   gone_reports before later (Leave d m) proper e = absurd (cc)
@@ -178,12 +192,18 @@ module _ (ds : List Deed) (c n : ℕ) where
   gone_passes_on proper one =
       let pass = gone_reports one.before one.later one.deed (subst (IsProper empty_state) one.parts proper) one.reply in
       let passed = among one.deed one.before one.later (Pass c n pass.0) one.parts (pass.1 ∙ ap (λ x. Pass x n pass.0) one.client) in
-      record { id = pass.0; passed = passed; untaken = λ other taken. apart pass.0 other ((numbers_once ds proper).one (Pass c n pass.0) (Take c n other) passed taken refl refl) }
+      record {
+        id = pass.0;
+        passed = passed;
+        untaken =
+            λ other taken. apart pass.0 other ((numbers_once ds proper).one (Pass c n pass.0) (Take c n other) passed taken refl refl);
+      }
 
 -- ---- who takes a tuple
 
 -- Nobody took it so far, nor does the next deed.
-pub nobody_more : (ds : List Deed) (i : ℕ) (d : Deed) (id : ℕ) → i < length ds → d ≡ get_or ds i d → ((c n : ℕ) → Contains (take i ds) (Take c n id) → ⊥) → ((c n : ℕ) → d ≡ Take c n id → ⊥)
+pub nobody_more : (ds : List Deed) (i : ℕ) (d : Deed) (id : ℕ) → i < length ds → d ≡ get_or ds i d
+    → ((c n : ℕ) → Contains (take i ds) (Take c n id) → ⊥) → ((c n : ℕ) → d ≡ Take c n id → ⊥)
     → (c n : ℕ) → Contains (take (i + 1) ds) (Take c n id) → ⊥
 nobody_more ds i d id lt is before here c n there = by (Contains-push_cases (take i ds) d (Take c n id) (subst (λ l. Contains l (Take c n id)) front there))
   where
@@ -195,7 +215,8 @@ nobody_more ds i d id lt is before here c n there = by (Contains-push_cases (tak
     by (inr now) = here c n now
 
 -- Who takes it is the only one.
-pub same_taker : (ds : List Deed) (i : ℕ) (d : Deed) (t : ℕ × ℕ) (id : ℕ) → i < length ds → d ≡ get_or ds i d → d ≡ Take t.0 t.1 id → IsTakenOnce ds → (c n : ℕ) → Contains ds (Take c n id) → t ≡ (c, n)
+pub same_taker : (ds : List Deed) (i : ℕ) (d : Deed) (t : ℕ × ℕ) (id : ℕ) → i < length ds → d ≡ get_or ds i d
+    → d ≡ Take t.0 t.1 id → IsTakenOnce ds → (c n : ℕ) → Contains ds (Take c n id) → t ≡ (c, n)
 same_taker ds i d t id lt is found once c n there =
     let here : Contains ds (Take t.0 t.1 id) = subst (Contains ds) found (i, lt, sym is) in
     ap (λ e. (client_of e, number_of e)) (one_take ds t.0 c t.1 n id once here there)

@@ -59,13 +59,3 @@ comings ms = map (λ (m : ℕ × Message). says m.0 m.1) ms
 -- The answer to several messages, one after another.
 abbrev pub Answers : State → Soft → List (ℕ × Message) → History → Type 0
 Answers st soft ms all = Happens st soft (comings ms) all
-
--- One thing more came to a server, after these deeds and sends, and all is this then.
-pub record IsOneMore (st : State) (soft : Soft) (x : Coming) (deeds : List Deed)
-    (sends : List (ℕ × Reply))
-    (all : History) : Type 0 where
-  pub answer : Answer
-  pub comes : Comes st soft x answer all.state
-  pub deeds_are : all.deeds ≡ deeds ++ option_to_list answer.deed
-  pub sends_are : all.sends ≡ sends ++ answer.sends
-  pub soft_is : all.soft ≡ answer.soft

@@ -15,3 +15,4 @@ pub mod Replies
 pub mod Offers
 pub mod Reported
 pub mod Covered
+pub mod Served

@@ -14,7 +14,6 @@ use Rattle.linda_store_state.specs.declared.deed.Deed.{Deed}
 use Rattle.linda_store_state.specs.DeedFormat.{HasLeaves, payload, SuitsForm, IsUnspelled}
 use Rattle.linda_book.specs.Entries.{Entry, left_in, number_in}
 use Rattle.linda_store_step.specs.declared.size.Need.{Need}
-use Rattle.linda_store_step.specs.declared.size.TheConstants.{PLACES}
 use Rattle.linda_store_step.specs.declared.judge.Demand.{Demand}
 use Rattle.linda_store_step.specs.declared.judge.Standing.{Standing}
 use Rattle.linda_store_step.specs.declared.judge.Verdict.{Verdict}
@@ -122,10 +121,10 @@ abbrev pub last_behind : List (ℕ × Latest) → ℕ → Latest → Latest
 last_behind [] c last = last
 last_behind (e ∷ es) c last = last_behind es c (if e.0 == c then e.1 else last)
 
--- Of a client whose place has no mark nothing is among these.
+-- Of a client whose place among the marks has none nothing is among these.
 abbrev pub AreMarked : List Bool → List (ℕ × Latest) → Type 0
 AreMarked met es =
-    (c : ℕ) (last : Latest) → get_or met (c % PLACES) false ≡ false
+    (c : ℕ) (last : Latest) → get_or met (c % length met) false ≡ false
     → last_behind es c last ≡ last
 
 -- This is what the deeds need on a bank in the form: how many they are, and how many bytes they

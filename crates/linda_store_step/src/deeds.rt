@@ -1,6 +1,6 @@
 //! Questions about a server's deeds, answered by a list of them or by what it sent.
 
-ghost use Rattle.std.specs.Prelude.{◌≡◌, ◌+◌, ◌==◌, ℕ, Some, Contains, IfSome, IfNone};
+ghost use Rattle.std.specs.Prelude.{◌≡◌, ◌==◌, ℕ, Some, Contains, IfSome, IfNone};
 ghost use Rattle.linda_store_state.specs.declared.deed.Deed.TheVariants.{Take};
 ghost use Rattle.linda_store_state.specs.Once.{IsTakenOnce};
 ghost use Rattle.linda_store_state.specs.State.{State, IsState};
@@ -82,8 +82,8 @@ pub fn reported_deed(
     }
 }
 
-// Whether the message bears a number, and the one after the last.
-fn comes_next(message: &Message, last: u64) -> bool
+/// Whether the message bears a number, and it is the one after `last`.
+pub fn comes_next(message: &Message, last: u64) -> bool
     ensures { result ≡ spec.comes_next (number_of_message message.now) last }
 {
     match message {

@@ -19,12 +19,13 @@ mod judge;
 mod kept;
 mod laws;
 mod promises;
+mod served;
 mod size;
 mod soft;
 mod step;
 mod store;
 
-pub use deeds::{last_number, reported_deed, taker_of};
+pub use deeds::{comes_next, last_number, reported_deed, taker_of};
 pub use laws::{
     a_cancelled_request_is_over, a_client_that_left_stays_away, a_closed_client_asks_nothing,
     a_list_has_one_outcome, a_repeated_message_gets_the_same_reply, all_that_comes_has_an_outcome,
@@ -37,6 +38,7 @@ pub use promises::{
     takes_hand_over_what_was_put, two_takes_of_a_tuple_are_one, what_is_covered_stays_so,
     what_is_reported_is_kept,
 };
+pub use served::{Served, StepCounts};
 pub use size::{MAX_BATCH, MAX_GROUP, Need};
-pub use step::{Step, Steps};
+pub use step::Step;
 pub use store::Store;

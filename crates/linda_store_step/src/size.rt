@@ -29,7 +29,10 @@ pub const MAX_GROUP: usize = 1024;
 // For so many messages the room for what is last of their clients is small.
 const FEW: usize = 64;
 
-// How many places there are for marks of clients that did a deed.
+// How many places there are for marks of clients that did a deed: for so few messages, and for
+// more.
+const FEW_PLACES: usize = 512;
+
 const PLACES: usize = 4096;
 
 /// What deeds need on a bank.
@@ -59,21 +62,36 @@ pub(crate) fn need_of<B: Bag>(
     ensures none { IfNone result (AllSuit form (numbers_of state.now) messages.now → ⊥) }
 {
     if messages.len() <= FEW {
-        return need_within(form, state, messages, &mut [(0, (0, false)); FEW]);
+        return need_within(
+            form,
+            state,
+            messages,
+            &mut [(0, (0, false)); FEW],
+            &mut [false; FEW_PLACES],
+        );
     }
-    need_within(form, state, messages, &mut [(0, (0, false)); MAX_GROUP])
+    need_within(
+        form,
+        state,
+        messages,
+        &mut [(0, (0, false)); MAX_GROUP],
+        &mut [false; PLACES],
+    )
 }
 
-// The same. What is last of each client so far is kept in `lasts`.
+// The same. What is last of each client so far is kept in `lasts`, and in `met` a mark for each
+// client that did a deed.
 fn need_within<B: Bag>(
     form: Form,
     state: &State<B>,
     messages: &[(u32, Message)],
     lasts: &mut [(u32, (u64, bool))],
+    met: &mut [bool],
 ) -> Option<Need>
     requires ranges { IsState state.now }
     requires few { length messages.now ≤ MAX_GROUP }
     requires room { length messages.now ≤ length lasts.old }
+    requires places { 0 < length met.old }
     ensures bytes { IfSome result (λ need.
         need.bytes ≡ bytes_from form (numbers_of state.now) messages.now) }
     ensures deeds { IfSome result (λ need.
@@ -82,13 +100,12 @@ fn need_within<B: Bag>(
     ensures suit { IfSome result (λ need. AllSuit form (numbers_of state.now) messages.now) }
     ensures none { IfNone result (AllSuit form (numbers_of state.now) messages.now → ⊥) }
 {
-    let mut met = [false; PLACES];
     let mut count = 0;
     let mut clients = state.book.len();
     let mut next = state.next;
     let mut bytes = 0;
     for (client, message) in messages {
-        let (last, left) = latest(&met, &lasts[..count], *client, state.book.standing(*client));
+        let (last, left) = latest(met, &lasts[..count], *client, state.book.standing(*client));
         let at = Standing {
             last,
             left,
@@ -100,7 +117,7 @@ fn need_within<B: Bag>(
         };
         let size = deed_bytes(form, message)?;
         lasts[count] = (*client, (done.n, done.leaves()));
-        met[place_of(*client)] = true;
+        met[place_of(*client, met.len())] = true;
         count += 1;
         clients += usize::from(last == 0);
         next += u64::from(done.puts());
@@ -179,22 +196,26 @@ fn deed_bytes(form: Form, message: &Message) -> Option<usize>
 // else this one. They are gone through only if the client's place is marked, so a group of many
 // clients takes no more for each of them than a small one.
 fn latest(met: &[bool], lasts: &[(u32, (u64, bool))], client: u32, last: (u64, bool)) -> (u64, bool)
-    requires places { length met.now ≡ PLACES }
+    requires places { 0 < length met.now }
     requires marked { AreMarked met.now lasts.now }
     ensures { result ≡ spec.last_behind lasts.now client last }
 {
-    if met[place_of(client)] {
+    if met[place_of(client, met.len())] {
         return last_behind(lasts, client, last);
     }
     last
 }
 
-// The client's place among the marks.
-fn place_of(client: u32) -> usize
-    ensures exact { result ≡ client % PLACES }
-    ensures within { result < PLACES }
+// The client's place among so many. (By a number that is known here no division is needed.)
+fn place_of(client: u32, places: usize) -> usize
+    requires { 0 < places }
+    ensures exact { result ≡ client % places }
+    ensures within { result < places }
 {
-    client as usize % PLACES
+    if places == FEW_PLACES {
+        return client as usize % FEW_PLACES;
+    }
+    client as usize % places
 }
 
 // The same, found from the end.

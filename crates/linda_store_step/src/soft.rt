@@ -6,16 +6,16 @@
 
 mod ask;
 
-ghost use Rattle.std.specs.Prelude.{◌≡◌, ◌++◌, ℕ, Bool, Some, false, map, IfOk, OnOk};
+ghost use Rattle.std.specs.Prelude.{◌≡◌, ◌++◌, [], ℕ, Bool, Some, false, map, IfOk, OnOk};
 ghost use Rattle.std.specs.FinMap as maps;
-ghost use Rattle.linda_bag.specs.Starts.{Bagged, AreRight};
+ghost use Rattle.linda_bag.specs.SearchHints.{Bagged, AreRight};
 ghost use Rattle.linda_wire.specs.declared.reply.Reply.TheVariants as replies;
 ghost use Rattle.linda_store_step.specs.Soft.{AreApart, no_asks};
 ghost use Rattle.linda_store_step.specs.Dispatch.{Sends, dispatch, release, release_all, on_close};
 ghost use Rattle.linda_store_step.specs.Looking.{is_held};
 ghost use Rattle.linda_store_step.specs.Asking.{AnswersCancel};
 
-use linda_bag::{Bag, Starts};
+use linda_bag::{Bag, SearchHints};
 use linda_hold::{Awaiting, Holds, Request, Waits};
 use linda_tuple::Tuple;
 use linda_wire::Reply;
@@ -107,7 +107,7 @@ impl Soft {
         &mut self,
         alloc: Global,
         bag: &B,
-        starts: &mut Starts,
+        hints: &mut SearchHints,
         id: u64,
         sends: &mut Vec<(u32, Reply)>,
     ) -> Result<(), AllocError>
@@ -117,30 +117,30 @@ impl Soft {
         ensures soft { OnOk result (self.new ≡ (release (B.contents bag.now) id self.old).soft) }
         ensures apart { OnOk result (AreApart self.new) }
         ensures right { (next : ℕ) → AreRight (B.contents bag.now) (is_held self.old.holds)
-            next starts.old
-            → OnOk result (AreRight (B.contents bag.now) (is_held self.new.holds) next starts.new) }
+            next hints.old
+            → OnOk result (AreRight (B.contents bag.now) (is_held self.new.holds) next hints.new) }
     {
         match bag.get(id) {
             None => Ok(()),
             Some(tuple) => {
                 self.holds.remove(id);
                 self.dispatch(alloc, id, tuple, sends)?;
-                self.note_free(starts, id, tuple);
+                self.note_free(hints, id, tuple);
                 Ok(())
             }
         }
     }
 
     // The tuple was held, and is free unless it is held again.
-    fn note_free(&self, starts: &mut Starts, id: u64, tuple: &Tuple)
+    fn note_free(&self, hints: &mut SearchHints, id: u64, tuple: &Tuple)
         ensures { (bag : Bagged) (before : ℕ → Bool) (next : ℕ) → maps.get bag id ≡ Some tuple.now
             → ((k : ℕ) → (k ≡ id → ⊥) → is_held self.now.holds k ≡ false → before k ≡ false)
-            → AreRight bag before next starts.old
-            → AreRight bag (is_held self.now.holds) next starts.new }
+            → AreRight bag before next hints.old
+            → AreRight bag (is_held self.now.holds) next hints.new }
     {
         match self.holds.get(id) {
             Some(_) => {}
-            None => starts.free(id, tuple),
+            None => hints.free(id, tuple),
         }
     }
 
@@ -149,7 +149,7 @@ impl Soft {
         &mut self,
         alloc: Global,
         bag: &B,
-        starts: &mut Starts,
+        hints: &mut SearchHints,
         ids: Vec<u64>,
         sends: &mut Vec<(u32, Reply)>,
     ) -> Result<(), AllocError>
@@ -159,17 +159,18 @@ impl Soft {
         ensures soft { OnOk result (self.new
             ≡ (release_all (B.contents bag.now) ids.items self.old).soft) }
         ensures right { (next : ℕ) → AreRight (B.contents bag.now) (is_held self.old.holds)
-            next starts.old
-            → OnOk result (AreRight (B.contents bag.now) (is_held self.new.holds) next starts.new) }
+            next hints.old
+            → OnOk result (AreRight (B.contents bag.now) (is_held self.new.holds) next hints.new) }
     {
         for id in ids {
-            self.release(alloc, bag, starts, id, sends)?;
+            self.release(alloc, bag, hints, id, sends)?;
         }
         Ok(())
     }
 
     /// The request is given up: it waits no more, or what is held for it is released. One that
-    /// neither waits nor holds changes nothing. What is sent, each reply to a client, in order.
+    /// neither waits nor holds changes nothing. What is sent, each reply to a client, in order: it
+    /// is put into `room`, which has none yet.
     ///
     /// # Errors
     ///
@@ -178,17 +179,19 @@ impl Soft {
         &mut self,
         alloc: Global,
         bag: &B,
-        starts: &mut Starts,
+        hints: &mut SearchHints,
         request: Request,
+        room: Vec<(u32, Reply)>,
     ) -> Result<Vec<(u32, Reply)>, AllocError>
-        requires { AreApart self.old }
+        requires apart { AreApart self.old }
+        requires room { room.items ≡ [] }
         ensures sends { IfOk result (λ sends. AnswersCancel (B.contents bag.now) request self.old
             (record { sends = sends.items; soft = self.new })) }
         ensures right { (next : ℕ) → AreRight (B.contents bag.now) (is_held self.old.holds)
-            next starts.old
-            → OnOk result (AreRight (B.contents bag.now) (is_held self.new.holds) next starts.new) }
+            next hints.old
+            → OnOk result (AreRight (B.contents bag.now) (is_held self.new.holds) next hints.new) }
     {
-        let mut sends = Vec::new(alloc);
+        let mut sends = room;
         let held = self.holds.find(request);
         if self.waits.contains(request) {
             self.waits.remove(request);
@@ -196,7 +199,7 @@ impl Soft {
         }
         match held {
             Some(id) => {
-                self.release(alloc, bag, starts, id, &mut sends)?;
+                self.release(alloc, bag, hints, id, &mut sends)?;
                 Ok(sends)
             }
             None => Ok(sends),
@@ -213,7 +216,7 @@ impl Soft {
         &mut self,
         alloc: Global,
         bag: &B,
-        starts: &mut Starts,
+        hints: &mut SearchHints,
         client: u32,
     ) -> Result<Vec<(u32, Reply)>, AllocError>
         requires { AreApart self.old }
@@ -221,13 +224,13 @@ impl Soft {
             let t : Sends = record { sends = sends.items; soft = self.new }
             in t ≡ on_close (B.contents bag.now) client self.old) }
         ensures right { (next : ℕ) → AreRight (B.contents bag.now) (is_held self.old.holds)
-            next starts.old
-            → OnOk result (AreRight (B.contents bag.now) (is_held self.new.holds) next starts.new) }
+            next hints.old
+            → OnOk result (AreRight (B.contents bag.now) (is_held self.new.holds) next hints.new) }
     {
         let mut sends = Vec::new(alloc);
         self.waits.remove_client(client);
         let held = self.holds.of_client(alloc, client)?;
-        self.release_all(alloc, bag, starts, held, &mut sends)?;
+        self.release_all(alloc, bag, hints, held, &mut sends)?;
         Ok(sends)
     }
 }

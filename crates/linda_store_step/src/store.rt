@@ -1,23 +1,25 @@
 //! The store of a server: a state that keeps its ranges, changed by one message after another.
 
-ghost use Rattle.std.specs.Prelude.{◌≡◌, ◌≤◌, ◌++◌, ◌∷◌, [], ℕ, Bool, true, false, length};
-ghost use Rattle.std.specs.Prelude.{All, IfOk, IfSome, IfNone, OnOk, OnErr, IsErr, option_to_list};
-ghost use Rattle.linda_bag.specs.Starts.{AreRight, Bagged};
+ghost use Rattle.std.specs.Prelude.{◌≡◌, ◌≤◌, ◌∷◌, [], ℕ, Bool, true, false, length};
+ghost use Rattle.std.specs.Prelude.{All, IfOk, IfSome, IfNone, OnOk, OnErr, IsErr};
+ghost use Rattle.linda_bag.specs.SearchHints.{AreRight, Bagged};
 ghost use Rattle.linda_store_state.specs.DeedFormat.{payload, SuitsForm, IsUnspelled};
 ghost use Rattle.linda_store_state.specs.State.{IsState, empty_state};
 ghost use Rattle.linda_store_step.specs.Soft.{no_asks};
 ghost use Rattle.linda_store_step.specs.Dispatch.{on_close};
 ghost use Rattle.linda_store_step.specs.Answer.{IsStep};
-ghost use Rattle.linda_store_step.specs.History.{History, Answers, IsOneMore, says, history_of};
+ghost use Rattle.linda_store_step.specs.History.{History, Answers, history_of};
+ghost use Rattle.linda_store_step.specs.Served.{IsServed, IsServedToo};
 ghost use Rattle.linda_store_step.specs.Size.{IsNeedOf};
 ghost use Rattle.linda_store_step.specs.Store.{IsOrderly};
 
+use crate::served::Served;
 use crate::size::{self, MAX_GROUP, Need};
 use crate::soft::Soft;
-use crate::step::{Step, Steps, answer_message};
-use linda_bag::{Bag, Starts};
+use crate::step::{Step, answer_message};
+use linda_bag::{Bag, SearchHints};
 use linda_hold::{Holds, Waits};
-use linda_store_state::{Deed, State};
+use linda_store_state::State;
 use linda_tuple::Form;
 use linda_wire::{Message, Reply};
 use std::alloc::{AllocError, Global};
@@ -38,13 +40,13 @@ use std::marker::Model;
 pub struct Store<B: Bag> {
     state: State<B>,
     soft: Soft,
-    starts: Starts,
+    hints: SearchHints,
     spent: bool,
 }
 
 impl<B: Bag> Model for Store<B> {
     ghost use Rattle.linda_store_step.specs.Store as seen;
-    ghost use Rattle.linda_bag.specs.Starts.{AreRight};
+    ghost use Rattle.linda_bag.specs.SearchHints.{AreRight};
     ghost use Rattle.linda_store_step.specs.Looking.{is_held};
     ghost use Rattle.linda_store_step.specs.Store.{IsOrderly, store_code};
 
@@ -55,7 +57,7 @@ impl<B: Bag> Model for Store<B> {
     ghost view = { λ s. record { state = s.state; soft = s.soft; is_spent = s.spent } };
 
     ghost invariant = { λ s. IsOrderly s.state s.soft
-        × AreRight s.state.bag (is_held s.soft.holds) s.state.next s.starts };
+        × AreRight s.state.bag (is_held s.soft.holds) s.state.next s.hints };
 }
 
 impl<B: Bag> Store<B> {
@@ -66,7 +68,7 @@ impl<B: Bag> Store<B> {
         Store {
             state: State::new(alloc),
             soft: Soft::new(alloc),
-            starts: Starts::new(alloc),
+            hints: SearchHints::new(alloc),
             spent: false,
         }
     }
@@ -79,7 +81,7 @@ impl<B: Bag> Store<B> {
         Store {
             state,
             soft: Soft::new(alloc),
-            starts: Starts::new(alloc),
+            hints: SearchHints::new(alloc),
             spent: false,
         }
     }
@@ -123,20 +125,47 @@ impl<B: Bag> Store<B> {
         ensures dropped { OnErr result (self.old.is_spent ≡ false → self.new.soft ≡ no_asks) }
         ensures spent { self.old.is_spent ≡ true → IsErr result × (self.new ≡ self.old) }
     {
+        self.step_in(alloc, client, message, Vec::new(alloc))
+    }
+
+    /// The same. The replies are put into `room`, which has none yet: so its memory, that of an
+    /// earlier step, say, is used again. It is dropped where memory runs out.
+    ///
+    /// # Errors
+    ///
+    /// As `step`.
+    pub fn step_in(
+        &mut self,
+        alloc: Global,
+        client: u32,
+        message: &Message,
+        room: Vec<(u32, Reply)>,
+    ) -> Result<Step, AllocError>
+        requires { room.items ≡ [] }
+        ensures ok { IfOk result (λ s. IsStep self.old.state self.old.soft client message.now
+            (record { deed = s.deed; sends = s.sends.items; soft = self.new.soft })
+            self.new.state) }
+        ensures unspent { OnOk result ((self.old.is_spent ≡ false) × (self.new.is_spent ≡ false)) }
+        ensures err { OnErr result ((self.new.state ≡ self.old.state)
+            × (self.new.is_spent ≡ true)) }
+        ensures dropped { OnErr result (self.old.is_spent ≡ false → self.new.soft ≡ no_asks) }
+        ensures spent { self.old.is_spent ≡ true → IsErr result × (self.new ≡ self.old) }
+    {
         if self.spent {
             return Err(AllocError);
         }
         match answer_message(
             &mut self.state,
             &mut self.soft,
-            &mut self.starts,
+            &mut self.hints,
             alloc,
             client,
             message,
+            room,
         ) {
             Ok(step) => Ok(step),
             Err(error) => {
-                spend(alloc, &mut self.soft, &mut self.starts, &mut self.spent);
+                spend(alloc, &mut self.soft, &mut self.hints, &mut self.spent);
                 Err(error)
             }
         }
@@ -152,36 +181,89 @@ impl<B: Bag> Store<B> {
         &mut self,
         alloc: Global,
         messages: &[(u32, Message)],
-    ) -> Result<Steps, AllocError>
+    ) -> Result<Served, AllocError>
         ensures ok { IfOk result (λ s. Answers self.old.state self.old.soft messages.now
             (history_of self.new.state self.new.soft s.deeds.items s.sends.items)) }
+        ensures served { IfOk result (λ s. IsServed self.old.state self.old.soft messages.now
+            s self.new.state self.new.soft) }
         ensures unspent { OnOk result ((self.old.is_spent ≡ false) × (self.new.is_spent ≡ false)) }
         ensures err { OnErr result (self.new.is_spent ≡ true) }
         ensures dropped { OnErr result (self.old.is_spent ≡ false → self.new.soft ≡ no_asks) }
         ensures spent { self.old.is_spent ≡ true → IsErr result × (self.new ≡ self.old) }
     {
-        if self.spent {
+        if self.is_spent() {
             return Err(AllocError);
         }
-        let mut steps = Steps {
-            deeds: Vec::new(alloc),
-            sends: Vec::new(alloc),
-        };
-        for message in messages {
-            match self.add_step(alloc, message.0, &message.1, &mut steps) {
-                Ok(()) => {}
-                Err(error) => {
-                    spend(alloc, &mut self.soft, &mut self.starts, &mut self.spent);
-                    return Err(error);
-                }
+        match self.step_each(alloc, messages) {
+            Ok(served) => Ok(served),
+            Err(error) => {
+                self.give_up(alloc);
+                Err(error)
             }
         }
-        Ok(steps)
     }
 
-    /// How many bytes the deeds of the messages will spell in the form, each of its client, one
-    /// after another, as `step_all` does them; None if one of them will have no spelling there.
-    /// Takes no memory, and changes nothing.
+    /// As `step_in`, and adds what that led to. The room is given back for the next message.
+    ///
+    /// # Errors
+    ///
+    /// `AllocError` where memory runs out: the message may be done, and the store is spent; and
+    /// always where it is spent already.
+    pub fn add_step(
+        &mut self,
+        alloc: Global,
+        client: u32,
+        message: &Message,
+        served: &mut Served,
+        room: Vec<(u32, Reply)>,
+    ) -> Result<Vec<(u32, Reply)>, AllocError>
+        requires { room.items ≡ [] }
+        ensures ok { OnOk result (IsServedToo self.old.state self.old.soft client message.now
+            served.old served.new self.new.state self.new.soft) }
+        ensures room { IfOk result (λ left. left.items ≡ []) }
+        ensures unspent { OnOk result ((self.old.is_spent ≡ false) × (self.new.is_spent ≡ false)) }
+        ensures err { OnErr result (self.new.is_spent ≡ true) }
+        ensures dropped { OnErr result (self.old.is_spent ≡ false → self.new.soft ≡ no_asks) }
+        ensures spent { self.old.is_spent ≡ true → IsErr result × (self.new ≡ self.old) }
+    {
+        let step = self.step_in(alloc, client, message, room)?;
+        match served.add(step) {
+            Ok(left) => Ok(left),
+            Err(error) => {
+                self.give_up(alloc);
+                Err(error)
+            }
+        }
+    }
+
+    // Does what the messages ask, one after another.
+    fn step_each(
+        &mut self,
+        alloc: Global,
+        messages: &[(u32, Message)],
+    ) -> Result<Served, AllocError>
+        requires { self.old.is_spent ≡ false }
+        ensures ok { IfOk result (λ s. IsServed self.old.state self.old.soft messages.now
+            s self.new.state self.new.soft) }
+        ensures unspent { OnOk result (self.new.is_spent ≡ false) }
+    {
+        let mut served = Served::with_room(alloc, messages.len())?;
+        let mut room = Vec::new(alloc);
+        for message in messages {
+            room = self.add_step(alloc, message.0, &message.1, &mut served, room)?;
+        }
+        Ok(served)
+    }
+
+    // Memory ran out: nothing is held any more, and nobody waits.
+    fn give_up(&mut self, alloc: Global)
+        ensures { self.new ≡ record { state = self.old.state; soft = no_asks; is_spent = true } }
+    {
+        spend(alloc, &mut self.soft, &mut self.hints, &mut self.spent);
+    }
+
+    /// How many bytes the deeds of the messages will spell in the form, as `step_all` does them;
+    /// None if one of them will have no spelling there. Takes no memory, and changes nothing.
     pub fn size_of(&self, form: Form, messages: &[(u32, Message)]) -> Option<u64>
         requires { length messages.now ≤ MAX_GROUP }
         ensures bytes { (all : History) → Answers self.now.state self.now.soft messages.now all
@@ -198,9 +280,8 @@ impl<B: Bag> Store<B> {
         }
     }
 
-    /// What the deeds of the messages will need in the form, each of its client, one after another,
-    /// as `step_all` does them; None if one of them will have no spelling there. Takes no memory,
-    /// and changes nothing.
+    /// What the deeds of the messages will need in the form, as `step_all` does them; None if one
+    /// of them will have no spelling there. Takes no memory, and changes nothing.
     pub fn need_of(&self, form: Form, messages: &[(u32, Message)]) -> Option<Need>
         requires { length messages.now ≤ MAX_GROUP }
         ensures need { (all : History) → Answers self.now.state self.now.soft messages.now all
@@ -224,27 +305,6 @@ impl<B: Bag> Store<B> {
         size::need_of_one(form, &self.state, client, message)
     }
 
-    // Does one message more.
-    fn add_step(
-        &mut self,
-        alloc: Global,
-        client: u32,
-        message: &Message,
-        steps: &mut Steps,
-    ) -> Result<(), AllocError>
-        requires { self.old.is_spent ≡ false }
-        ensures ok { OnOk result (IsOneMore self.old.state self.old.soft (says client message.now)
-            steps.old.deeds.items steps.old.sends.items
-            (history_of self.new.state self.new.soft steps.new.deeds.items steps.new.sends.items)) }
-        ensures unspent { OnOk result (self.new.is_spent ≡ false) }
-    {
-        let step = self.step(alloc, client, message)?;
-        let Step { deed, mut sends } = step;
-        push_deed(&mut steps.deeds, deed)?;
-        steps.sends.append(&mut sends)?;
-        Ok(())
-    }
-
     /// Gives up all that the client asked: its waits, and then its holds by rising id, each of
     /// which is free at once for those that wait. The state is as before.
     ///
@@ -266,11 +326,11 @@ impl<B: Bag> Store<B> {
         }
         match self
             .soft
-            .close(alloc, &self.state.bag, &mut self.starts, client)
+            .close(alloc, &self.state.bag, &mut self.hints, client)
         {
             Ok(sends) => Ok(sends),
             Err(error) => {
-                spend(alloc, &mut self.soft, &mut self.starts, &mut self.spent);
+                spend(alloc, &mut self.soft, &mut self.hints, &mut self.spent);
                 Err(error)
             }
         }
@@ -306,7 +366,7 @@ impl<B: Bag> Store<B> {
             ≡ record { state = self.old.state; soft = no_asks; is_spent = self.old.is_spent } }
     {
         self.soft = Soft::new(alloc);
-        self.starts = Starts::new(alloc);
+        self.hints = SearchHints::new(alloc);
     }
 
     /// Gives the state away, which keeps its ranges.
@@ -328,23 +388,13 @@ impl<B: Bag> Store<B> {
 }
 
 // Memory ran out: nothing is held any more, and nobody waits.
-fn spend(alloc: Global, soft: &mut Soft, starts: &mut Starts, spent: &mut bool)
+fn spend(alloc: Global, soft: &mut Soft, hints: &mut SearchHints, spent: &mut bool)
     ensures soft { soft.new ≡ no_asks }
-    ensures starts { (bag : Bagged) (passed : ℕ → Bool) (next : ℕ)
-        → AreRight bag passed next starts.new }
+    ensures hints { (bag : Bagged) (passed : ℕ → Bool) (next : ℕ)
+        → AreRight bag passed next hints.new }
     ensures spent { spent.new ≡ true }
 {
     *soft = Soft::new(alloc);
-    *starts = Starts::new(alloc);
+    *hints = SearchHints::new(alloc);
     *spent = true;
-}
-
-// Pushes the deed, if there is one.
-fn push_deed(deeds: &mut Vec<Deed>, deed: Option<Deed>) -> Result<(), AllocError>
-    ensures { OnOk result (deeds.new.items ≡ deeds.old.items ++ option_to_list deed) }
-{
-    match deed {
-        Some(deed) => Ok(deeds.push(deed)?),
-        None => Ok(()),
-    }
 }

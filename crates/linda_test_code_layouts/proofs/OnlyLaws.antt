@@ -14,7 +14,8 @@ use Rattle.linda_test_code_layouts.specs.Only.{AreRecords, AreAppended, AreBank}
 pub only_journal : (form : Form) (records : List (List Deed)) (bytes : List ℕ) → IsJournal form bytes records → AreRecords form records bytes
 only_journal form records bytes is = record { journal = is; only = λ rs other. one_journal form bytes rs records other is }
 
-pub only_bank : (form : Form) (generation : ℕ) (body : List ℕ) (records : List (List Deed)) (bytes : List ℕ) → IsBank form bytes generation body records → AreBank form generation body records bytes
+pub only_bank : (form : Form) (generation : ℕ) (body : List ℕ) (records : List (List Deed)) (bytes : List ℕ)
+    → IsBank form bytes generation body records → AreBank form generation body records bytes
 only_bank form generation body records bytes is =
     record { bank = is; only = λ f g b rs other. one_bank bytes f form g generation b body rs records other is }
 
@@ -24,7 +25,12 @@ one_deed form d fits = record { some = lit≤ tt; few = lit≤ tt; fits = All-co
 
 pub two_deeds : (form : Form) (d more : Deed) → FitsDeed form d → FitsDeed form more → IsRecord form (d ∷ more ∷ [])
 two_deeds form d more fits too =
-    record { some = lit≤ tt; few = lit≤ tt; fits = All-cons (FitsDeed form) d (more ∷ []) fits (All-cons (FitsDeed form) more [] too (All-nil (FitsDeed form))) }
+    record {
+      some = lit≤ tt;
+      few = lit≤ tt;
+      fits =
+          All-cons (FitsDeed form) d (more ∷ []) fits (All-cons (FitsDeed form) more [] too (All-nil (FitsDeed form)));
+    }
 
 pub one_record : (form : Form) (ds : List Deed) → IsRecord form ds → All (IsRecord form) (ds ∷ [])
 one_record form ds is = All-cons (IsRecord form) ds [] is (All-nil (IsRecord form))

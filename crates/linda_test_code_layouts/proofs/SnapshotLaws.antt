@@ -44,12 +44,15 @@ module _ (form : Form) (next : ℕ) (tuples : List (ℕ × Tuple)) (clients : Li
   ranges = record {
     next_low = good.low;
     next_high = good.high;
-    ids = λ id. subst (λ o. IfSome o (λ _. (1 ≤ id) × (id < next))) (sym (get-from_sorted nat_cmp tuples id good.rising)) (found_in (λ k _. (1 ≤ k) × (k < next)) tuples id good.ids);
-    numbers = λ c. subst (λ o. IfSome o (λ (e : Entry). (1 ≤ e.0) × (e.0 < NUMBER_LIMIT))) (sym (get-from_sorted nat_cmp clients c good.clients_rising)) (found_in (λ _ (e : Entry). (1 ≤ e.0) × (e.0 < NUMBER_LIMIT)) clients c good.numbers);
+    ids = λ id. subst (λ o. IfSome o (λ _. (1 ≤ id) × (id < next))) (sym (get-from_sorted nat_cmp tuples id good.rising))
+        (found_in (λ k _. (1 ≤ k) × (k < next)) tuples id good.ids);
+    numbers = λ c. subst (λ o. IfSome o (λ (e : Entry). (1 ≤ e.0) × (e.0 < NUMBER_LIMIT)))
+        (sym (get-from_sorted nat_cmp clients c good.clients_rising)) (found_in (λ _ (e : Entry). (1 ≤ e.0) × (e.0 < NUMBER_LIMIT)) clients c good.numbers);
     clients = subst (λ n. n ≤ MAX_CLIENTS) (sym (len-entries (state_of next tuples clients).book ∙ ap length clients_there)) good.few;
   }
 
-  pub only_snapshot : (snapshot form).Fits (next, (tuples, clients)) → AreSnapshot form (state_of next tuples clients) ((snapshot form).spell (next, (tuples, clients)))
+  pub only_snapshot : (snapshot form).Fits (next, (tuples, clients))
+      → AreSnapshot form (state_of next tuples clients) ((snapshot form).spell (next, (tuples, clients)))
   only_snapshot fits =
       let is : IsSnapshot form ((snapshot form).spell (next, (tuples, clients))) (state_of next tuples clients) = record {
         parts = sym (ap₂ (λ ts cs. (snapshot form).spell (next, (ts, cs))) there clients_there);
@@ -57,4 +60,8 @@ module _ (form : Form) (next : ℕ) (tuples : List (ℕ × Tuple)) (clients : Li
             (subst (λ ts. (snapshot form).Fits (next, (ts, clients))) (sym there) fits);
         ranges = ranges;
       } in
-      record { snapshot = is; only = λ other at. one_snapshot form ((snapshot form).spell (next, (tuples, clients))) other (state_of next tuples clients) at is }
+      record {
+        snapshot = is;
+        only =
+            λ other at. one_snapshot form ((snapshot form).spell (next, (tuples, clients))) other (state_of next tuples clients) at is;
+      }

@@ -1,6 +1,6 @@
 //! Records of a bank, each an open gate, a length and deeds, and journals of them, in both forms.
 
-ghost use Rattle.std.specs.Prelude.{◌≡◌, ℕ, List, [], ◌∷◌, length};
+ghost use Rattle.std.specs.Prelude.{◌≡◌, List, [], ◌∷◌, length};
 ghost use Rattle.linda_tuple.specs.declared.form.Form.TheVariants.{One, Two};
 ghost use Rattle.linda_store_state.specs.declared.deed.Deed.{Deed};
 ghost use Rattle.linda_store_state.specs.declared.deed.Deed.TheVariants as deed;

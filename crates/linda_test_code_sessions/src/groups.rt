@@ -6,7 +6,7 @@ ghost use Rattle.linda_shared_accounts.specs.declared.limits.TheConstants.{PARTS
 
 use linda_disk::MemDisk;
 use linda_shared::{
-    Account, MAX_GROUP, MOST_ASKED, MessageGroup, ReplySink, Sent, ServedGroup, Shared,
+    Account, Admission, MAX_GROUP, MOST_ASKED, MessageGroup, ReplySink, Sent, ServedGroup, Shared,
     SharedFault, hear_answer,
 };
 use linda_shared_accounts::PARTS;
@@ -103,7 +103,7 @@ pub(crate) fn admitted<L: Ledger, R: Wait>(
     let mut accounts = Vec::new(alloc);
     for client in CLIENTS {
         match shared.admit(rt, &hello(client, true)) {
-            Ok(Ok((account, 0))) => accounts.push(account)?,
+            Ok(Admission::Welcome(account, 0)) => accounts.push(account)?,
             _ => return Err(AllocError),
         }
     }

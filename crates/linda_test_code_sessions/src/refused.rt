@@ -1,6 +1,6 @@
-//! A group of messages of several sessions while an allocation is refused: all of it is served, once
-//! it is asked again if it was not; or the server is down, and one that opens on its disks keeps
-//! what was kept before the group, or after it.
+//! A group of messages of several sessions while an allocation is refused: all of it is served,
+//! once it is asked again if it was not; or the server is down, and one that opens on its disks
+//! keeps what was kept before the group, or after it.
 
 ghost use Rattle.std.specs.Prelude.{◌≡◌};
 ghost use Rattle.linda_shared_accounts.specs.declared.limits.TheConstants.{PARTS};

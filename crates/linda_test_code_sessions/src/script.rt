@@ -8,17 +8,18 @@
 //! for message 1, whether a snapshot pays, a fault in words, and then all replies that are there,
 //! session by session.
 
-ghost use Rattle.std.specs.Prelude.{◌≡◌, ◌≤◌, ◌<◌, true, length, All, IfOk};
+mod lines;
+mod requests;
+
+ghost use Rattle.std.specs.Prelude.{◌≤◌, ◌<◌, length, All};
 ghost use Rattle.linda_store_step.specs.declared.size.TheConstants.{MAX_BATCH};
 ghost use Rattle.linda_shared_queue.specs.Seat.{IsRequest};
 
-use linda_shared::{Progress, Receipt, SharedFault};
-use linda_store_step::MAX_BATCH;
-use linda_test_script::{
-    WordsFault, read_batch, read_message, read_numbered, split_word, write_reply,
-};
+use linda_test_script::{WordsFault, read_message, read_numbered, split_word};
 use linda_test_server::{Host, Welcome};
-use linda_wire::{Message, Reply};
+use linda_wire::Message;
+use lines::{tell_all, tell_fault, tell_receipt, tell_receipts, word_of, written};
+use requests::requests_in;
 use std::alloc::{AllocError, Global};
 use std::sync::Wait;
 
@@ -80,13 +81,13 @@ impl<S: Drop, O: Drop, H: Host<S, O>> Sessions<S, O, H> {
             "all" => self.submit_batch(rt, alloc, rest, came),
             "leave" => self.leave(rt, rest, came),
             "finish" => self.finish(rt, alloc, rest, came),
-            "pays" => self.pays(rt, came),
-            "off" => self.put_off(rt, rest),
+            "pays" => self.snapshot_due(rt, came),
+            "off" => self.defer_snapshot(rt, rest),
             "from" => self.count_from(rt, rest),
             "mailboxes" => self.mailboxes(rt, came),
             "wait" => self.wait(rt, alloc, rest, came),
             "snapshot" => self.snapshot(rt, came),
-            "begin" => self.begin_steps(rt, came),
+            "begin" => self.begin_snapshot(rt, came),
             "step" => self.step(rt, came),
             _ => self.submit_one(rt, alloc, line, came),
         }
@@ -243,15 +244,15 @@ impl<S: Drop, O: Drop, H: Host<S, O>> Sessions<S, O, H> {
         Ok(seats)
     }
 
-    fn pays<R: Wait>(&mut self, rt: &R, came: &mut String) -> Result<(), WordsFault> {
-        let answer = self.host.pays(rt);
+    fn snapshot_due<R: Wait>(&mut self, rt: &R, came: &mut String) -> Result<(), WordsFault> {
+        let answer = self.host.snapshot_due(rt);
         written(writeln!(came, "> pays {answer}"))
     }
 
     // Snapshots are put off for so many bytes.
-    fn put_off<R: Wait>(&mut self, rt: &R, words: &str) -> Result<(), WordsFault> {
+    fn defer_snapshot<R: Wait>(&mut self, rt: &R, words: &str) -> Result<(), WordsFault> {
         let (room, _) = read_numbered(words)?;
-        self.host.put_off(rt, room as usize);
+        self.host.defer_snapshot(rt, room as usize);
         Ok(())
     }
 
@@ -290,15 +291,15 @@ impl<S: Drop, O: Drop, H: Host<S, O>> Sessions<S, O, H> {
         }
     }
 
-    fn begin_steps<R: Wait>(&mut self, rt: &R, came: &mut String) -> Result<(), WordsFault> {
-        match self.host.begin_steps(rt) {
+    fn begin_snapshot<R: Wait>(&mut self, rt: &R, came: &mut String) -> Result<(), WordsFault> {
+        match self.host.begin_snapshot(rt) {
             Ok(()) => Ok(()),
             Err(fault) => tell_fault(fault, came),
         }
     }
 
     fn step<R: Wait>(&mut self, rt: &R, came: &mut String) -> Result<(), WordsFault> {
-        match self.host.step(rt, MOST) {
+        match self.host.continue_snapshot(rt, MOST) {
             Ok(progress) => written(came.push_str(word_of(progress))),
             Err(fault) => tell_fault(fault, came),
         }
@@ -345,101 +346,5 @@ fn outlet_at<S: Drop, O: Drop>(
     match sessions.get_mut(place) {
         Some(session) => Ok(&mut session.outlet),
         None => Err(WordsFault::Unknown),
-    }
-}
-
-// What was written, or the fault that memory ran out.
-fn written(done: Result<(), AllocError>) -> Result<(), WordsFault> {
-    Ok(done?)
-}
-
-// How a snapshot in steps went on.
-fn word_of(progress: Progress) -> &'static str {
-    match progress {
-        Progress::Idle => "> idle\n",
-        Progress::Going => "> going\n",
-        Progress::Done => "> done\n",
-    }
-}
-
-// Writes why a call failed.
-fn tell_fault(fault: SharedFault, came: &mut String) -> Result<(), WordsFault> {
-    written(writeln!(came, "> {fault}"))
-}
-
-// Writes replies to a client.
-fn tell_all(
-    alloc: Global,
-    client: u32,
-    replies: &[Reply],
-    came: &mut String,
-) -> Result<(), AllocError> {
-    for reply in replies {
-        let words = write_reply(alloc, reply)?;
-        writeln!(came, "> {client} {words}")?;
-    }
-    Ok(())
-}
-
-// Writes a receipt, if there is one.
-fn tell_receipt(receipt: &Option<Receipt>, came: &mut String) -> Result<(), WordsFault> {
-    match receipt {
-        Some(receipt) => {
-            written(writeln!(came, "> {} did {}", receipt.client(), receipt.number()))
-        }
-        None => Ok(()),
-    }
-}
-
-// Writes the receipts that there are.
-fn tell_receipts(receipts: &[Option<Receipt>], came: &mut String) -> Result<(), WordsFault> {
-    for receipt in receipts {
-        tell_receipt(receipt, came)?;
-    }
-    Ok(())
-}
-
-// The messages of a line, which are a client's, at least one and few enough for one call, and none
-// a Hello.
-fn requests_in(alloc: Global, words: &str) -> Result<(u32, Vec<Message>), WordsFault>
-    ensures { IfOk result (λ r. (0 < length r.1.items) × (length r.1.items ≤ MAX_BATCH)
-        × All IsRequest r.1.items) }
-{
-    let (client, _) = read_numbered(words)?;
-    let mut messages = Vec::new(alloc);
-    for (_, message) in read_batch(alloc, words)? {
-        messages.push(message)?;
-    }
-    let all: &[Message] = &messages;
-    if all.is_empty() || all.len() > MAX_BATCH || !are_requests(all) {
-        return Err(WordsFault::Unknown);
-    }
-    Ok((client, messages))
-}
-
-// Whether none is a Hello.
-fn are_requests(messages: &[Message]) -> bool
-    ensures { result ≡ true → All IsRequest messages.now }
-{
-    let mut rest = messages;
-    while let [first, others @ ..] = rest {
-        if !is_request(first) {
-            return false;
-        }
-        rest = others;
-    }
-    true
-}
-
-fn is_request(message: &Message) -> bool
-    ensures { result ≡ true → IsRequest message.now }
-{
-    match message {
-        Message::Hello { .. } => false,
-        Message::Out { .. } => true,
-        Message::Ask { .. } => true,
-        Message::Accept { .. } => true,
-        Message::Cancel { .. } => true,
-        Message::Leave { .. } => true,
     }
 }

@@ -16,8 +16,8 @@ const THREE: Kept = (4, 3, 1);
 
 const FOUR: Kept = (5, 4, 1);
 
-/// Two deeds in one record, a snapshot, another deed, and another snapshot; then one in steps, with a
-/// deed between them.
+/// Two deeds in one record, a snapshot, another deed, and another snapshot; then one in steps, with
+/// a deed between them.
 const STEPS: &[Step] = &[
     ("greet hello 2 7 fresh", "> 7 welcome 0\n", NEW),
     (

@@ -3,7 +3,7 @@
 use crate::node::play_node;
 use crate::pipe::{Pieces, Room};
 use crate::told::{done, tell, tell_two};
-use linda_store::{End, Session, Stage, Taken, Volatile, converse};
+use linda_store::{ConnectionState, End, Session, Taken, Volatile, converse};
 use linda_test_script::{WordsFault, read_size, said_frames, split_word, write_reply};
 use linda_wire::{Reply, ReplyFeed};
 use std::alloc::{AllocError, Global};
@@ -143,10 +143,10 @@ fn show(session: &Session, came: &mut String) -> Result<(), AllocError> {
     writeln!(came, ", rest {}", session.rest())
 }
 
-fn push_stage(stage: Stage, came: &mut String) -> Result<(), AllocError> {
+fn push_stage(stage: ConnectionState, came: &mut String) -> Result<(), AllocError> {
     match stage {
-        Stage::Open => came.push_str("open"),
-        Stage::Malformed(at) => write!(came, "malformed at {at}"),
-        Stage::Down => came.push_str("down"),
+        ConnectionState::Open => came.push_str("open"),
+        ConnectionState::Malformed(at) => write!(came, "malformed at {at}"),
+        ConnectionState::Down => came.push_str("down"),
     }
 }

@@ -4,11 +4,11 @@ use crate::notation::push_written;
 use crate::told::{Written, done};
 use crate::typed::Typed;
 use linda_test_script::{WordsFault, write_message, write_reply};
-use linda_wire::{Framed, Message, Reply, encode_message, encode_reply};
+use linda_wire::{FramePayload, Message, Reply, encode_message, encode_reply};
 use std::alloc::{AllocError, Global};
 
 /// What is in a frame, and has words.
-pub(crate) trait Spoken: Framed + Typed {
+pub(crate) trait Spoken: FramePayload + Typed {
     /// Appends its frame.
     fn push_frame(&self, bytes: &mut Vec<u8>) -> Result<(), AllocError>;
 }

@@ -76,11 +76,11 @@ pub trait Host<S, O>: Drop {
     fn leave<R: Wait>(&self, rt: &R, seat: S, outlet: O) -> Result<(), SharedFault>;
 
     /// Whether a snapshot pays for itself.
-    fn pays<R: Wait>(&self, rt: &R) -> bool;
+    fn snapshot_due<R: Wait>(&self, rt: &R) -> bool;
 
     /// Snapshots that pay are put off until there are records of so many bytes, or as many as make
     /// one due.
-    fn put_off<R: Wait>(&self, rt: &R, room: usize);
+    fn defer_snapshot<R: Wait>(&self, rt: &R, room: usize);
 
     /// Bytes are counted from so many on, which the bank in use took when it was new.
     fn count_from<R: Wait>(&self, rt: &R, base: usize);
@@ -89,10 +89,10 @@ pub trait Host<S, O>: Drop {
     fn snapshot<R: Wait>(&self, rt: &R) -> Result<(), SharedFault>;
 
     /// The server begins a snapshot in steps.
-    fn begin_steps<R: Wait>(&self, rt: &R) -> Result<(), SharedFault>;
+    fn begin_snapshot<R: Wait>(&self, rt: &R) -> Result<(), SharedFault>;
 
     /// The server takes the next step of a snapshot, which writes about so many bytes at most.
-    fn step<R: Wait>(&self, rt: &R, most: usize) -> Result<Progress, SharedFault>;
+    fn continue_snapshot<R: Wait>(&self, rt: &R, most: usize) -> Result<Progress, SharedFault>;
 
     /// All seats come back, and the server gives its report.
     fn finish<R: Wait>(&self, rt: &R, seats: Vec<S>) -> Result<Report, SharedFault>;
@@ -167,12 +167,12 @@ impl<L: Ledger> Host<Seat<L>, Outlet<L>> for Shared<MemDisk, L> {
         Shared::leave(self, rt, seat, outlet)
     }
 
-    fn pays<R: Wait>(&self, rt: &R) -> bool {
-        Shared::pays(self, rt)
+    fn snapshot_due<R: Wait>(&self, rt: &R) -> bool {
+        Shared::snapshot_due(self, rt)
     }
 
-    fn put_off<R: Wait>(&self, rt: &R, room: usize) {
-        Shared::put_off(self, rt, room)
+    fn defer_snapshot<R: Wait>(&self, rt: &R, room: usize) {
+        Shared::defer_snapshot(self, rt, room)
     }
 
     fn count_from<R: Wait>(&self, rt: &R, base: usize) {
@@ -183,12 +183,12 @@ impl<L: Ledger> Host<Seat<L>, Outlet<L>> for Shared<MemDisk, L> {
         Shared::snapshot(self, rt)
     }
 
-    fn begin_steps<R: Wait>(&self, rt: &R) -> Result<(), SharedFault> {
-        Shared::begin_steps(self, rt)
+    fn begin_snapshot<R: Wait>(&self, rt: &R) -> Result<(), SharedFault> {
+        Shared::begin_snapshot(self, rt)
     }
 
-    fn step<R: Wait>(&self, rt: &R, most: usize) -> Result<Progress, SharedFault> {
-        Shared::step(self, rt, most)
+    fn continue_snapshot<R: Wait>(&self, rt: &R, most: usize) -> Result<Progress, SharedFault> {
+        Shared::continue_snapshot(self, rt, most)
     }
 
     fn finish<R: Wait>(&self, rt: &R, seats: Vec<Seat<L>>) -> Result<Report, SharedFault> {

@@ -1,7 +1,7 @@
 //! Disk of a server in a run: a disk in memory, which comes out of a crash as any mix of what was
 //! written to it since the last sync.
 
-ghost use Rattle.linda_disk.specs.HistoryLaws as laws;
+ghost use Rattle.linda_disk.specs.DiskHistoryLaws as laws;
 ghost use Rattle.linda_disk.specs.MemDisk as disk;
 
 use crate::dice::Dice;

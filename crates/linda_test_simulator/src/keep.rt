@@ -59,7 +59,7 @@ fn snapshot<S: Side, R: Wait>(rt: &R, side: &mut S, world: &mut World) {
 // A snapshot in steps begins.
 fn begin<S: Side, R: Wait>(rt: &R, side: &mut S, world: &mut World) {
     world.begin_call();
-    let came = side.begin_steps(rt);
+    let came = side.begin_snapshot(rt);
     world.end_call();
     if came == Renewal::Down {
         return;
@@ -96,7 +96,7 @@ fn step<S: Side, R: Wait>(rt: &R, side: &mut S, world: &mut World) {
 
 // A snapshot is taken if it pays.
 fn pay<S: Side, R: Wait>(rt: &R, side: &mut S, world: &mut World) {
-    if side.pays(rt) {
+    if side.snapshot_due(rt) {
         snapshot(rt, side, world);
     } else if world.model.bank.is_due() && !side.count(rt).is_down {
         world.blame("a message found no room, and no snapshot is due");

@@ -4,7 +4,7 @@
 ghost use Rattle.std.specs.Io.{ReadsAtMost, WritesAtMost};
 
 use crate::words::{Said, said_of};
-use linda_net_loops::{Note, Socket};
+use linda_net_loops::{ConnectionNotice, Socket};
 use std::alloc::{AllocError, Global};
 use std::cell::RefCell;
 use std::collections::VecDeque;
@@ -207,15 +207,15 @@ impl Socket for Pipe {
         self.put(Noted::Over);
     }
 
-    fn note(&mut self, note: Note<'_>) {
+    fn note(&mut self, note: ConnectionNotice<'_>) {
         let noted = match note {
-            Note::Greeted(message, answer) => Noted::Greeted(said_of(message), answer),
-            Note::Busy => Noted::Busy,
-            Note::Heard(message, is_done) => Noted::Heard(said_of(message), is_done),
-            Note::Ended(Some(word)) => Noted::Ended(Some((word.code(), word.detail()))),
-            Note::Ended(None) => Noted::Ended(None),
-            Note::Failed => Noted::Failed,
-            Note::Leaves => Noted::Leaves,
+            ConnectionNotice::Greeted(message, answer) => Noted::Greeted(said_of(message), answer),
+            ConnectionNotice::Busy => Noted::Busy,
+            ConnectionNotice::Heard(message, is_done) => Noted::Heard(said_of(message), is_done),
+            ConnectionNotice::Ended(Some(word)) => Noted::Ended(Some((word.code(), word.detail()))),
+            ConnectionNotice::Ended(None) => Noted::Ended(None),
+            ConnectionNotice::Failed => Noted::Failed,
+            ConnectionNotice::Leaves => Noted::Leaves,
         };
         self.put(noted);
     }

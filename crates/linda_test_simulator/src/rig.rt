@@ -108,8 +108,8 @@ impl<L: Ledger> Side for Rig<L> {
         }
     }
 
-    fn begin_steps<R: Wait>(&mut self, rt: &R) -> Renewal {
-        match self.shared.begin_steps(rt) {
+    fn begin_snapshot<R: Wait>(&mut self, rt: &R) -> Renewal {
+        match self.shared.begin_snapshot(rt) {
             Ok(()) => Renewal::Going,
             Err(fault) => refused(fault),
         }
@@ -120,7 +120,7 @@ impl<L: Ledger> Side for Rig<L> {
     }
 
     fn step<R: Wait>(&mut self, rt: &R, most: usize) -> Renewal {
-        match self.shared.step(rt, most) {
+        match self.shared.continue_snapshot(rt, most) {
             Ok(Progress::Idle) => Renewal::Idle,
             Ok(Progress::Going) => Renewal::Going,
             Ok(Progress::Done) => Renewal::Done,
@@ -135,8 +135,8 @@ impl<L: Ledger> Side for Rig<L> {
         }
     }
 
-    fn pays<R: Wait>(&self, rt: &R) -> bool {
-        self.shared.pays(rt)
+    fn snapshot_due<R: Wait>(&self, rt: &R) -> bool {
+        self.shared.snapshot_due(rt)
     }
 
     fn forget<R: Wait>(&self, rt: &R) {

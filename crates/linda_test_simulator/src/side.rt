@@ -38,7 +38,7 @@ pub trait Side {
     fn look<R: Wait>(&mut self, rt: &R, which: Loop, look: Look, seconds: u32);
 
     /// Begins a snapshot in steps, takes a step of so many bytes, or takes one whole.
-    fn begin_steps<R: Wait>(&mut self, rt: &R) -> Renewal;
+    fn begin_snapshot<R: Wait>(&mut self, rt: &R) -> Renewal;
 
     /// Copies so many clients at most for a snapshot in steps that begins later.
     fn copy_clients<R: Wait>(&mut self, rt: &R, most: u32);
@@ -48,7 +48,7 @@ pub trait Side {
     fn snapshot<R: Wait>(&mut self, rt: &R) -> Renewal;
 
     /// Whether a snapshot pays for itself.
-    fn pays<R: Wait>(&self, rt: &R) -> bool;
+    fn snapshot_due<R: Wait>(&self, rt: &R) -> bool;
 
     /// Forgets what nobody needs.
     fn forget<R: Wait>(&self, rt: &R);

@@ -1,5 +1,6 @@
 -- What the readers of atoms and patterns read is a text of the value, and each such text is read again.
-use Rattle.std.proofs.Common.{◌≡◌, inl, inr, ℕ, ℤ, suc, ◌≤◌, Bool, true, false, cond, ltb, List, [], ◌∷◌, ◌++◌, length, drop, Ok, Err, refl, sym, ap, subst, ◌∙◌, append_assoc, arith}
+use Rattle.std.proofs.Common.{◌≡◌, inl, inr, ℕ, ℤ, suc, ◌≤◌, Bool, true, false, cond, ltb, List, [], ◌∷◌, ◌++◌, length}
+use Rattle.std.proofs.Common.{drop, Ok, Err, refl, sym, ap, subst, ◌∙◌, append_assoc, arith}
 use Rattle.std.specs.Prelude.{Option, Some, None, ◌==◌, ◌||◌, FitsSigned}
 use Rattle.std.specs.Fmt.{signed_decimal}
 use Rattle.std.specs.Int.{w64}
@@ -17,7 +18,8 @@ use Rattle.linda_text.specs.declared.fault.TextFault.TheVariants.{SyntaxAt, Text
 use Rattle.linda_text.specs.Letters.{is_special, escaped, truth_word}
 use Rattle.linda_text.specs.Grammar.{IsForm, IsContent, IsAtomText, IsPatternText, EndsNumeral}
 use Rattle.linda_text.specs.Steps.{Reader}
-use Rattle.linda_text.specs.Reading.{after_blanks, wrong, word_at, named, with_byte, with_escape, content_at, if_short, if_text, short_at, string_at, integer_at, made, atom_at, formal_at, pattern_at}
+use Rattle.linda_text.specs.Reading.{after_blanks, wrong, word_at, named, with_byte, with_escape, content_at, if_short}
+use Rattle.linda_text.specs.Reading.{if_text, short_at, string_at, integer_at, made, atom_at, formal_at, pattern_at}
 use Rattle.linda_codec.proofs.TakeLaws.{bind_ok, guard_then, guard_right, ok_is}
 use Rattle.linda_text.proofs.BlankLaws.{no_blank, beyond_blanks}
 use Rattle.linda_text.proofs.NumeralLaws.{integer_takes, integer_again, number_begins}
@@ -65,7 +67,8 @@ slashed false bytes = bytes
 abbrev pub Says : Bool → List ℕ → List ℕ × List ℕ → Type 0
 Says in_escape bytes x = (content : List ℕ) × IsContent x.0 (slashed in_escape content) × (bytes ≡ content ++ mark.QUOTE ∷ x.1)
 
-escape_says : (o : Option ℕ) (e : ℕ) (rest : List ℕ) (x : List ℕ × List ℕ) → escaped e ≡ o → ((y : List ℕ × List ℕ) → content_at false rest ≡ Ok y → Says false rest y)
+escape_says : (o : Option ℕ) (e : ℕ) (rest : List ℕ) (x : List ℕ × List ℕ) → escaped e ≡ o
+    → ((y : List ℕ × List ℕ) → content_at false rest ≡ Ok y → Says false rest y)
     → with_escape o (wrong (e ∷ rest)) (content_at false rest) ≡ Ok x → Says true (e ∷ rest) x
 escape_says None e rest x is others read = absurd cc
 escape_says (Some b) e rest x is others read =
@@ -75,9 +78,11 @@ escape_says (Some b) e rest x is others read =
     subst (λ (z : List ℕ × List ℕ). Says true (e ∷ rest) z) {x = found} (ok_is found x y.2)
     (e ∷ s.0, (mark.BACKSLASH ∷ e ∷ [], s.0, inr (e, is, refl), s.1, refl), ap (λ (t : List ℕ). e ∷ t) s.2)
 
-byte_says : (quote backslash special : Bool) (b : ℕ) (rest : List ℕ) (x : List ℕ × List ℕ) → (b == mark.QUOTE) ≡ quote → (b == mark.BACKSLASH) ≡ backslash → is_special b ≡ special
+byte_says : (quote backslash special : Bool) (b : ℕ) (rest : List ℕ) (x : List ℕ × List ℕ)
+    → (b == mark.QUOTE) ≡ quote → (b == mark.BACKSLASH) ≡ backslash → is_special b ≡ special
     → (content_at true rest ≡ Ok x → Says true rest x) → ((y : List ℕ × List ℕ) → content_at false rest ≡ Ok y → Says false rest y)
-    → cond quote (Ok ([], rest)) (cond backslash (content_at true rest) (cond special (wrong (b ∷ rest)) (with_byte b (content_at false rest)))) ≡ Ok x → Says false (b ∷ rest) x
+    → cond quote (Ok ([], rest)) (cond backslash (content_at true rest) (cond special (wrong (b ∷ rest)) (with_byte b (content_at false rest)))) ≡ Ok x
+    → Says false (b ∷ rest) x
 byte_says true backslash special b rest x q s p escapes others read =
     let same : b ≡ mark.QUOTE = eqb-true b mark.QUOTE q in
     let found : List ℕ × List ℕ = ([], rest) in
@@ -102,7 +107,8 @@ content_takes true (e ∷ rest) x read = escape_says (escaped e) e rest x refl (
 content_takes false (b ∷ rest) x read =
     byte_says (b == mark.QUOTE) (b == mark.BACKSLASH) (is_special b) b rest x refl refl refl (content_takes true rest x) (content_takes false rest) read
 
-form_again : (b : ℕ) (form rest : List ℕ) (y : List ℕ × List ℕ) → IsForm b form → content_at false rest ≡ Ok y → content_at false (form ++ rest) ≡ Ok (b ∷ y.0, y.1)
+form_again : (b : ℕ) (form rest : List ℕ) (y : List ℕ × List ℕ) → IsForm b form → content_at false rest ≡ Ok y
+    → content_at false (form ++ rest) ≡ Ok (b ∷ y.0, y.1)
 unfolding content_at
 form_again b form rest y (inl plain) read =
     let first = or_parts ((b == mark.QUOTE || b == mark.BACKSLASH) || b == mark.LINE_FEED) (b == mark.CARRIAGE_RETURN) plain.0 in
@@ -115,7 +121,8 @@ content_again : (t content rest : List ℕ) → IsContent t content → content_
 unfolding content_at
 content_again [] content rest none = rw none refl
 content_again (b ∷ t) content rest (form, others, is_form, is, parts) =
-    rw (parts, append_assoc form others (mark.QUOTE ∷ rest)) (form_again b form (others ++ mark.QUOTE ∷ rest) (t, rest) is_form (content_again t others rest is))
+    rw (parts, append_assoc form others (mark.QUOTE ∷ rest))
+    (form_again b form (others ++ mark.QUOTE ∷ rest) (t, rest) is_form (content_again t others rest is))
 
 abbrev IsString : List ℕ → List ℕ → Type 0
 IsString t text = (content : List ℕ) × IsContent t content × (text ≡ content ++ mark.QUOTE ∷ [])
@@ -130,11 +137,13 @@ string_takes bytes x e =
     let short : length c.0.0 ≤ MAX_TEXT = ltb-false _ _ g.0 in
     let s = content_takes false bytes c.0 c.1 in
     let Found : List ℕ × List ℕ → Type 0 = Begins IsString (λ t. (length t ≤ MAX_TEXT) × (is_utf8 t ≡ true)) bytes in
-    let begins : is_utf8 c.0.0 ≡ true → Found c.0 = λ text. (s.0 ++ mark.QUOTE ∷ [], (s.0, s.1, refl), (short, text), s.2 ∙ sym (append_assoc s.0 (mark.QUOTE ∷ []) c.0.1)) in
+    let begins : is_utf8 c.0.0 ≡ true
+    → Found c.0 = λ text. (s.0 ++ mark.QUOTE ∷ [], (s.0, s.1, refl), (short, text), s.2 ∙ sym (append_assoc s.0 (mark.QUOTE ∷ []) c.0.1)) in
     let same : c.0 ≡ h.0 = ok_is c.0 h.0 g.1 in
     subst Found (same ∙ r.1) (begins (ap (λ (y : List ℕ × List ℕ). is_utf8 y.0) same ∙ r.0))
 
-string_again : (t content rest : List ℕ) → IsContent t content → length t ≤ MAX_TEXT → is_utf8 t ≡ true → string_at ((content ++ mark.QUOTE ∷ []) ++ rest) ≡ Ok (t, rest)
+string_again : (t content rest : List ℕ) → IsContent t content → length t ≤ MAX_TEXT → is_utf8 t ≡ true
+    → string_at ((content ++ mark.QUOTE ∷ []) ++ rest) ≡ Ok (t, rest)
 unfolding string_at short_at
 string_again t content rest is short text =
     let not_long : ltb MAX_TEXT (length t) ≡ false = le-ltb _ _ short in
@@ -143,7 +152,8 @@ string_again t content rest is short text =
 -- ---- atoms
 
 atom_by : (quote true_letter false_letter : Bool) (b : ℕ) (rest : List ℕ) (x : Atom × List ℕ) → (b == mark.QUOTE) ≡ quote
-    → cond quote (made (λ t. atoms.Text t) (string_at rest)) (cond true_letter (named (atoms.Bool true) true_text (b ∷ rest)) (cond false_letter (named (atoms.Bool false) false_text (b ∷ rest)) (made (λ n. atoms.Int n) (integer_at (b ∷ rest))))) ≡ Ok x
+    → cond quote (made (λ t. atoms.Text t) (string_at rest)) (cond true_letter (named (atoms.Bool true) true_text (b ∷ rest))
+    (cond false_letter (named (atoms.Bool false) false_text (b ∷ rest)) (made (λ n. atoms.Int n) (integer_at (b ∷ rest))))) ≡ Ok x
     → Begins IsAtomText IsSound (b ∷ rest) x
 atom_by true t f b rest x q e =
     let y = bind_ok (string_at rest) (λ y. Ok (atoms.Text y.0, y.1)) x e in
@@ -182,10 +192,12 @@ reads_number d bytes from to =
 number_again : (n : ℤ) (rest : List ℕ) → FitsSigned w64 n → EndsNumeral rest → atom_at (signed_decimal n ++ rest) ≡ Ok (atoms.Int n, rest)
 number_again n rest fits end =
     let b = number_begins n fits.sfits in
-    let reads : atom_at (signed_decimal n ++ rest) ≡ made (λ n. atoms.Int n) (integer_at (signed_decimal n ++ rest)) = rw (b.2) (reads_number b.0 (b.1 ++ rest) b.3 b.4) in
+    let reads : atom_at (signed_decimal n ++ rest) ≡ made (λ n. atoms.Int n) (integer_at (signed_decimal n ++ rest)) =
+    rw (b.2) (reads_number b.0 (b.1 ++ rest) b.3 b.4) in
     reads ∙ ap (made (λ n. atoms.Int n)) (integer_again n rest fits end)
 
-text_again : (t content rest : List ℕ) → IsContent t content → length t ≤ MAX_TEXT → is_utf8 t ≡ true → atom_at (mark.QUOTE ∷ ((content ++ mark.QUOTE ∷ []) ++ rest)) ≡ Ok (atoms.Text t, rest)
+text_again : (t content rest : List ℕ) → IsContent t content → length t ≤ MAX_TEXT → is_utf8 t ≡ true
+    → atom_at (mark.QUOTE ∷ ((content ++ mark.QUOTE ∷ []) ++ rest)) ≡ Ok (atoms.Text t, rest)
 unfolding atom_at
 text_again t content rest is short text = rw (string_again t content rest is short text) refl
 
@@ -216,7 +228,8 @@ atom_is = record { takes = atom_takes; again = atom_again; begins = atom_begins 
 
 -- ---- patterns
 
-formal_by : (i s b : Bool) (letter : ℕ) (rest : List ℕ) (x : Pattern × List ℕ) → (letter == mark.INT_LETTER) ≡ i → (letter == mark.TEXT_LETTER) ≡ s → (letter == mark.BOOL_LETTER) ≡ b
+formal_by : (i s b : Bool) (letter : ℕ) (rest : List ℕ) (x : Pattern × List ℕ) → (letter == mark.INT_LETTER) ≡ i
+    → (letter == mark.TEXT_LETTER) ≡ s → (letter == mark.BOOL_LETTER) ≡ b
     → cond i (Ok (patterns.IntFormal, rest)) (cond s (Ok (patterns.TextFormal, rest)) (cond b (Ok (patterns.BoolFormal, rest)) (wrong (letter ∷ rest)))) ≡ Ok x
     → Begins IsPatternText IsSoundPattern (mark.QUESTION ∷ letter ∷ rest) x
 formal_by true s b letter rest x is_i is_s is_b e =
@@ -236,10 +249,12 @@ formal_by false false false letter rest x is_i is_s is_b e = absurd cc
 formal_takes : (rest : List ℕ) (x : Pattern × List ℕ) → formal_at rest ≡ Ok x → Begins IsPatternText IsSoundPattern (mark.QUESTION ∷ rest) x
 unfolding formal_at
 formal_takes [] x e = absurd cc
-formal_takes (letter ∷ rest) x e = formal_by (letter == mark.INT_LETTER) (letter == mark.TEXT_LETTER) (letter == mark.BOOL_LETTER) letter rest x refl refl refl e
+formal_takes (letter ∷ rest) x e = formal_by (letter == mark.INT_LETTER) (letter == mark.TEXT_LETTER)
+    (letter == mark.BOOL_LETTER) letter rest x refl refl refl e
 
 pattern_by : (question line : Bool) (b : ℕ) (rest : List ℕ) (x : Pattern × List ℕ) → (b == mark.QUESTION) ≡ question → (b == mark.WILDCARD) ≡ line
-    → cond question (formal_at rest) (cond line (Ok (patterns.Any, rest)) (made (λ v. patterns.Value v) (atom_at (b ∷ rest)))) ≡ Ok x → Begins IsPatternText IsSoundPattern (b ∷ rest) x
+    → cond question (formal_at rest) (cond line (Ok (patterns.Any, rest)) (made (λ v. patterns.Value v) (atom_at (b ∷ rest)))) ≡ Ok x
+    → Begins IsPatternText IsSoundPattern (b ∷ rest) x
 pattern_by true line b rest x q l e = rw (eqb-true b mark.QUESTION q) (formal_takes rest x e)
 pattern_by false true b rest x q l e =
     let found : Pattern × List ℕ = (patterns.Any, rest) in
@@ -257,7 +272,8 @@ pattern_takes [] x e = absurd cc
 pattern_takes (b ∷ rest) x e = pattern_by (b == mark.QUESTION) (b == mark.WILDCARD) b rest x refl refl e
 
 -- What begins with none of the two signs is read as a value.
-reads_value : (d : ℕ) (bytes : List ℕ) → (d == mark.QUESTION) ≡ false → (d == mark.WILDCARD) ≡ false → pattern_at (d ∷ bytes) ≡ made (λ v. patterns.Value v) (atom_at (d ∷ bytes))
+reads_value : (d : ℕ) (bytes : List ℕ) → (d == mark.QUESTION) ≡ false → (d == mark.WILDCARD) ≡ false
+    → pattern_at (d ∷ bytes) ≡ made (λ v. patterns.Value v) (atom_at (d ∷ bytes))
 unfolding pattern_at
 reads_value d bytes q l = rw (q, l) refl
 
@@ -265,7 +281,8 @@ truth_value : (b : Bool) (rest : List ℕ) → pattern_at (truth_word b ++ rest)
 truth_value true rest = reads_value mark.TRUE_LETTER (drop 1 true_text ++ rest) refl refl
 truth_value false rest = reads_value mark.FALSE_LETTER (drop 1 false_text ++ rest) refl refl
 
-value_first : (a : Atom) (text rest : List ℕ) → IsAtomText a text → IsSound a → pattern_at (text ++ rest) ≡ made (λ v. patterns.Value v) (atom_at (text ++ rest))
+value_first : (a : Atom) (text rest : List ℕ) → IsAtomText a text → IsSound a
+    → pattern_at (text ++ rest) ≡ made (λ v. patterns.Value v) (atom_at (text ++ rest))
 value_first (atoms.Int n) text rest is sound =
     let b = number_begins n sound.sfits in
     let no_question : (b.0 == mark.QUESTION) ≡ false = ne_eqb b.0 mark.QUESTION (λ e. omega (arith, b.4)) in
@@ -276,7 +293,8 @@ value_first (atoms.Bool b) text rest is sound = rw is (truth_value b rest)
 
 pattern_again : (p : Pattern) (text rest : List ℕ) → IsPatternText p text → IsSoundPattern p → EndsNumeral rest → pattern_at (text ++ rest) ≡ Ok (p, rest)
 unfolding pattern_at formal_at
-pattern_again (patterns.Value v) text rest is sound end = value_first v text rest is sound ∙ ap (made (λ a. patterns.Value a)) (atom_again v text rest is sound end)
+pattern_again (patterns.Value v) text rest is sound end = value_first v text rest is sound
+    ∙ ap (made (λ a. patterns.Value a)) (atom_again v text rest is sound end)
 pattern_again patterns.IntFormal text rest is sound end = rw is refl
 pattern_again patterns.TextFormal text rest is sound end = rw is refl
 pattern_again patterns.BoolFormal text rest is sound end = rw is refl

@@ -35,7 +35,8 @@ pub beyond_blanks : (b : ℕ) → mark.MINUS ≤ b → is_blank b ≡ false
 beyond_blanks b le = or_from _ _ (ne_eqb b mark.SPACE (λ e. omega arith)) (ne_eqb b mark.TAB (λ e. omega arith))
 
 blank_is : (b : ℕ) → is_blank b ≡ true → b ≤ mark.SPACE
-blank_is b e = elim (or_cases (b == mark.SPACE) (b == mark.TAB) e) [ inl s ↦ omega (arith, eqb-true b mark.SPACE s) | inr t ↦ omega (arith, eqb-true b mark.TAB t) ]
+blank_is b e = elim (or_cases (b == mark.SPACE) (b == mark.TAB) e)
+    [ inl s ↦ omega (arith, eqb-true b mark.SPACE s) | inr t ↦ omega (arith, eqb-true b mark.TAB t) ]
 
 pub blank_ends : (b : ℕ) → is_blank b ≡ true → is_ascii_digit b ≡ false
 blank_ends b e = false_from_ne_true _ (λ d. omega (arith, (from_digit b d).0, blank_is b e))

@@ -1,5 +1,6 @@
 -- What a string says, byte by byte.
-use Rattle.std.proofs.Common.{◌≡◌, ◌≤◌, ℕ, ◌+◌, ◌-◌, ltb, length, take, Bool, true, false, cond, List, [], ◌∷◌, ◌++◌, Result, Ok, Err, refl, sym, ap, subst, ◌∙◌, arith}
+use Rattle.std.proofs.Common.{◌≡◌, ◌≤◌, ℕ, ◌+◌, ◌-◌, ltb, length, take, Bool, true, false, cond, List, [], ◌∷◌, ◌++◌}
+use Rattle.std.proofs.Common.{Result, Ok, Err, refl, sym, ap, subst, ◌∙◌, arith}
 use Rattle.std.specs.Prelude.{Option, Some, None, is_some, ◌==◌}
 use Rattle.std.specs.Str.{IsUtf8, is_utf8}
 use Rattle.std.proofs.lemmas.Bool.{le-ltb, lt-ltb, false_from_ne_true}
@@ -45,22 +46,27 @@ by_tests false false false b rest escape others e = refl
 pub content_by_bytes : (bytes : List ℕ) → content_at false bytes ≡ (said_at bytes >>= then_content)
 unfolding content_at said_at
 content_by_bytes [] = refl
-content_by_bytes (b ∷ rest) = by_tests (b == mark.QUOTE) (b == mark.BACKSLASH) (is_special b) b rest (escape_at rest) (content_at true rest) (behind_backslash rest)
+content_by_bytes (b ∷ rest) = by_tests (b == mark.QUOTE) (b == mark.BACKSLASH) (is_special b) b rest
+    (escape_at rest) (content_at true rest) (behind_backslash rest)
 
 -- ---- the loop over the bytes of a string
 
 pub goes_on : (front bytes : List ℕ) (said : Option ℕ) (b : ℕ) (after : List ℕ) (total : Read (List ℕ)) → said ≡ Some b → said_at bytes ≡ Ok (said, after)
     → with_front front (content_at false bytes) ≡ total → with_front (front ++ b ∷ []) (content_at false after) ≡ total
 goes_on front bytes said b after total is found so_far =
-    let same : with_front front (content_at false bytes) ≡ with_front (front ++ b ∷ []) (content_at false after) = rw (content_by_bytes bytes, found, is) (regroup front b (content_at false after)) in
+    let same : with_front front (content_at false bytes) ≡ with_front (front ++ b ∷ []) (content_at false after) =
+    rw (content_by_bytes bytes, found, is) (regroup front b (content_at false after)) in
     sym same ∙ so_far
 
-pub is_done : (front bytes : List ℕ) (said : Option ℕ) (after : List ℕ) (total : Read (List ℕ)) → said ≡ None → said_at bytes ≡ Ok (said, after) → with_front front (content_at false bytes) ≡ total → total ≡ Ok (front, after)
+pub is_done : (front bytes : List ℕ) (said : Option ℕ) (after : List ℕ) (total : Read (List ℕ)) → said ≡ None
+    → said_at bytes ≡ Ok (said, after) → with_front front (content_at false bytes) ≡ total → total ≡ Ok (front, after)
 is_done front bytes said after total is found so_far =
-    let same : with_front front (content_at false bytes) ≡ Ok (front, after) = rw (content_by_bytes bytes, found, is) (ap (λ (items : List ℕ). Ok (items, after)) (append-nil front)) in
+    let same : with_front front (content_at false bytes) ≡ Ok (front, after) =
+    rw (content_by_bytes bytes, found, is) (ap (λ (items : List ℕ). Ok (items, after)) (append-nil front)) in
     sym so_far ∙ same
 
-pub fails : (front bytes : List ℕ) (fault : TextFault) (total : Read (List ℕ)) → said_at bytes ≡ Err fault → with_front front (content_at false bytes) ≡ total → total ≡ Err fault
+pub fails : (front bytes : List ℕ) (fault : TextFault) (total : Read (List ℕ)) → said_at bytes ≡ Err fault
+    → with_front front (content_at false bytes) ≡ total → total ≡ Err fault
 fails front bytes fault total said so_far =
     let same : with_front front (content_at false bytes) ≡ Err fault = rw (content_by_bytes bytes, said) refl in
     sym so_far ∙ same
@@ -71,17 +77,20 @@ pub skips_on : (bytes : List ℕ) (said : Option ℕ) (after : List ℕ) (total 
     → left_by (content_at false bytes) ≡ total → left_by (content_at false after) ≡ total
 skips_on bytes None after total some found so_far = absurd cc
 skips_on bytes (Some b) after total some found so_far =
-    let same : left_by (content_at false bytes) ≡ left_by (content_at false after) = rw (content_by_bytes bytes, found) (left_made (content_at false after) (λ t. b ∷ t)) in
+    let same : left_by (content_at false bytes) ≡ left_by (content_at false after) =
+    rw (content_by_bytes bytes, found) (left_made (content_at false after) (λ t. b ∷ t)) in
     sym same ∙ so_far
 
-pub skips_done : (bytes : List ℕ) (said : Option ℕ) (after : List ℕ) (total : Result (List ℕ) TextFault) → is_some said ≡ false → said_at bytes ≡ Ok (said, after)
+pub skips_done : (bytes : List ℕ) (said : Option ℕ) (after : List ℕ) (total : Result (List ℕ) TextFault)
+    → is_some said ≡ false → said_at bytes ≡ Ok (said, after)
     → left_by (content_at false bytes) ≡ total → total ≡ Ok after
 skips_done bytes None after total none found so_far =
     let same : left_by (content_at false bytes) ≡ Ok after = rw (content_by_bytes bytes, found) refl in
     sym so_far ∙ same
 skips_done bytes (Some b) after total none found so_far = absurd cc
 
-pub skip_fails : (bytes : List ℕ) (fault : TextFault) (total : Result (List ℕ) TextFault) → said_at bytes ≡ Err fault → left_by (content_at false bytes) ≡ total → total ≡ Err fault
+pub skip_fails : (bytes : List ℕ) (fault : TextFault) (total : Result (List ℕ) TextFault)
+    → said_at bytes ≡ Err fault → left_by (content_at false bytes) ≡ total → total ≡ Err fault
 skip_fails bytes fault total said so_far =
     let same : left_by (content_at false bytes) ≡ Err fault = rw (content_by_bytes bytes, said) refl in
     sym so_far ∙ same
@@ -102,7 +111,8 @@ pub counts_on : (count : ℕ) (bytes : List ℕ) (said : Option ℕ) (after : Li
     → counted count (content_at false bytes) ≡ total → counted (count + 1) (content_at false after) ≡ total
 counts_on count bytes None after total some found so_far = absurd cc
 counts_on count bytes (Some b) after total some found so_far =
-    let same : counted count (content_at false bytes) ≡ counted (count + 1) (content_at false after) = rw (content_by_bytes bytes, found) (one_counted count b (content_at false after)) in
+    let same : counted count (content_at false bytes) ≡ counted (count + 1) (content_at false after) =
+    rw (content_by_bytes bytes, found) (one_counted count b (content_at false after)) in
     sym same ∙ so_far
 
 pub counts_done : (count : ℕ) (bytes : List ℕ) (said : Option ℕ) (after : List ℕ) (total : Read ℕ) → is_some said ≡ false → said_at bytes ≡ Ok (said, after)
@@ -113,7 +123,8 @@ counts_done count bytes None after total none found so_far =
     sym so_far ∙ same
 counts_done count bytes (Some b) after total none found so_far = absurd cc
 
-pub count_fails : (count : ℕ) (bytes : List ℕ) (fault : TextFault) (total : Read ℕ) → said_at bytes ≡ Err fault → counted count (content_at false bytes) ≡ total → total ≡ Err fault
+pub count_fails : (count : ℕ) (bytes : List ℕ) (fault : TextFault) (total : Read ℕ) → said_at bytes ≡ Err fault
+    → counted count (content_at false bytes) ≡ total → total ≡ Err fault
 count_fails count bytes fault total said so_far =
     let same : counted count (content_at false bytes) ≡ Err fault = rw (content_by_bytes bytes, said) refl in
     sym so_far ∙ same
@@ -137,7 +148,8 @@ short_by_count : (bytes : List ℕ) → made length (short_at bytes) ≡ (made l
 unfolding short_at
 short_by_count bytes = few_of (content_at false bytes)
 
-pub is_short : (bytes rest : List ℕ) (count : ℕ) → count ≤ MAX_TEXT → made length (content_at false bytes) ≡ Ok (count, rest) → made length (short_at bytes) ≡ Ok (count, rest)
+pub is_short : (bytes rest : List ℕ) (count : ℕ) → count ≤ MAX_TEXT → made length (content_at false bytes) ≡ Ok (count, rest)
+    → made length (short_at bytes) ≡ Ok (count, rest)
 is_short bytes rest count few all =
     let not_long : ltb MAX_TEXT count ≡ false = le-ltb _ _ few in
     rw (short_by_count bytes, all, not_long) refl
@@ -150,7 +162,8 @@ pub is_long : (bytes after left : List ℕ) (count : ℕ) → count ≡ MAX_TEXT
     → counted (count + 1) (content_at false after) ≡ made length (content_at false bytes) → made length (short_at bytes) ≡ Err TextTooLong
 is_long bytes after left count full ends so_far = by_end (content_at false after) ends (sym so_far)
   where
-    by_end : (read : Read (List ℕ)) → left_by read ≡ Ok left → made length (content_at false bytes) ≡ counted (count + 1) read → made length (short_at bytes) ≡ Err TextTooLong
+    by_end : (read : Read (List ℕ)) → left_by read ≡ Ok left → made length (content_at false bytes) ≡ counted (count + 1) read
+        → made length (short_at bytes) ≡ Err TextTooLong
     by_end (Ok x) there all =
         let long : ltb MAX_TEXT ((count + 1) + length x.0) ≡ true = lt-ltb _ _ (omega (arith, full)) in
         rw (short_by_count bytes, all, long) refl
@@ -180,17 +193,20 @@ measured bytes rest count found =
     let there : content_at false bytes ≡ Ok s.0 = c.1 ∙ g.1 in
     let counts : (length s.0.0, s.0.1) ≡ (count, rest) = ok_is _ _ s.2 in
     let behind : s.0.1 ≡ rest = ap (λ (y : ℕ × List ℕ). y.1) counts in
-    subst (λ (r : List ℕ). (content : List ℕ) × (short_at bytes ≡ Ok (content, r)) × (length content ≡ count) × (is_utf8 (before bytes r) ≡ is_utf8 content)) behind
+    subst (λ (r : List ℕ). (content : List ℕ) × (short_at bytes ≡ Ok (content, r)) × (length content ≡ count)
+    × (is_utf8 (before bytes r) ≡ is_utf8 content)) behind
     (s.0.0, s.1, ap (λ (y : ℕ × List ℕ). y.0) counts, says_text bytes s.0.0 s.0.1 there)
 
-pub is_string : (bytes rest : List ℕ) (count : ℕ) → made length (short_at bytes) ≡ Ok (count, rest) → IsUtf8 (before bytes rest) → made length (string_at bytes) ≡ Ok (count, rest)
+pub is_string : (bytes rest : List ℕ) (count : ℕ) → made length (short_at bytes) ≡ Ok (count, rest)
+    → IsUtf8 (before bytes rest) → made length (string_at bytes) ≡ Ok (count, rest)
 unfolding string_at
 is_string bytes rest count found text =
     let m = measured bytes rest count found in
     let passes : is_utf8 m.0 ≡ true = sym m.3 ∙ is_utf8-from_IsUtf8 (before bytes rest) text in
     rw (m.1, passes, m.2) refl
 
-pub is_no_text : (bytes rest : List ℕ) (count : ℕ) → made length (short_at bytes) ≡ Ok (count, rest) → ¬ (IsUtf8 (before bytes rest)) → made length (string_at bytes) ≡ Err (SyntaxAt (length rest))
+pub is_no_text : (bytes rest : List ℕ) (count : ℕ) → made length (short_at bytes) ≡ Ok (count, rest)
+    → ¬ (IsUtf8 (before bytes rest)) → made length (string_at bytes) ≡ Err (SyntaxAt (length rest))
 unfolding string_at
 is_no_text bytes rest count found none =
     let m = measured bytes rest count found in

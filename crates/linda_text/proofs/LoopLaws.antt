@@ -12,7 +12,8 @@ abbrev pub with_front : {A : Type 0} → List A → Read (List A) → Read (List
 with_front front read = read >>= λ x. Ok (front ++ x.0, x.1)
 
 -- One value more was read.
-pub regroup : {A : Type 0} (front : List A) (a : A) (read : Read (List A)) → with_front front (read >>= λ x. Ok (a ∷ x.0, x.1)) ≡ with_front (front ++ a ∷ []) read
+pub regroup : {A : Type 0} (front : List A) (a : A) (read : Read (List A))
+    → with_front front (read >>= λ x. Ok (a ∷ x.0, x.1)) ≡ with_front (front ++ a ∷ []) read
 regroup {A = A} front a (Ok x) = ap (λ (items : List A). Ok (items, x.1)) (simp append_assoc)
 regroup {A = A} front a (Err fault) = refl
 
@@ -22,19 +23,22 @@ nothing_before (Err fault) = refl
 
 -- ---- the loop over fields
 
-pub starts : {A : Type 0} (field : Reader A) (front : List A) (count : ℕ) (bytes : List ℕ) → front ≡ [] → with_front front (fields_at field (count - 0) bytes) ≡ fields_at field count bytes
+pub starts : {A : Type 0} (field : Reader A) (front : List A) (count : ℕ) (bytes : List ℕ) → front ≡ []
+    → with_front front (fields_at field (count - 0) bytes) ≡ fields_at field count bytes
 starts field front count bytes none =
     let k : count - 0 ≡ count = omega arith in
     rw (k, none) (nothing_before (fields_at field count bytes))
 
-pub goes_on : {A : Type 0} (field : Reader A) (front : List A) (count i : ℕ) (bytes : List ℕ) (more : Bool) (after here : List ℕ) (a : A) (behind : List ℕ) (total : Read (List A)) → i < count
+pub goes_on : {A : Type 0} (field : Reader A) (front : List A) (count i : ℕ) (bytes : List ℕ)
+    (more : Bool) (after here : List ℕ) (a : A) (behind : List ℕ) (total : Read (List A)) → i < count
     → more ≡ true → more_at (after_blanks bytes) ≡ Ok (more, after) → here ≡ after_blanks after → field here ≡ Ok (a, behind)
     → with_front front (fields_at field (count - i) bytes) ≡ total → with_front (front ++ a ∷ []) (fields_at field (count - (i + 1)) behind) ≡ total
 unfolding fields_at
 goes_on field front count i bytes more after here a behind total lt is_more found is_here one so_far =
     let k : count - i ≡ suc (count - (i + 1)) = omega arith in
     let read : field (after_blanks after) ≡ Ok (a, behind) = ap field (sym is_here) ∙ one in
-    let same : with_front front (fields_at field (count - i) bytes) ≡ with_front (front ++ a ∷ []) (fields_at field (count - (i + 1)) behind) = rw (k, found, is_more, read) (regroup front a (fields_at field (count - (i + 1)) behind)) in
+    let same : with_front front (fields_at field (count - i) bytes) ≡ with_front (front ++ a ∷ []) (fields_at field (count - (i + 1)) behind) =
+    rw (k, found, is_more, read) (regroup front a (fields_at field (count - (i + 1)) behind)) in
     sym same ∙ so_far
 
 -- The closing parenthesis.
@@ -43,7 +47,8 @@ pub closes : {A : Type 0} (field : Reader A) (front : List A) (count i : ℕ) (b
 unfolding fields_at
 closes {A = A} field front count i bytes more after total lt is_last found so_far =
     let k : count - i ≡ suc (count - (i + 1)) = omega arith in
-    let same : with_front front (fields_at field (count - i) bytes) ≡ Ok (front, after) = rw (k, found, is_last) (ap (λ (items : List A). Ok (items, after)) (append-nil front)) in
+    let same : with_front front (fields_at field (count - i) bytes) ≡ Ok (front, after) =
+    rw (k, found, is_last) (ap (λ (items : List A). Ok (items, after)) (append-nil front)) in
     sym so_far ∙ same
 
 pub fails_between : {A : Type 0} (field : Reader A) (front : List A) (count i : ℕ) (bytes : List ℕ) (fault : TextFault) (total : Read (List A)) → i < count
@@ -54,7 +59,8 @@ fails_between field front count i bytes fault total lt more so_far =
     let same : with_front front (fields_at field (count - i) bytes) ≡ Err fault = rw (k, more) refl in
     sym so_far ∙ same
 
-pub fails_inside : {A : Type 0} (field : Reader A) (front : List A) (count i : ℕ) (bytes : List ℕ) (more : Bool) (after here : List ℕ) (fault : TextFault) (total : Read (List A)) → i < count
+pub fails_inside : {A : Type 0} (field : Reader A) (front : List A) (count i : ℕ) (bytes : List ℕ)
+    (more : Bool) (after here : List ℕ) (fault : TextFault) (total : Read (List A)) → i < count
     → more ≡ true → more_at (after_blanks bytes) ≡ Ok (more, after) → here ≡ after_blanks after → (fault ≢ Memory → field here ≡ Err fault)
     → with_front front (fields_at field (count - i) bytes) ≡ total → fault ≢ Memory → total ≡ Err fault
 unfolding fields_at
@@ -70,7 +76,8 @@ pub is_full : {A : Type 0} (field : Reader A) (front : List A) (count i : ℕ) (
 unfolding fields_at
 is_full {A = A} field front count i bytes rest total le none so_far =
     let k : count - i ≡ 0 = omega arith in
-    let same : with_front front (fields_at field (count - i) bytes) ≡ Ok (front, rest) = rw (k, none) (ap (λ (items : List A). Ok (items, rest)) (append-nil front)) in
+    let same : with_front front (fields_at field (count - i) bytes) ≡ Ok (front, rest) =
+    rw (k, none) (ap (λ (items : List A). Ok (items, rest)) (append-nil front)) in
     sym so_far ∙ same
 
 pub fails_full : {A : Type 0} (field : Reader A) (front : List A) (count i : ℕ) (bytes : List ℕ) (fault : TextFault) (total : Read (List A)) → count ≤ i

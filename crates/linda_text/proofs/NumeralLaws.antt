@@ -1,5 +1,6 @@
 -- Numbers and integers: which one a text writes, and which text one is written as.
-use Rattle.std.proofs.Common.{◌≡◌, ℕ, ℤ, zero, suc, ◌+◌, ◌^◌, ◌<◌, ◌≤◌, Bool, true, false, cond, ltb, List, [], ◌∷◌, ◌++◌, length, get_or, take, drop, Ok, Err, refl, sym, ap, subst, ◌∙◌, arith, tests}
+use Rattle.std.proofs.Common.{◌≡◌, ℕ, ℤ, zero, suc, ◌+◌, ◌^◌, ◌<◌, ◌≤◌, Bool, true, false, cond, ltb, List, [], ◌∷◌}
+use Rattle.std.proofs.Common.{◌++◌, length, get_or, take, drop, Ok, Err, refl, sym, ap, subst, ◌∙◌, arith, tests}
 use Rattle.std.specs.Prelude.{pos, negsuc, neg_ℤ, FitsSigned, ◌&&◌, ◌==◌, not}
 use Rattle.std.specs.Char.{is_ascii_digit, digit_value}
 use Rattle.std.specs.Fmt.{decimal, signed_decimal}
@@ -59,7 +60,8 @@ positive_by : (t u : Bool) (b n : ℕ) (rest : List ℕ) → is_ascii_digit b �
 positive_by true true b n rest d z e = absurd cc
 positive_by true false b n rest d z e =
     let same : suc (digit_count rest) ≡ n = ok_is _ _ e in
-    subst (λ (k : ℕ). IsPositive (take k (b ∷ rest))) same (record { some = omega arith; digits = (digit_is_value b d, taken rest); first = first_digit b (from_digit b d) z })
+    subst (λ (k : ℕ). IsPositive (take k (b ∷ rest))) same
+    (record { some = omega arith; digits = (digit_is_value b d, taken rest); first = first_digit b (from_digit b d) z })
 positive_by false u b n rest d z e = absurd cc
 
 positive_taken : (bytes : List ℕ) (n : ℕ) → positive_len bytes ≡ Ok n → IsPositive (take n bytes)
@@ -142,7 +144,8 @@ positive_takes bytes x e =
     let v = bind_ok (number_of (take n.0 bytes)) (λ number. Ok (number, drop n.0 bytes)) x n.2 in
     let p = positive_taken bytes n.0 n.1 in
     let plain : without_leading_plus (take n.0 bytes) ≡ take n.0 bytes = without_plus (take n.0 bytes) p in
-    let g = guard_right (ltb (digits_value 10 (without_leading_plus (take n.0 bytes))) (2 ^ 64)) NumberRange (digits_value 10 (without_leading_plus (take n.0 bytes))) v.0 v.1 in
+    let g = guard_right (ltb (digits_value 10 (without_leading_plus (take n.0 bytes))) (2 ^ 64)) NumberRange
+    (digits_value 10 (without_leading_plus (take n.0 bytes))) v.0 v.1 in
     let value : digits_value 10 (take n.0 bytes) ≡ v.0 = sym (ap (digits_value 10) plain) ∙ g.1 in
     let lt : v.0 < 2 ^ 64 = subst (λ (z : ℕ). z < 2 ^ 64) g.1 (ltb-true _ _ g.0) in
     let text : decimal v.0 ≡ take n.0 bytes = sym (ap decimal value) ∙ written (take n.0 bytes) p (subst (λ (z : ℕ). z < 2 ^ 64) (sym value) lt) in
@@ -200,7 +203,8 @@ natural_begins (suc n) lt = first_of (decimal (suc n)) (positive_decimal (suc n)
 abbrev BeginsInteger : List ℕ → ℤ × List ℕ → Type 0
 BeginsInteger bytes x = (bytes ≡ signed_decimal x.0 ++ x.1) × FitsSigned w64 x.0
 
-in_range : (z : ℤ) (bytes rest : List ℕ) (x : ℤ × List ℕ) → bytes ≡ signed_decimal z ++ rest → (integer_of z >>= λ integer. Ok (integer, rest)) ≡ Ok x → BeginsInteger bytes x
+in_range : (z : ℤ) (bytes rest : List ℕ) (x : ℤ × List ℕ) → bytes ≡ signed_decimal z ++ rest
+    → (integer_of z >>= λ integer. Ok (integer, rest)) ≡ Ok x → BeginsInteger bytes x
 unfolding integer_of
 in_range z bytes rest x text e =
     let v = bind_ok (integer_of z) (λ integer. Ok (integer, rest)) x e in
@@ -222,7 +226,8 @@ integer_by true b rest x is_minus e =
     let n = bind_ok (positive_at rest) (λ number. integer_of (neg_ℤ (pos number.0)) >>= λ integer. Ok (integer, number.1)) x e in
     let p = positive_takes rest n.0 n.1 in
     let text : b ∷ rest ≡ signed_decimal (neg_ℤ (pos n.0.0)) ++ n.0.1 =
-    ap (λ (c : ℕ). c ∷ rest) (eqb-true b mark.MINUS is_minus) ∙ ap (λ (t : List ℕ). mark.MINUS ∷ t) p.0 ∙ ap (λ (t : List ℕ). t ++ n.0.1) (sym (below_zero n.0.0 p.2)) in
+    ap (λ (c : ℕ). c ∷ rest) (eqb-true b mark.MINUS is_minus) ∙ ap (λ (t : List ℕ). mark.MINUS ∷ t) p.0
+    ∙ ap (λ (t : List ℕ). t ++ n.0.1) (sym (below_zero n.0.0 p.2)) in
     in_range (neg_ℤ (pos n.0.0)) (b ∷ rest) n.0.1 x text n.2
 integer_by false b rest x is_minus e =
     let n = bind_ok (natural_at (b ∷ rest)) (λ number. integer_of (pos number.0) >>= λ integer. Ok (integer, number.1)) x e in
@@ -240,7 +245,8 @@ integer_again (pos n) rest fits end =
     let b = natural_begins n lt in
     by_digits b.0 b.1 b.2 b.3 (natural_again n rest lt end)
   where
-    by_digits : (d : ℕ) (ds : List ℕ) → decimal n ≡ d ∷ ds → mark.ZERO ≤ d → natural_at (decimal n ++ rest) ≡ Ok (n, rest) → integer_at (decimal n ++ rest) ≡ Ok (pos n, rest)
+    by_digits : (d : ℕ) (ds : List ℕ) → decimal n ≡ d ∷ ds → mark.ZERO ≤ d → natural_at (decimal n ++ rest) ≡ Ok (n, rest)
+        → integer_at (decimal n ++ rest) ≡ Ok (pos n, rest)
     by_digits d ds text from again =
         let no_minus : (d == mark.MINUS) ≡ false = ne_eqb d mark.MINUS (λ e. omega (arith, from)) in
         let read : natural_at (d ∷ (ds ++ rest)) ≡ Ok (n, rest) = ap (λ (t : List ℕ). natural_at (t ++ rest)) (sym text) ∙ again in
@@ -249,7 +255,8 @@ integer_again (pos n) rest fits end =
 integer_again (negsuc n) rest fits end =
     let lt : suc n < 2 ^ 64 = omega (arith, fits.sfits) in
     let digits = positive_decimal (suc n) lt (omega arith) in
-    let read : positive_at (decimal (suc n) ++ rest) ≡ Ok (suc n, rest) = positive_again (decimal (suc n)) rest (suc n) digits end (value_decimal (suc n) lt) lt in
+    let read : positive_at (decimal (suc n) ++ rest) ≡ Ok (suc n, rest) =
+    positive_again (decimal (suc n)) rest (suc n) digits end (value_decimal (suc n) lt) lt in
     let small : ltb n (2 ^ 63) ≡ true = lt-ltb _ _ fits.sfits in
     rw (read, small) refl
 

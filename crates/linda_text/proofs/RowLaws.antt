@@ -1,5 +1,6 @@
 -- What the readers of tuples and templates read is a text of the value, and each such text is read again.
-use Rattle.std.proofs.Common.{◌≡◌, ℕ, zero, suc, ◌≤◌, Bool, true, false, cond, List, [], ◌∷◌, ◌++◌, All, length, Ok, Err, refl, sym, ap, subst, ◌∙◌, append_assoc, arith}
+use Rattle.std.proofs.Common.{◌≡◌, ℕ, zero, suc, ◌≤◌, Bool, true, false, cond, List, [], ◌∷◌, ◌++◌, All, length, Ok}
+use Rattle.std.proofs.Common.{Err, refl, sym, ap, subst, ◌∙◌, append_assoc, arith}
 use Rattle.std.specs.Prelude.{◌==◌}
 use Rattle.std.specs.List.{AllByRecursion}
 use Rattle.std.proofs.lemmas.Bool.{eqb-true}
@@ -13,7 +14,8 @@ use Rattle.linda_text.specs.declared.fault.TextFault.TheVariants.{TooManyFields}
 use Rattle.linda_text.specs.Grammar.{AreBlanks, Stands, IsAtomText, EndsNumeral, AreFields, IsRowText, IsTupleText, IsTemplateText}
 use Rattle.linda_codec.specs.Steps.{◌>>=◌}
 use Rattle.linda_text.specs.Steps.{Read, Reader}
-use Rattle.linda_text.specs.Reading.{after_blanks, wrong, word_at, made, more_at, no_more_at, fields_at, atom_at, tag_at, row_at, tuple_of, template_of, tuple_at, template_at, spaced_atom_at}
+use Rattle.linda_text.specs.Reading.{after_blanks, wrong, word_at, made, more_at, no_more_at, fields_at, atom_at}
+use Rattle.linda_text.specs.Reading.{tag_at, row_at, tuple_of, template_of, tuple_at, template_at, spaced_atom_at}
 use Rattle.linda_codec.proofs.TakeLaws.{bind_ok, ok_is}
 use Rattle.linda_text.proofs.BlankLaws.{no_blank, blanks_take, blanks_again, blanks_end}
 use Rattle.linda_text.proofs.AtomLaws.{IsReading, Begins, word_takes, atom_is, pattern_is}
@@ -41,7 +43,8 @@ mark_takes [] x e = absurd cc
 mark_takes (b ∷ rest) x e = mark_by (b == mark.COMMA) (b == mark.CLOSING) b rest x refl refl e
 
 -- Blanks, and the mark.
-spaced_mark : (bytes : List ℕ) (x : Bool × List ℕ) → more_at (after_blanks bytes) ≡ Ok x → (blanks : List ℕ) × AreBlanks blanks × (bytes ≡ blanks ++ mark_of x.0 ∷ x.1)
+spaced_mark : (bytes : List ℕ) (x : Bool × List ℕ) → more_at (after_blanks bytes) ≡ Ok x
+    → (blanks : List ℕ) × AreBlanks blanks × (bytes ≡ blanks ++ mark_of x.0 ∷ x.1)
 spaced_mark bytes x e =
     let b = blanks_take bytes in
     (b.0, b.1, b.2 ∙ ap (λ (t : List ℕ). b.0 ++ t) (mark_takes (after_blanks bytes) x e))
@@ -60,16 +63,20 @@ close_again blanks rest all = rw (blanks_again blanks (mark.CLOSING ∷ rest) al
 abbrev BeginFields : {A : Type 0} → (A → List ℕ → Type 0) → (A → Type 0) → ℕ → List ℕ → List A × List ℕ → Type 0
 BeginFields IsText Fits room bytes x = (text : List ℕ) × AreFields IsText x.0 text × (length x.0 ≤ room) × AllByRecursion Fits x.0 × (bytes ≡ text ++ x.1)
 
-none_begin : {A : Type 0} (IsText : A → List ℕ → Type 0) (Fits : A → Type 0) (room : ℕ) (bytes rest : List ℕ) → more_at (after_blanks bytes) ≡ Ok (false, rest) → BeginFields IsText Fits room bytes ([], rest)
+none_begin : {A : Type 0} (IsText : A → List ℕ → Type 0) (Fits : A → Type 0) (room : ℕ) (bytes rest : List ℕ)
+    → more_at (after_blanks bytes) ≡ Ok (false, rest) → BeginFields IsText Fits room bytes ([], rest)
 none_begin IsText Fits room bytes rest e =
     let m = spaced_mark bytes (false, rest) e in
     (m.0 ++ mark.CLOSING ∷ [], (m.0, m.1, refl), omega arith, tt, m.2 ∙ sym (append_assoc m.0 (mark.CLOSING ∷ []) rest))
 
-regroup : (before between field others rest : List ℕ) → before ++ mark.COMMA ∷ (between ++ (field ++ (others ++ rest))) ≡ (before ++ mark.COMMA ∷ (between ++ (field ++ others))) ++ rest
+regroup : (before between field others rest : List ℕ)
+    → before ++ mark.COMMA ∷ (between ++ (field ++ (others ++ rest))) ≡ (before ++ mark.COMMA ∷ (between ++ (field ++ others))) ++ rest
 regroup before between field others rest = simp append_assoc
 
-one_more : {A : Type 0} (IsText : A → List ℕ → Type 0) (Fits : A → Type 0) (room : ℕ) (bytes after behind rest : List ℕ) (a : A) (others : List A) → more_at (after_blanks bytes) ≡ Ok (true, after)
-    → Begins IsText Fits (after_blanks after) (a, behind) → BeginFields IsText Fits room behind (others, rest) → BeginFields IsText Fits (suc room) bytes (a ∷ others, rest)
+one_more : {A : Type 0} (IsText : A → List ℕ → Type 0) (Fits : A → Type 0) (room : ℕ) (bytes after behind rest : List ℕ) (a : A) (others : List A)
+    → more_at (after_blanks bytes) ≡ Ok (true, after)
+    → Begins IsText Fits (after_blanks after) (a, behind) → BeginFields IsText Fits room behind (others, rest)
+    → BeginFields IsText Fits (suc room) bytes (a ∷ others, rest)
 one_more IsText Fits room bytes after behind rest a others e first more =
     let m = spaced_mark bytes (true, after) e in
     let b = blanks_take after in
@@ -86,12 +93,15 @@ one_more IsText Fits room bytes after behind rest a others e first more =
 abbrev others_read : {A : Type 0} → Reader A → ℕ → A × List ℕ → Read (List A)
 others_read field room first = fields_at field room first.1 >>= λ others. Ok (first.0 ∷ others.0, others.1)
 
-fields_by : {A : Type 0} {IsText : A → List ℕ → Type 0} {Fits : A → Type 0} {field : Reader A} → IsReading IsText Fits field → (room : ℕ) (bytes after : List ℕ) (more : Bool) (x : List A × List ℕ)
-    → more_at (after_blanks bytes) ≡ Ok (more, after) → ((behind : List ℕ) (y : List A × List ℕ) → fields_at field room behind ≡ Ok y → BeginFields IsText Fits room behind y)
+fields_by : {A : Type 0} {IsText : A → List ℕ → Type 0} {Fits : A → Type 0} {field : Reader A}
+    → IsReading IsText Fits field → (room : ℕ) (bytes after : List ℕ) (more : Bool) (x : List A × List ℕ)
+    → more_at (after_blanks bytes) ≡ Ok (more, after)
+    → ((behind : List ℕ) (y : List A × List ℕ) → fields_at field room behind ≡ Ok y → BeginFields IsText Fits room behind y)
     → cond more (field (after_blanks after) >>= others_read field room) (Ok ([], after)) ≡ Ok x → BeginFields IsText Fits (suc room) bytes x
 fields_by {A = A} {IsText = IsText} {Fits = Fits} {field = field} is room bytes after false x e others read =
     let found : List A × List ℕ = ([], after) in
-    subst (λ (y : List A × List ℕ). BeginFields IsText Fits (suc room) bytes y) {x = found} (ok_is found x read) (none_begin IsText Fits (suc room) bytes after e)
+    subst (λ (y : List A × List ℕ). BeginFields IsText Fits (suc room) bytes y) {x = found}
+    (ok_is found x read) (none_begin IsText Fits (suc room) bytes after e)
 fields_by {A = A} {IsText = IsText} {Fits = Fits} {field = field} is room bytes after true x e others read =
     let first = bind_ok (field (after_blanks after)) (others_read field room) x read in
     let y = bind_ok (fields_at field room first.0.1) (λ others. Ok (first.0.0 ∷ others.0, others.1)) x first.2 in
@@ -99,13 +109,15 @@ fields_by {A = A} {IsText = IsText} {Fits = Fits} {field = field} is room bytes 
     subst (λ (z : List A × List ℕ). BeginFields IsText Fits (suc room) bytes z) {x = found} (ok_is found x y.2)
     (one_more IsText Fits room bytes after first.0.1 y.0.1 first.0.0 y.0.0 e (is.takes (after_blanks after) first.0 first.1) (others first.0.1 y.0 y.1))
 
-last_by : {A : Type 0} (IsText : A → List ℕ → Type 0) (Fits : A → Type 0) (bytes after : List ℕ) (more : Bool) (rest : List ℕ) → more_at (after_blanks bytes) ≡ Ok (more, after)
+last_by : {A : Type 0} (IsText : A → List ℕ → Type 0) (Fits : A → Type 0) (bytes after : List ℕ) (more : Bool) (rest : List ℕ)
+    → more_at (after_blanks bytes) ≡ Ok (more, after)
     → cond more (Err TooManyFields) (Ok after) ≡ Ok rest → BeginFields IsText Fits 0 bytes ([], rest)
 last_by IsText Fits bytes after true rest e read = absurd cc
 last_by {A = A} IsText Fits bytes after false rest e read =
     subst (λ (r : List ℕ). BeginFields {A = A} IsText Fits 0 bytes ([], r)) (ok_is after rest read) (none_begin IsText Fits 0 bytes after e)
 
-fields_takes : {A : Type 0} {IsText : A → List ℕ → Type 0} {Fits : A → Type 0} {field : Reader A} → IsReading IsText Fits field → (room : ℕ) (bytes : List ℕ) (x : List A × List ℕ)
+fields_takes : {A : Type 0} {IsText : A → List ℕ → Type 0} {Fits : A → Type 0} {field : Reader A}
+    → IsReading IsText Fits field → (room : ℕ) (bytes : List ℕ) (x : List A × List ℕ)
     → fields_at field room bytes ≡ Ok x → BeginFields IsText Fits room bytes x
 unfolding fields_at no_more_at
 fields_takes {A = A} {IsText = IsText} {Fits = Fits} {field = field} is zero bytes x e =
@@ -122,9 +134,11 @@ fields_end : {A : Type 0} (IsText : A → List ℕ → Type 0) (items : List A) 
 fields_end IsText [] text rest is =
     rw (is.2, append_assoc is.0 (mark.CLOSING ∷ []) rest) (blanks_end is.0 mark.CLOSING rest is.1 refl)
 fields_end IsText (a ∷ items) text rest (before, between, field, others, spaces, more, is, are, parts) =
-    rw (parts, append_assoc before (mark.COMMA ∷ (between ++ (field ++ others))) rest) (blanks_end before mark.COMMA ((between ++ (field ++ others)) ++ rest) spaces refl)
+    rw (parts, append_assoc before (mark.COMMA ∷ (between ++ (field ++ others))) rest)
+    (blanks_end before mark.COMMA ((between ++ (field ++ others)) ++ rest) spaces refl)
 
-fields_again : {A : Type 0} {IsText : A → List ℕ → Type 0} {Fits : A → Type 0} {field : Reader A} → IsReading IsText Fits field → (room : ℕ) (items : List A) (text rest : List ℕ)
+fields_again : {A : Type 0} {IsText : A → List ℕ → Type 0} {Fits : A → Type 0} {field : Reader A}
+    → IsReading IsText Fits field → (room : ℕ) (items : List A) (text rest : List ℕ)
     → AreFields IsText items text → length items ≤ room → AllByRecursion Fits items → fields_at field room (text ++ rest) ≡ Ok (items, rest)
 unfolding fields_at no_more_at
 fields_again is zero [] text rest are few fits =
@@ -133,9 +147,11 @@ fields_again is (suc room) [] text rest are few fits =
     rw (are.2, append_assoc are.0 (mark.CLOSING ∷ []) rest, close_again are.0 rest are.1) refl
 fields_again is zero (a ∷ items) text rest are few fits = absurd (omega (arith, few))
 fields_again {IsText = IsText} {field = read} is (suc room) (a ∷ items) text rest (before, between, field, others, spaces, more, one, are, parts) few fits =
-    let regrouped : text ++ rest ≡ before ++ mark.COMMA ∷ (between ++ (field ++ (others ++ rest))) = ap (λ (t : List ℕ). t ++ rest) parts ∙ sym (regroup before between field others rest) in
+    let regrouped : text ++ rest ≡ before ++ mark.COMMA ∷ (between ++ (field ++ (others ++ rest))) =
+    ap (λ (t : List ℕ). t ++ rest) parts ∙ sym (regroup before between field others rest) in
     let mark = comma_again before (between ++ (field ++ (others ++ rest))) spaces in
-    let inner : after_blanks (between ++ (field ++ (others ++ rest))) ≡ field ++ (others ++ rest) = blanks_again between (field ++ (others ++ rest)) more ∙ is.begins a field (others ++ rest) one fits.0 in
+    let inner : after_blanks (between ++ (field ++ (others ++ rest))) ≡ field ++ (others ++ rest) =
+    blanks_again between (field ++ (others ++ rest)) more ∙ is.begins a field (others ++ rest) one fits.0 in
     let first = is.again a field (others ++ rest) one fits.0 (fields_end IsText items others rest are) in
     let next = fields_again is room items others rest are (omega (arith, few)) fits.1 in
     rw (regrouped, mark, inner, first, next) refl
@@ -150,7 +166,8 @@ abbrev IsRow : {A : Type 0} → (A → List ℕ → Type 0) → Atom × List A �
 IsRow IsText row text = IsRowText IsText row.0 row.1 text
 
 -- The opening parenthesis, blanks, and a text of the tag.
-tag_takes : (bytes : List ℕ) (x : Atom × List ℕ) → tag_at bytes ≡ Ok x → (blanks text : List ℕ) × AreBlanks blanks × IsAtomText x.0 text × IsSound x.0 × (bytes ≡ mark.OPENING ∷ (blanks ++ (text ++ x.1)))
+tag_takes : (bytes : List ℕ) (x : Atom × List ℕ) → tag_at bytes ≡ Ok x → (blanks text : List ℕ)
+    × AreBlanks blanks × IsAtomText x.0 text × IsSound x.0 × (bytes ≡ mark.OPENING ∷ (blanks ++ (text ++ x.1)))
 unfolding tag_at
 tag_takes bytes x e =
     let opened = bind_ok (word_at (mark.OPENING ∷ []) bytes) (λ opened. atom_at (after_blanks opened)) x e in
@@ -159,10 +176,12 @@ tag_takes bytes x e =
     let inner : opened.0 ≡ b.0 ++ (t.0 ++ x.1) = b.2 ∙ ap (λ (w : List ℕ). b.0 ++ w) t.3 in
     (b.0, t.0, b.1, t.1, t.2, word_takes (mark.OPENING ∷ []) bytes opened.0 opened.1 ∙ ap (λ (w : List ℕ). mark.OPENING ∷ w) inner)
 
-regroup_row : (blanks first others rest : List ℕ) → mark.OPENING ∷ (blanks ++ (first ++ (others ++ rest))) ≡ (mark.OPENING ∷ (blanks ++ (first ++ others))) ++ rest
+regroup_row : (blanks first others rest : List ℕ)
+    → mark.OPENING ∷ (blanks ++ (first ++ (others ++ rest))) ≡ (mark.OPENING ∷ (blanks ++ (first ++ others))) ++ rest
 regroup_row blanks first others rest = simp append_assoc
 
-row_takes : {A : Type 0} {IsText : A → List ℕ → Type 0} {Fits : A → Type 0} {field : Reader A} → IsReading IsText Fits field → (bytes : List ℕ) (x : (Atom × List A) × List ℕ) → row_at field bytes ≡ Ok x
+row_takes : {A : Type 0} {IsText : A → List ℕ → Type 0} {Fits : A → Type 0} {field : Reader A}
+    → IsReading IsText Fits field → (bytes : List ℕ) (x : (Atom × List A) × List ℕ) → row_at field bytes ≡ Ok x
     → Begins (IsRow IsText) (FitsRow Fits) bytes x
 unfolding row_at
 row_takes {A = A} {IsText = IsText} {Fits = Fits} {field = field} is bytes x e =
@@ -179,17 +198,20 @@ open_again : (rest : List ℕ) → word_at (mark.OPENING ∷ []) (mark.OPENING �
 unfolding word_at
 open_again rest = refl
 
-tag_again : (blanks text rest : List ℕ) (tag : Atom) → AreBlanks blanks → IsAtomText tag text → IsSound tag → EndsNumeral rest → tag_at (mark.OPENING ∷ (blanks ++ (text ++ rest))) ≡ Ok (tag, rest)
+tag_again : (blanks text rest : List ℕ) (tag : Atom) → AreBlanks blanks → IsAtomText tag text
+    → IsSound tag → EndsNumeral rest → tag_at (mark.OPENING ∷ (blanks ++ (text ++ rest))) ≡ Ok (tag, rest)
 unfolding tag_at
 tag_again blanks text rest tag spaces is sound end =
     let inner : after_blanks (blanks ++ (text ++ rest)) ≡ text ++ rest = blanks_again blanks (text ++ rest) spaces ∙ atom_is.begins tag text rest is sound in
     rw (open_again (blanks ++ (text ++ rest)), inner) (atom_is.again tag text rest is sound end)
 
-row_again : {A : Type 0} {IsText : A → List ℕ → Type 0} {Fits : A → Type 0} {field : Reader A} → IsReading IsText Fits field → (row : Atom × List A) (text rest : List ℕ) → IsRow IsText row text → FitsRow Fits row
+row_again : {A : Type 0} {IsText : A → List ℕ → Type 0} {Fits : A → Type 0} {field : Reader A}
+    → IsReading IsText Fits field → (row : Atom × List A) (text rest : List ℕ) → IsRow IsText row text → FitsRow Fits row
     → row_at field (text ++ rest) ≡ Ok (row, rest)
 unfolding row_at
 row_again {A = A} {IsText = IsText} {Fits = Fits} {field = field} is row text rest (blanks, first, others, spaces, tag, are, parts) fits =
-    let whole : text ++ rest ≡ mark.OPENING ∷ (blanks ++ (first ++ (others ++ rest))) = ap (λ (w : List ℕ). w ++ rest) parts ∙ sym (regroup_row blanks first others rest) in
+    let whole : text ++ rest ≡ mark.OPENING ∷ (blanks ++ (first ++ (others ++ rest))) =
+    ap (λ (w : List ℕ). w ++ rest) parts ∙ sym (regroup_row blanks first others rest) in
     let one = tag_again blanks first (others ++ rest) row.0 spaces tag fits.0 (fields_end IsText row.1 others rest are) in
     let next = fields_again is MAX_FIELDS row.1 others rest are fits.1 fits.2 in
     rw (whole, one, next) refl
@@ -221,15 +243,18 @@ pub spaced_atom_is : IsSpaced IsAtomText IsSound EndsNumeral spaced_atom_at
 spaced_atom_is = record { takes = spaced_atom_takes; again = spaced_atom_again }
 
 -- No blank begins a row.
-row_begins : {A : Type 0} (IsText : A → List ℕ → Type 0) (row : Atom × List A) (text rest : List ℕ) → IsRow IsText row text → after_blanks (text ++ rest) ≡ text ++ rest
+row_begins : {A : Type 0} (IsText : A → List ℕ → Type 0) (row : Atom × List A) (text rest : List ℕ)
+    → IsRow IsText row text → after_blanks (text ++ rest) ≡ text ++ rest
 row_begins IsText row text rest (blanks, first, others, spaces, tag, are, parts) = rw parts (no_blank mark.OPENING ((blanks ++ (first ++ others)) ++ rest) refl)
 
 -- What is made of a row.
 abbrev row_made : {A M : Type 0} → (Atom × List A → M) → Reader A → Reader M
 row_made make field bytes = made make (row_at field (after_blanks bytes))
 
-made_takes : {A M : Type 0} {IsText : A → List ℕ → Type 0} {Fits : A → Type 0} {field : Reader A} → IsReading IsText Fits field → (make : Atom × List A → M) (IsMade : M → List ℕ → Type 0) (FitsMade : M → Type 0)
-    → ((row : Atom × List A) (text : List ℕ) → IsRow IsText row text → IsMade (make row) text) → ((row : Atom × List A) → FitsRow Fits row → FitsMade (make row))
+made_takes : {A M : Type 0} {IsText : A → List ℕ → Type 0} {Fits : A → Type 0} {field : Reader A}
+    → IsReading IsText Fits field → (make : Atom × List A → M) (IsMade : M → List ℕ → Type 0) (FitsMade : M → Type 0)
+    → ((row : Atom × List A) (text : List ℕ) → IsRow IsText row text → IsMade (make row) text)
+    → ((row : Atom × List A) → FitsRow Fits row → FitsMade (make row))
     → (bytes : List ℕ) (x : M × List ℕ) → row_made make field bytes ≡ Ok x → FitsMade x.0 × Stands IsMade x.0 bytes x.1
 made_takes {M = M} {field = field} is make IsMade FitsMade texts fit bytes x e =
     let row = bind_ok (row_at field (after_blanks bytes)) (λ row. Ok (make row.0, row.1)) x e in
@@ -239,16 +264,19 @@ made_takes {M = M} {field = field} is make IsMade FitsMade texts fit bytes x e =
     subst (λ (y : M × List ℕ). FitsMade y.0 × Stands IsMade y.0 bytes y.1) {x = found} (ok_is found x row.2)
     (fit row.0.0 t.2, (b.0, t.0, b.1, texts row.0.0 t.0 t.1, b.2 ∙ ap (λ (w : List ℕ). b.0 ++ w) t.3))
 
-made_again : {A M : Type 0} {IsText : A → List ℕ → Type 0} {Fits : A → Type 0} {field : Reader A} → IsReading IsText Fits field → (make : Atom × List A → M) (row : Atom × List A) (bytes rest : List ℕ)
+made_again : {A M : Type 0} {IsText : A → List ℕ → Type 0} {Fits : A → Type 0} {field : Reader A}
+    → IsReading IsText Fits field → (make : Atom × List A → M) (row : Atom × List A) (bytes rest : List ℕ)
     → Stands (IsRow IsText) row bytes rest → FitsRow Fits row → row_made make field bytes ≡ Ok (make row, rest)
 made_again {IsText = IsText} is make row bytes rest (blanks, text, spaces, is_row, parts) fits =
-    let inner : after_blanks bytes ≡ text ++ rest = ap after_blanks parts ∙ blanks_again blanks (text ++ rest) spaces ∙ row_begins IsText row text rest is_row in
+    let inner : after_blanks bytes ≡ text ++ rest = ap after_blanks parts ∙ blanks_again blanks (text ++ rest) spaces
+    ∙ row_begins IsText row text rest is_row in
     rw (inner, row_again is row text rest is_row fits) refl
 
 tuple_takes : (bytes : List ℕ) (x : Tuple × List ℕ) → tuple_at bytes ≡ Ok x → IsWithin x.0 × Stands IsTupleText x.0 bytes x.1
 unfolding tuple_at
 tuple_takes bytes x e =
-    made_takes atom_is tuple_of IsTupleText IsWithin (λ row text is. is) (λ row fits. record { count = fits.1; tag = fits.0; fields = All-from_recursion IsSound row.1 fits.2 }) bytes x e
+    made_takes atom_is tuple_of IsTupleText IsWithin (λ row text is. is)
+    (λ row fits. record { count = fits.1; tag = fits.0; fields = All-from_recursion IsSound row.1 fits.2 }) bytes x e
 
 tuple_again : (t : Tuple) (bytes rest : List ℕ) → Stands IsTupleText t bytes rest → IsWithin t → Anything rest → tuple_at bytes ≡ Ok (t, rest)
 unfolding tuple_at
@@ -261,9 +289,11 @@ tuple_is = record { takes = tuple_takes; again = tuple_again }
 template_takes : (bytes : List ℕ) (x : Template × List ℕ) → template_at bytes ≡ Ok x → IsWithinTemplate x.0 × Stands IsTemplateText x.0 bytes x.1
 unfolding template_at
 template_takes bytes x e =
-    made_takes pattern_is template_of IsTemplateText IsWithinTemplate (λ row text is. is) (λ row fits. record { count = fits.1; tag = fits.0; fields = All-from_recursion IsSoundPattern row.1 fits.2 }) bytes x e
+    made_takes pattern_is template_of IsTemplateText IsWithinTemplate (λ row text is. is)
+    (λ row fits. record { count = fits.1; tag = fits.0; fields = All-from_recursion IsSoundPattern row.1 fits.2 }) bytes x e
 
-template_again : (t : Template) (bytes rest : List ℕ) → Stands IsTemplateText t bytes rest → IsWithinTemplate t → Anything rest → template_at bytes ≡ Ok (t, rest)
+template_again : (t : Template) (bytes rest : List ℕ) → Stands IsTemplateText t bytes rest
+    → IsWithinTemplate t → Anything rest → template_at bytes ≡ Ok (t, rest)
 unfolding template_at
 template_again t bytes rest stands within any =
     made_again pattern_is template_of (t.tag, t.fields) bytes rest stands (within.tag, within.count, recursion_from_All IsSoundPattern t.fields within.fields)
@@ -275,6 +305,7 @@ template_is = record { takes = template_takes; again = template_again }
 pub tag_is_sound : (bytes : List ℕ) (x : Atom × List ℕ) → tag_at bytes ≡ Ok x → IsSound x.0
 tag_is_sound bytes x e = let t = tag_takes bytes x e in t.4
 
-pub are_within : {A : Type 0} {IsText : A → List ℕ → Type 0} {Fits : A → Type 0} {field : Reader A} → IsReading IsText Fits field → (bytes : List ℕ) (x : List A × List ℕ)
+pub are_within : {A : Type 0} {IsText : A → List ℕ → Type 0} {Fits : A → Type 0} {field : Reader A}
+    → IsReading IsText Fits field → (bytes : List ℕ) (x : List A × List ℕ)
     → fields_at field MAX_FIELDS bytes ≡ Ok x → (length x.0 ≤ MAX_FIELDS) × All Fits x.0
 are_within {Fits = Fits} is bytes x e = let f = fields_takes is MAX_FIELDS bytes x e in (f.2, All-from_recursion Fits x.0 f.3)

@@ -14,7 +14,8 @@ starts field count bytes =
     let k : count - 0 ≡ count = omega arith in
     rw k refl
 
-pub goes_on : {A : Type 0} (field : Reader A) (count i : ℕ) (bytes : List ℕ) (more : Bool) (after here behind : List ℕ) (total : Result (List ℕ) TextFault) → i < count
+pub goes_on : {A : Type 0} (field : Reader A) (count i : ℕ) (bytes : List ℕ) (more : Bool) (after here behind : List ℕ) (total : Result (List ℕ) TextFault)
+    → i < count
     → more ≡ true → more_at (after_blanks bytes) ≡ Ok (more, after) → here ≡ after_blanks after → left_by (field here) ≡ Ok behind
     → left_by (fields_at field (count - i) bytes) ≡ total → left_by (fields_at field (count - (i + 1)) behind) ≡ total
 unfolding fields_at
@@ -44,7 +45,8 @@ fails_between field count i bytes fault total lt more so_far =
     let same : left_by (fields_at field (count - i) bytes) ≡ Err fault = rw (k, more) refl in
     sym so_far ∙ same
 
-pub fails_inside : {A : Type 0} (field : Reader A) (count i : ℕ) (bytes : List ℕ) (more : Bool) (after here : List ℕ) (fault : TextFault) (total : Result (List ℕ) TextFault) → i < count
+pub fails_inside : {A : Type 0} (field : Reader A) (count i : ℕ) (bytes : List ℕ) (more : Bool)
+    (after here : List ℕ) (fault : TextFault) (total : Result (List ℕ) TextFault) → i < count
     → more ≡ true → more_at (after_blanks bytes) ≡ Ok (more, after) → here ≡ after_blanks after → left_by (field here) ≡ Err fault
     → left_by (fields_at field (count - i) bytes) ≡ total → total ≡ Err fault
 unfolding fields_at

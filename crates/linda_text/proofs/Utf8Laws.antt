@@ -1,10 +1,13 @@
 -- What stands between quotes is UTF-8 exactly where what it says is: an escape is of ASCII and represents a byte of ASCII.
-use Rattle.std.proofs.Common.{◌≡◌, inl, inr, ℕ, zero, suc, ◌+◌, ◌-◌, ◌<◌, Bool, true, false, cond, List, [], ◌∷◌, ◌++◌, length, take, drop, Ok, refl, sym, ap, subst, ◌∙◌, append_assoc, arith}
+use Rattle.std.proofs.Common.{◌≡◌, inl, inr, ℕ, zero, suc, ◌+◌, ◌-◌, ◌<◌, Bool, true, false, cond, List, [], ◌∷◌, ◌++◌}
+use Rattle.std.proofs.Common.{length, take, drop, Ok, refl, sym, ap, subst, ◌∙◌, append_assoc, arith}
 use Rattle.std.specs.Prelude.{Some, None, ◌==◌, ◌&&◌}
 use Rattle.std.specs.Str.{IsUtf8, is_utf8}
 use Rattle.std.proofs.lemmas.Bool.{eqb-true, and_parts, and_from}
 use Rattle.std.proofs.lemmas.List.{length-append}
-use Rattle.std.proofs.lemmas.Str.{is_utf8-from_IsUtf8, IsUtf8-from_is_utf8, IsUtf8-nil, IsUtf8-append, IsUtf8-from_ascii, IsUtf8-take, IsUtf8-drop, IsCharBoundary-before_ascii, IsCharBoundary-after_ascii}
+use Rattle.std.proofs.lemmas.Str.{is_utf8-from_IsUtf8, IsUtf8-from_is_utf8, IsUtf8-nil, IsUtf8-append}
+use Rattle.std.proofs.lemmas.Str.{IsUtf8-from_ascii, IsUtf8-take, IsUtf8-drop, IsCharBoundary-before_ascii}
+use Rattle.std.proofs.lemmas.Str.{IsCharBoundary-after_ascii}
 use Rattle.std.proofs.Math.ListN.{get_or}
 use Rattle.std.proofs.Math.Seq.{take-append_seam, drop-append-add, get_or-append_seam}
 use Rattle.linda_text.specs.Letters.{escaped}
@@ -26,7 +29,8 @@ before_joint front behind b low text =
     let here : get_or (front ++ b ∷ behind) (length front) 0 ≡ b = get_or-append_seam front b behind 0 in
     let within : length front < length (front ++ b ∷ behind) = omega (arith, length-append front (b ∷ behind)) in
     let cut : IsUtf8 (take (length front) (front ++ b ∷ behind)) =
-    IsUtf8-take (front ++ b ∷ behind) (length front) text (IsCharBoundary-before_ascii (front ++ b ∷ behind) (length front) within (omega (arith, here, low))) in
+    IsUtf8-take (front ++ b ∷ behind) (length front) text
+    (IsCharBoundary-before_ascii (front ++ b ∷ behind) (length front) within (omega (arith, here, low))) in
     subst IsUtf8 (take-append_seam front (b ∷ behind)) cut
 
 behind_joint : (front behind : List ℕ) (b : ℕ) → b < 128 → IsUtf8 (front ++ b ∷ behind) → IsUtf8 behind
@@ -34,7 +38,8 @@ behind_joint front behind b low text =
     let here : get_or (front ++ b ∷ behind) (length front) 0 ≡ b = get_or-append_seam front b behind 0 in
     let within : length front < length (front ++ b ∷ behind) = omega (arith, length-append front (b ∷ behind)) in
     let cut : IsUtf8 (drop (length front + 1) (front ++ b ∷ behind)) =
-    IsUtf8-drop (front ++ b ∷ behind) (length front + 1) text (IsCharBoundary-after_ascii (front ++ b ∷ behind) (length front) text within (omega (arith, here, low))) in
+    IsUtf8-drop (front ++ b ∷ behind) (length front + 1) text
+    (IsCharBoundary-after_ascii (front ++ b ∷ behind) (length front) text within (omega (arith, here, low))) in
     subst IsUtf8 (drop-append-add front (b ∷ behind) 1) cut
 
 ascii_text : (b : ℕ) → b < 128 → IsUtf8 (b ∷ [])
@@ -60,19 +65,27 @@ nothing_is_text = is_utf8-from_IsUtf8 [] IsUtf8-nil
 -- ---- escapes
 
 -- The letter of an escape is of ASCII, and so is the byte that it represents.
-low_by : (quote backslash feed tab return : Bool) (e b : ℕ) → (e == mark.QUOTE) ≡ quote → (e == mark.BACKSLASH) ≡ backslash → (e == mark.FEED_LETTER) ≡ feed → (e == mark.TAB_LETTER) ≡ tab
+low_by : (quote backslash feed tab return : Bool) (e b : ℕ) → (e == mark.QUOTE) ≡ quote
+    → (e == mark.BACKSLASH) ≡ backslash → (e == mark.FEED_LETTER) ≡ feed → (e == mark.TAB_LETTER) ≡ tab
     → (e == mark.RETURN_LETTER) ≡ return
-    → cond quote (Some mark.QUOTE) (cond backslash (Some mark.BACKSLASH) (cond feed (Some mark.LINE_FEED) (cond tab (Some mark.TAB) (cond return (Some mark.CARRIAGE_RETURN) None)))) ≡ Some b
+    → cond quote (Some mark.QUOTE)
+    (cond backslash (Some mark.BACKSLASH) (cond feed (Some mark.LINE_FEED) (cond tab (Some mark.TAB) (cond return (Some mark.CARRIAGE_RETURN) None))))
+    ≡ Some b
     → (e < 128) × (b < 128)
 low_by true s f t r e b is_q is_s is_f is_t is_r found = let same : mark.QUOTE ≡ b = cc in (omega (arith, eqb-true e mark.QUOTE is_q), omega (arith, same))
-low_by false true f t r e b is_q is_s is_f is_t is_r found = let same : mark.BACKSLASH ≡ b = cc in (omega (arith, eqb-true e mark.BACKSLASH is_s), omega (arith, same))
-low_by false false true t r e b is_q is_s is_f is_t is_r found = let same : mark.LINE_FEED ≡ b = cc in (omega (arith, eqb-true e mark.FEED_LETTER is_f), omega (arith, same))
-low_by false false false true r e b is_q is_s is_f is_t is_r found = let same : mark.TAB ≡ b = cc in (omega (arith, eqb-true e mark.TAB_LETTER is_t), omega (arith, same))
-low_by false false false false true e b is_q is_s is_f is_t is_r found = let same : mark.CARRIAGE_RETURN ≡ b = cc in (omega (arith, eqb-true e mark.RETURN_LETTER is_r), omega (arith, same))
+low_by false true f t r e b is_q is_s is_f is_t is_r found = let same : mark.BACKSLASH ≡ b = cc in
+    (omega (arith, eqb-true e mark.BACKSLASH is_s), omega (arith, same))
+low_by false false true t r e b is_q is_s is_f is_t is_r found = let same : mark.LINE_FEED ≡ b = cc in
+    (omega (arith, eqb-true e mark.FEED_LETTER is_f), omega (arith, same))
+low_by false false false true r e b is_q is_s is_f is_t is_r found = let same : mark.TAB ≡ b = cc in
+    (omega (arith, eqb-true e mark.TAB_LETTER is_t), omega (arith, same))
+low_by false false false false true e b is_q is_s is_f is_t is_r found = let same : mark.CARRIAGE_RETURN ≡ b =
+    cc in (omega (arith, eqb-true e mark.RETURN_LETTER is_r), omega (arith, same))
 low_by false false false false false e b is_q is_s is_f is_t is_r found = absurd cc
 
 escape_low : (e b : ℕ) → escaped e ≡ Some b → (e < 128) × (b < 128)
-escape_low e b found = low_by (e == mark.QUOTE) (e == mark.BACKSLASH) (e == mark.FEED_LETTER) (e == mark.TAB_LETTER) (e == mark.RETURN_LETTER) e b refl refl refl refl refl found
+escape_low e b found = low_by (e == mark.QUOTE) (e == mark.BACKSLASH) (e == mark.FEED_LETTER)
+    (e == mark.TAB_LETTER) (e == mark.RETURN_LETTER) e b refl refl refl refl refl found
 
 -- ---- what is said, and the bytes that say it
 
@@ -90,7 +103,8 @@ same_text (b ∷ said) content (form, rest, inr escape, is, parts) front =
     rw (parts, escape.2, joined front said b low.1, joined front (escape.0 ∷ rest) mark.BACKSLASH (omega arith), letter, others) refl
 
 -- What a string says is UTF-8 where all is that stands up to the bytes left, its closing quote as well.
-pub says_text : (bytes content rest : List ℕ) → content_at false bytes ≡ Ok (content, rest) → is_utf8 (take (length bytes - length rest) bytes) ≡ is_utf8 content
+pub says_text : (bytes content rest : List ℕ) → content_at false bytes ≡ Ok (content, rest)
+    → is_utf8 (take (length bytes - length rest) bytes) ≡ is_utf8 content
 says_text bytes content rest found =
     let s = content_takes false bytes (content, rest) found in
     let quoted : bytes ≡ (s.0 ++ mark.QUOTE ∷ []) ++ rest = s.2 ∙ sym (append_assoc s.0 (mark.QUOTE ∷ []) rest) in

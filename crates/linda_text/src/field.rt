@@ -1,7 +1,6 @@
 //! The fields of tuples and of templates: a comma before each, the closing parenthesis after the
 //! last.
 
-ghost use Rattle.std.specs.Prelude.{◌≡◌};
 ghost use Rattle.linda_tuple.specs.declared.limits.TheConstants.{MAX_FIELDS};
 ghost use Rattle.linda_text.specs.Reading.{after_blanks, more_at, no_more_at, fields_at};
 ghost use Rattle.linda_codec.specs.Steps.{left_by};

@@ -1,6 +1,5 @@
 //! Integers in decimal: a number without a sign, or a minus before digits that do not begin with 0.
 
-ghost use Rattle.std.specs.Prelude.{◌≡◌};
 ghost use Rattle.linda_text.specs.Reading.{integer_at};
 ghost use Rattle.linda_text.specs.Steps.{GivesAlways};
 

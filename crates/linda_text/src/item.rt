@@ -1,6 +1,6 @@
 //! Atoms and patterns, without blanks before them: read, or passed over without taking memory.
 
-ghost use Rattle.std.specs.Prelude.{◌≡◌, IsOk, IsErrOf};
+ghost use Rattle.std.specs.Prelude.{IsOk, IsErrOf};
 ghost use Rattle.linda_text.specs.Reading.{atom_at, formal_at, pattern_at};
 ghost use Rattle.linda_codec.specs.Steps.{left_by};
 ghost use Rattle.linda_text.specs.Steps.{Gives, GivesAlways};

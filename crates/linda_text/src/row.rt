@@ -1,7 +1,7 @@
 //! Tuples and templates at the front of bytes: blanks, the opening parenthesis, the tag, the
 //! fields.
 
-ghost use Rattle.std.specs.Prelude.{◌≡◌, IsOk, IsErrOf};
+ghost use Rattle.std.specs.Prelude.{IsOk, IsErrOf};
 ghost use Rattle.linda_text.specs.Reading.{after_blanks, tag_at, row_at};
 ghost use Rattle.linda_text.specs.Reading.{tuple_at, template_at, spaced_atom_at};
 ghost use Rattle.linda_codec.specs.Steps.{left_by};

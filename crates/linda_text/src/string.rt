@@ -4,7 +4,7 @@
 //! says. Whether it says UTF-8 is judged by its bytes as they are: an escape is of ASCII and
 //! represents a byte of ASCII, and each other byte represents itself.
 
-ghost use Rattle.std.specs.Prelude.{◌≡◌, ◌<◌, false, length, IfOk, IsOk, IsErrOf};
+ghost use Rattle.std.specs.Prelude.{◌<◌, false, length, IfOk, IsOk, IsErrOf};
 ghost use Rattle.linda_text.specs.Reading.{content_at, short_at, said_at, escape_at, string_at};
 ghost use Rattle.linda_text.specs.Reading.{made};
 ghost use Rattle.linda_codec.specs.Steps.{left_by};

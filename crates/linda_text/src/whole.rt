@@ -3,7 +3,7 @@
 //! A text is judged first, which takes no memory; then the value is made. So every fault is
 //! returned before `Memory`.
 
-ghost use Rattle.std.specs.Prelude.{◌≡◌, length, IfOk, IsOk, IsErrOf, Ok};
+ghost use Rattle.std.specs.Prelude.{length, IfOk, IsOk, IsErrOf, Ok};
 ghost use Rattle.linda_tuple.specs.Tuple.{Tuple};
 ghost use Rattle.linda_tuple.specs.Template.{Template};
 ghost use Rattle.linda_text.specs.Grammar.{IsTupleAlone, IsTemplateAlone};

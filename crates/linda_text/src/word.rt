@@ -1,6 +1,5 @@
 //! Words and marks that are written as they are.
 
-ghost use Rattle.std.specs.Prelude.{◌≡◌};
 ghost use Rattle.linda_text.specs.Reading.{word_at};
 ghost use Rattle.linda_text.specs.Steps.{GivesAlways};
 

@@ -1,7 +1,6 @@
 //! Atoms: the values that a tuple is made of.
 
-ghost use Rattle.std.specs.Prelude.{◌≡◌, ◌↔◌, IfOk, IsTrue, FitsSigned};
-ghost use Rattle.std.specs.Int.{w64};
+ghost use Rattle.std.specs.Prelude.{◌≡◌, ◌↔◌, IfOk, IsTrue};
 ghost use Rattle.linda_tuple.specs.Atom.{IsSound, IsSoundIn};
 
 use crate::form::Form;

@@ -43,7 +43,14 @@ impl Form {
 pub fn fits(form: Form, tuple: &Tuple) -> bool
     ensures { IsTrue result ↔ FitsIn form tuple.now }
 {
-    tuple.fields().len() <= form.most_fields()
-        && tuple.tag().fits(form)
-        && tuple.fields().iter().all(|field| field.fits(form))
+    let fields = tuple.fields();
+    match form {
+        Form::One => {
+            fields.len() <= form.most_fields()
+                && tuple.tag().fits(form)
+                && fields.iter().all(|field| field.fits(form))
+        }
+        // The limits that every tuple keeps are those of this form.
+        Form::Two => true,
+    }
 }

@@ -83,20 +83,24 @@ impl Held {
     pub(crate) fn shared(self, alloc: Global) -> Held
         ensures { held_tuple result ≡ held_tuple self }
     {
+        if !self.is_large() {
+            return self;
+        }
         match self {
-            Held::Own(parts) => {
-                if parts.is_large() {
-                    return share(alloc, parts);
-                }
-                Held::Own(parts)
-            }
-            Held::Single { tag, field } => {
-                if text_len(&tag).saturating_add(text_len(&field)) >= SHARED_FROM {
-                    return share_single(alloc, tag, field);
-                }
-                Held::Single { tag, field }
-            }
+            Held::Own(parts) => share(alloc, parts),
+            Held::Single { tag, field } => share_single(alloc, tag, field),
             Held::Shared(parts) => Held::Shared(parts),
+        }
+    }
+
+    // Whether copies are to share the parts, and do not yet.
+    fn is_large(&self) -> bool {
+        match self {
+            Held::Own(parts) => parts.is_large(),
+            Held::Single { tag, field } => {
+                text_len(tag).saturating_add(text_len(field)) >= SHARED_FROM
+            }
+            Held::Shared(_) => false,
         }
     }
 }

@@ -1,6 +1,6 @@
 //! Tuples, which keep their limits.
 
-ghost use Rattle.std.specs.Prelude.{◌≡◌, ◌↔◌, ◌<◌, true, length, IfOk, IsOk, IsErrOf};
+ghost use Rattle.std.specs.Prelude.{◌≡◌, ◌↔◌, ◌<◌, ◌∷◌, [], true, length, IfOk, IsOk, IsErrOf};
 ghost use Rattle.linda_tuple.specs.declared.limits.TheConstants.{MAX_FIELDS};
 ghost use Rattle.linda_tuple.specs.Tuple.{IsWithin};
 
@@ -67,6 +67,17 @@ impl Tuple {
     {
         Tuple {
             held: Held::own(tag, fields),
+        }
+    }
+
+    /// The tuple of a tag and one field that are within the limits, which it keeps: no memory is
+    /// taken, and none for a list. It is for callers that have tested the limits already.
+    pub fn single(tag: Atom, field: Atom) -> Tuple
+        requires { IsWithin (record { tag = tag; fields = field ∷ [] }) }
+        ensures { result ≡ record { tag = tag; fields = field ∷ [] } }
+    {
+        Tuple {
+            held: Held::Single { tag, field },
         }
     }
 

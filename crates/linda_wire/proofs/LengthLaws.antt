@@ -1,5 +1,6 @@
 -- Laws of a frame's length: what is told is what was written, and more bytes change nothing.
-use Rattle.std.proofs.Common.{◌≡◌, ℕ, ◌+◌, ◌^◌, ◌<◌, ◌≤◌, Bool, true, false, cond, ltb, eqb, List, ◌++◌, length, take, Option, Some, None, Result, Ok, Err, refl, sym, ap, subst, ◌∙◌, append_assoc, arith}
+use Rattle.std.proofs.Common.{◌≡◌, ℕ, ◌+◌, ◌^◌, ◌<◌, ◌≤◌, Bool, true, false, cond, ltb, eqb, List, ◌++◌, length, take}
+use Rattle.std.proofs.Common.{Option, Some, None, Result, Ok, Err, refl, sym, ap, subst, ◌∙◌, append_assoc, arith}
 use Rattle.std.specs.Int.{w32, from_be_bytes}
 use Rattle.std.proofs.lemmas.Bool.{ltb-true, eqb-true}
 use Rattle.std.proofs.lemmas.Bool.Decides.{nat_tests}
@@ -36,7 +37,9 @@ length_field-told bytes fits long =
 
 abbrev judged : ℕ → ℕ → Result (Option ℕ) FrameFault
 judged count told =
-    cond (ltb count LENGTH_BYTES) (Ok None) (cond (eqb told 0) (Err EmptyFrame) (cond (ltb MAX_PAYLOAD told) (Err (FrameTooLong told)) (cond (ltb count (LENGTH_BYTES + told)) (Ok None) (Ok (Some told)))))
+    cond (ltb count LENGTH_BYTES) (Ok None)
+    (cond (eqb told 0) (Err EmptyFrame)
+    (cond (ltb MAX_PAYLOAD told) (Err (FrameTooLong told)) (cond (ltb count (LENGTH_BYTES + told)) (Ok None) (Ok (Some told)))))
 
 payload_len-judged : (bytes : List ℕ) → payload_len bytes ≡ judged (length bytes) (told_length bytes)
 unfolding payload_len
@@ -66,7 +69,8 @@ IsFaultOfLength told (FrameTooLong len) = (told ≡ len) × (MAX_PAYLOAD < len)
 IsFaultOfLength told (Malformed at) = ⊥
 
 fault_by : (few none long partly : Bool) (told : ℕ) (fault : FrameFault) → (none ≡ true → told ≡ 0) → (long ≡ true → MAX_PAYLOAD < told)
-    → cond few (Ok None) (cond none (Err EmptyFrame) (cond long (Err (FrameTooLong told)) (cond partly (Ok None) (Ok (Some told))))) ≡ Err fault → IsFaultOfLength told fault
+    → cond few (Ok None) (cond none (Err EmptyFrame) (cond long (Err (FrameTooLong told)) (cond partly (Ok None) (Ok (Some told))))) ≡ Err fault
+    → IsFaultOfLength told fault
 fault_by true none long partly told fault n l e = absurd cc
 fault_by false true long partly told fault n l e =
     let is : EmptyFrame ≡ fault = cc in
@@ -81,7 +85,8 @@ fault_by false false false false told fault n l e = absurd cc
 
 pub payload_len-fault : (bytes : List ℕ) (fault : FrameFault) → payload_len bytes ≡ Err fault → IsFaultOfLength (told_length bytes) fault
 payload_len-fault bytes fault e =
-    fault_by (ltb (length bytes) LENGTH_BYTES) (eqb (told_length bytes) 0) (ltb MAX_PAYLOAD (told_length bytes)) (ltb (length bytes) (LENGTH_BYTES + told_length bytes)) (told_length bytes) fault
+    fault_by (ltb (length bytes) LENGTH_BYTES) (eqb (told_length bytes) 0) (ltb MAX_PAYLOAD (told_length bytes))
+    (ltb (length bytes) (LENGTH_BYTES + told_length bytes)) (told_length bytes) fault
     (eqb-true (told_length bytes) 0) (ltb-true MAX_PAYLOAD (told_length bytes)) (sym (payload_len-judged bytes) ∙ e)
 
 pub payload_len-long : (bytes : List ℕ) (fault : FrameFault) → payload_len bytes ≡ Err fault → LENGTH_BYTES ≤ length bytes
@@ -114,9 +119,11 @@ payload_len-broken bytes more fault e =
     let b = judged_broken (length bytes) (length more) (told_length bytes) fault (sym (payload_len-judged bytes) ∙ e) in
     payload_len-judged (bytes ++ more) ∙ rw (told_length-append bytes more b.0, length-append bytes more) b.1
 
-pub payload_len-frame : (payload rest : List ℕ) → 0 < length payload → length payload ≤ MAX_PAYLOAD → payload_len (frame payload ++ rest) ≡ Ok (Some (length payload))
+pub payload_len-frame : (payload rest : List ℕ) → 0 < length payload → length payload ≤ MAX_PAYLOAD
+    → payload_len (frame payload ++ rest) ≡ Ok (Some (length payload))
 payload_len-frame payload rest some short =
-    let told : told_length (length_field (length payload) ++ (payload ++ rest)) ≡ length payload = told_length-field (length payload) (payload ++ rest) (omega (arith, short)) in
+    let told : told_length (length_field (length payload) ++ (payload ++ rest)) ≡ length payload =
+    told_length-field (length payload) (payload ++ rest) (omega (arith, short)) in
     payload_len-there (frame payload ++ rest) (length payload) record {
       told-is = rw append_assoc told;
       some = some;

@@ -31,7 +31,8 @@ in_frame_is len (Ok x) value e =
 in_frame_is len (Err fault) value e = absurd cc
 
 -- What is read from a payload is so spelled.
-pub whole_takes : {A : Type 0} (f : Format A) → IsFormat f → (payload : List ℕ) (value : A) → IsBytes payload → whole_of f payload ≡ Ok value → (payload ≡ f.spell value) × f.Fits value
+pub whole_takes : {A : Type 0} (f : Format A) → IsFormat f → (payload : List ℕ) (value : A)
+    → IsBytes payload → whole_of f payload ≡ Ok value → (payload ≡ f.spell value) × f.Fits value
 whole_takes f is payload value fits e =
     let t = is.takes payload (value, []) fits (in_frame_is (length payload) (f.read payload) value e) in
     (t.0.parts ∙ append-nil (f.spell value), t.1)
@@ -60,7 +61,8 @@ value_place len (reading.BadText left) h = (omega (arith, h.1), omega arith)
 value_place len (reading.TooMany left) h = (omega (arith, h.1), omega arith)
 value_place len (reading.LongText left) h = (omega (arith, h.1), omega arith)
 
-rest_place : {A : Type 0} (len : ℕ) (value : A) (rest : List ℕ) (fault : FrameFault) → length rest ≤ len → with_no_rest len value rest ≡ Err fault → IsFaultOfPayload len fault
+rest_place : {A : Type 0} (len : ℕ) (value : A) (rest : List ℕ) (fault : FrameFault) → length rest ≤ len
+    → with_no_rest len value rest ≡ Err fault → IsFaultOfPayload len fault
 rest_place len value [] fault le e = absurd cc
 rest_place len value (b ∷ rest) fault le e =
     let is : malformed_with len (suc (length rest)) ≡ fault = cc in
@@ -73,7 +75,8 @@ in_frame_place len (Err f) fault bounded e =
     subst (IsFaultOfPayload len) is (value_place len f bounded)
 
 -- Each fault of a payload is an offset in its frame.
-pub whole_place : {A : Type 0} (f : Format A) → IsFormat f → (payload : List ℕ) (fault : FrameFault) → whole_of f payload ≡ Err fault → IsFaultOfPayload (length payload) fault
+pub whole_place : {A : Type 0} (f : Format A) → IsFormat f → (payload : List ℕ) (fault : FrameFault)
+    → whole_of f payload ≡ Err fault → IsFaultOfPayload (length payload) fault
 whole_place f is payload fault e = in_frame_place (length payload) (f.read payload) fault (is.bounded payload) e
 
 -- ---- judging a payload by what is left of it
@@ -86,7 +89,8 @@ with_rest len unit value [] = refl
 with_rest len unit value (b ∷ rest) = ((λ e. absurd cc), refl)
 
 -- Bytes are left behind a value: whether they are none says whether the payload spells it.
-pub judged_ok : {U A : Type 0} (len : ℕ) (read : Read A) (unit : U) (rest : List ℕ) → left_by read ≡ Ok rest → Judges (with_no_rest len unit rest) (in_frame len read)
+pub judged_ok : {U A : Type 0} (len : ℕ) (read : Read A) (unit : U) (rest : List ℕ) → left_by read ≡ Ok rest
+    → Judges (with_no_rest len unit rest) (in_frame len read)
 judged_ok len (Ok x) unit rest e = rw (← left_is x.1 rest e) (with_rest len unit x.0 x.1)
 judged_ok len (Err f) unit rest e = absurd cc
 
@@ -100,7 +104,8 @@ told_fault len (reading.TooMany left) other e = absurd cc
 told_fault len (reading.LongText left) other e = absurd cc
 
 -- A fault that is told of what is left is the payload's.
-pub judged_err : {A : Type 0} (len : ℕ) (read : Read A) (fault : ReadFault) → (fault ≡ reading.Memory → ⊥) → left_by read ≡ Err fault → (frame_fault len fault ≡ Memory → ⊥) × (in_frame len read ≡ Err (frame_fault len fault))
+pub judged_err : {A : Type 0} (len : ℕ) (read : Read A) (fault : ReadFault) → (fault ≡ reading.Memory → ⊥)
+    → left_by read ≡ Err fault → (frame_fault len fault ≡ Memory → ⊥) × (in_frame len read ≡ Err (frame_fault len fault))
 judged_err len (Ok x) fault other e = absurd cc
 judged_err len (Err f) fault other e =
     let same : f ≡ fault = cc in

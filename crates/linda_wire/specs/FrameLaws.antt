@@ -28,7 +28,12 @@ use Rattle.linda_wire.specs.declared.reply.Reply.{Reply}
 use Rattle.linda_wire.specs.declared.reply.Reply.TheVariants.{Welcome, Stored, Offer, Read, Taken}
 use Rattle.linda_wire.specs.declared.reply.Reply.TheVariants.{Gone, Refused, Left}
 use Rattle.linda_wire.specs.Frames as format
-use Rattle.linda_wire.specs.Frames.{spoken}
+use Rattle.linda_wire.specs.Frames.{spoken, of_two, of_three}
+
+-- The first of several facts, and the others.
+infixr 5 ◌&◌
+◌&◌ : {A B : Type 0} → A → B → A × B
+a & b = (a, b)
 
 -- ---- messages
 
@@ -53,34 +58,25 @@ message_body is kind make spelled fits =
     body_is is format.spell_message format.FitsMessage (kind ∷ []) make spelled fits
 
 message_bodies : AreBodies format.spell_message format.FitsMessage format.message_kinds
-message_bodies = (
-  message_body hello_is kind.HELLO format.hello_of (λ p. refl) (λ p fits. fits),
-  (
-    message_body out_is kind.OUT format.out_of (λ p. refl) (λ p fits. fits),
-    (
-      message_body ask_is kind.ASK format.ask_of (λ p. refl) (λ p fits. fits),
-      (
-        message_body accept_is kind.ACCEPT format.accept_of (λ p. refl) (λ p fits. fits),
-        (
-          message_body number_is kind.CANCEL format.cancel_of (λ n. refl) (λ n fits. fits),
-          (message_body number_is kind.LEAVE format.leave_of (λ n. refl) (λ n fits. fits), tt),
-        ),
-      ),
-    ),
-  ),
-)
+message_bodies =
+    message_body hello_is kind.HELLO (of_three Hello) (λ p. refl) (λ p fits. fits)
+    & message_body out_is kind.OUT (of_two Out) (λ p. refl) (λ p fits. fits)
+    & message_body ask_is kind.ASK (of_three Ask) (λ p. refl) (λ p fits. fits)
+    & message_body accept_is kind.ACCEPT (of_three Accept) (λ p. refl) (λ p fits. fits)
+    & message_body number_is kind.CANCEL Cancel (λ n. refl) (λ n fits. fits)
+    & message_body number_is kind.LEAVE Leave (λ n. refl) (λ n fits. fits) & tt
 
 message_again : (m : Message) (rest : List ℕ) → format.FitsMessage m
     → format.message.read (format.spell_message m ++ rest) ≡ Ok (m, rest)
 message_again (Hello version client fresh) rest fits =
-    made_again hello_is format.hello_of (version, (client, fresh)) rest fits
-message_again (Out n tuple) rest fits = made_again out_is format.out_of (n, tuple) rest fits
+    made_again hello_is (of_three Hello) (version, (client, fresh)) rest fits
+message_again (Out n tuple) rest fits = made_again out_is (of_two Out) (n, tuple) rest fits
 message_again (Ask ticket remove template) rest fits =
-    made_again ask_is format.ask_of (ticket, (remove, template)) rest fits
+    made_again ask_is (of_three Ask) (ticket, (remove, template)) rest fits
 message_again (Accept n ticket id) rest fits =
-    made_again accept_is format.accept_of (n, (ticket, id)) rest fits
-message_again (Cancel ticket) rest fits = made_again number_is format.cancel_of ticket rest fits
-message_again (Leave n) rest fits = made_again number_is format.leave_of n rest fits
+    made_again accept_is (of_three Accept) (n, (ticket, id)) rest fits
+message_again (Cancel ticket) rest fits = made_again number_is Cancel ticket rest fits
+message_again (Leave n) rest fits = made_again number_is Leave n rest fits
 
 pub message_is : IsFormat format.message
 message_is =
@@ -107,43 +103,30 @@ reply_body is kind make spelled fits =
     body_is is format.spell_reply format.FitsReply (kind ∷ []) make spelled fits
 
 reply_bodies : AreBodies format.spell_reply format.FitsReply format.reply_kinds
-reply_bodies = (
-  reply_body number_is kind.WELCOME format.welcome_of (λ n. refl) (λ n fits. fits),
-  (
-    reply_body stored_is kind.STORED format.stored_of (λ p. refl) (λ p fits. fits),
-    (
-      reply_body entry_is kind.OFFER format.offer_of (λ p. refl) (λ p fits. fits),
-      (
-        reply_body entry_is kind.READ format.read_of (λ p. refl) (λ p fits. fits),
-        (
-          reply_body entry_is kind.TAKEN format.taken_of (λ p. refl) (λ p fits. fits),
-          (
-            reply_body number_is kind.GONE format.gone_of (λ n. refl) (λ n fits. fits),
-            (
-              reply_body refusal_is kind.REFUSED format.refused_of (λ p. refl) (λ p fits. fits),
-              (reply_body number_is kind.LEFT format.left_of (λ n. refl) (λ n fits. fits), tt),
-            ),
-          ),
-        ),
-      ),
-    ),
-  ),
-)
+reply_bodies =
+    reply_body number_is kind.WELCOME Welcome (λ n. refl) (λ n fits. fits)
+    & reply_body stored_is kind.STORED (of_two Stored) (λ p. refl) (λ p fits. fits)
+    & reply_body entry_is kind.OFFER (of_three Offer) (λ p. refl) (λ p fits. fits)
+    & reply_body entry_is kind.READ (of_three Read) (λ p. refl) (λ p fits. fits)
+    & reply_body entry_is kind.TAKEN (of_three Taken) (λ p. refl) (λ p fits. fits)
+    & reply_body number_is kind.GONE Gone (λ n. refl) (λ n fits. fits)
+    & reply_body refusal_is kind.REFUSED (of_two Refused) (λ p. refl) (λ p fits. fits)
+    & reply_body number_is kind.LEFT Left (λ n. refl) (λ n fits. fits) & tt
 
 reply_again : (r : Reply) (rest : List ℕ) → format.FitsReply r
     → format.reply.read (format.spell_reply r ++ rest) ≡ Ok (r, rest)
-reply_again (Welcome last) rest fits = made_again number_is format.welcome_of last rest fits
-reply_again (Stored n id) rest fits = made_again stored_is format.stored_of (n, id) rest fits
+reply_again (Welcome last) rest fits = made_again number_is Welcome last rest fits
+reply_again (Stored n id) rest fits = made_again stored_is (of_two Stored) (n, id) rest fits
 reply_again (Offer ticket id tuple) rest fits =
-    made_again entry_is format.offer_of (ticket, (id, tuple)) rest fits
+    made_again entry_is (of_three Offer) (ticket, (id, tuple)) rest fits
 reply_again (Read ticket id tuple) rest fits =
-    made_again entry_is format.read_of (ticket, (id, tuple)) rest fits
+    made_again entry_is (of_three Read) (ticket, (id, tuple)) rest fits
 reply_again (Taken n id tuple) rest fits =
-    made_again entry_is format.taken_of (n, (id, tuple)) rest fits
-reply_again (Gone n) rest fits = made_again number_is format.gone_of n rest fits
+    made_again entry_is (of_three Taken) (n, (id, tuple)) rest fits
+reply_again (Gone n) rest fits = made_again number_is Gone n rest fits
 reply_again (Refused code detail) rest fits =
-    made_again refusal_is format.refused_of (code, detail) rest fits
-reply_again (Left n) rest fits = made_again number_is format.left_of n rest fits
+    made_again refusal_is (of_two Refused) (code, detail) rest fits
+reply_again (Left n) rest fits = made_again number_is Left n rest fits
 
 pub reply_is : IsFormat format.reply
 reply_is =

@@ -24,6 +24,13 @@ use Rattle.linda_wire.specs.declared.reply.Reply.TheVariants.{Gone, Refused, Lef
 abbrev pub spoken : Form
 spoken = Two
 
+-- What is made of two values, and of three.
+abbrev pub of_two : {A B M : Type 0} → (A → B → M) → A × B → M
+of_two make p = make p.0 p.1
+
+abbrev pub of_three : {A B C M : Type 0} → (A → B → C → M) → A × (B × C) → M
+of_three make p = make p.0 p.1.0 p.1.1
+
 -- ---- frames
 
 -- The bytes that give a frame's length.
@@ -56,25 +63,6 @@ ask = both number (both truth (value.template spoken))
 abbrev pub accept : Format (ℕ × (ℕ × ℕ))
 accept = both number (both number number)
 
--- the messages that these values are of
-abbrev pub hello_of : ℕ × (ℕ × Bool) → Message
-hello_of p = Hello p.0 p.1.0 p.1.1
-
-abbrev pub out_of : ℕ × Tuple → Message
-out_of p = Out p.0 p.1
-
-abbrev pub ask_of : ℕ × (Bool × Template) → Message
-ask_of p = Ask p.0 p.1.0 p.1.1
-
-abbrev pub accept_of : ℕ × (ℕ × ℕ) → Message
-accept_of p = Accept p.0 p.1.0 p.1.1
-
-abbrev pub cancel_of : ℕ → Message
-cancel_of ticket = Cancel ticket
-
-abbrev pub leave_of : ℕ → Message
-leave_of n = Leave n
-
 -- A message's kind byte and body.
 abbrev pub spell_message : Message → List ℕ
 spell_message (Hello version client fresh) = kind.HELLO ∷ hello.spell (version, (client, fresh))
@@ -97,9 +85,9 @@ FitsMessage (Leave n) = number.Fits n
 -- The kinds of messages, each with its body.
 abbrev pub message_kinds : List (ℕ × Reader Message)
 message_kinds =
-    (kind.HELLO, made_at hello_of hello) ∷ (kind.OUT, made_at out_of out)
-    ∷ (kind.ASK, made_at ask_of ask) ∷ (kind.ACCEPT, made_at accept_of accept)
-    ∷ (kind.CANCEL, made_at cancel_of number) ∷ (kind.LEAVE, made_at leave_of number) ∷ []
+    (kind.HELLO, made_at (of_three Hello) hello) ∷ (kind.OUT, made_at (of_two Out) out)
+    ∷ (kind.ASK, made_at (of_three Ask) ask) ∷ (kind.ACCEPT, made_at (of_three Accept) accept)
+    ∷ (kind.CANCEL, made_at Cancel number) ∷ (kind.LEAVE, made_at Leave number) ∷ []
 
 -- What is after the kind byte of a message.
 abbrev pub message_body_at : ℕ → Reader Message
@@ -127,31 +115,6 @@ entry = both number (both number (value.tuple spoken))
 abbrev pub refusal : Format (ℕ × ℕ)
 refusal = both byte number
 
--- the replies that these values are of
-abbrev pub welcome_of : ℕ → Reply
-welcome_of last = Welcome last
-
-abbrev pub stored_of : ℕ × ℕ → Reply
-stored_of p = Stored p.0 p.1
-
-abbrev pub offer_of : ℕ × (ℕ × Tuple) → Reply
-offer_of p = Offer p.0 p.1.0 p.1.1
-
-abbrev pub read_of : ℕ × (ℕ × Tuple) → Reply
-read_of p = Read p.0 p.1.0 p.1.1
-
-abbrev pub taken_of : ℕ × (ℕ × Tuple) → Reply
-taken_of p = Taken p.0 p.1.0 p.1.1
-
-abbrev pub gone_of : ℕ → Reply
-gone_of n = Gone n
-
-abbrev pub refused_of : ℕ × ℕ → Reply
-refused_of p = Refused p.0 p.1
-
-abbrev pub left_of : ℕ → Reply
-left_of n = Left n
-
 -- A reply's kind byte and body.
 abbrev pub spell_reply : Reply → List ℕ
 spell_reply (Welcome last) = kind.WELCOME ∷ number.spell last
@@ -177,10 +140,10 @@ FitsReply (Left n) = number.Fits n
 -- The kinds of replies, each with its body.
 abbrev pub reply_kinds : List (ℕ × Reader Reply)
 reply_kinds =
-    (kind.WELCOME, made_at welcome_of number) ∷ (kind.STORED, made_at stored_of stored)
-    ∷ (kind.OFFER, made_at offer_of entry) ∷ (kind.READ, made_at read_of entry)
-    ∷ (kind.TAKEN, made_at taken_of entry) ∷ (kind.GONE, made_at gone_of number)
-    ∷ (kind.REFUSED, made_at refused_of refusal) ∷ (kind.LEFT, made_at left_of number) ∷ []
+    (kind.WELCOME, made_at Welcome number) ∷ (kind.STORED, made_at (of_two Stored) stored)
+    ∷ (kind.OFFER, made_at (of_three Offer) entry) ∷ (kind.READ, made_at (of_three Read) entry)
+    ∷ (kind.TAKEN, made_at (of_three Taken) entry) ∷ (kind.GONE, made_at Gone number)
+    ∷ (kind.REFUSED, made_at (of_two Refused) refusal) ∷ (kind.LEFT, made_at Left number) ∷ []
 
 -- What is after the kind byte of a reply.
 abbrev pub reply_body_at : ℕ → Reader Reply

@@ -2,6 +2,7 @@
 
 ghost use Rattle.std.specs.Prelude.{◌≡◌};
 ghost use Rattle.linda_wire.specs.declared.fault.FrameFault.TheVariants.{Memory};
+ghost use Rattle.linda_wire.specs.Offset.{offset_of};
 
 use std::alloc::{AllocError, AllocFailed};
 use thiserror::Error;
@@ -23,6 +24,21 @@ pub enum FrameFault {
     /// short.
     #[error("malformed at {0}")]
     Malformed(u32),
+}
+
+impl FrameFault {
+    /// The offset that a client is told: that of the first byte at fault, counted from the frame's
+    /// first byte, or 0 if the frame's length is at fault. None if memory ran out.
+    pub fn offset(self) -> Option<u32>
+        ensures { result ≡ offset_of self }
+    {
+        match self {
+            FrameFault::Memory => None,
+            FrameFault::EmptyFrame => Some(0),
+            FrameFault::FrameTooLong(_) => Some(0),
+            FrameFault::Malformed(offset) => Some(offset),
+        }
+    }
 }
 
 impl From<AllocError> for FrameFault {

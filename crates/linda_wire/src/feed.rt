@@ -6,7 +6,7 @@ ghost use Rattle.linda_wire.specs.Frames.{frame};
 ghost use Rattle.linda_wire.specs.Stream.{Partial, Answers, IsWhole, IsFaultOf, front};
 
 use crate::fault::FrameFault;
-use crate::framed::Framed;
+use crate::framed::FramePayload;
 use crate::length::len_of_payload;
 use crate::limits::LENGTH_BYTES;
 use crate::message::Message;
@@ -21,12 +21,12 @@ use std::marker::{Model, PhantomData};
 ///
 /// Feeding and reading cost time that is linear in the bytes fed.
 #[derive(Debug)]
-pub struct FrameFeed<T: Framed> {
+pub struct FrameFeed<T: FramePayload> {
     unread: Unread,
     of: PhantomData<T>,
 }
 
-impl<T: Framed> Drop for FrameFeed<T> {
+impl<T: FramePayload> Drop for FrameFeed<T> {
     fn drop(self) {
         let FrameFeed { unread: _, of: _ } = self;
     }
@@ -38,7 +38,7 @@ pub type Feed = FrameFeed<Message>;
 /// The bytes of a server's replies that are not read yet.
 pub type ReplyFeed = FrameFeed<Reply>;
 
-impl<T: Framed> Model for FrameFeed<T> {
+impl<T: FramePayload> Model for FrameFeed<T> {
     ghost use Rattle.std.specs.Prelude.{List, ℕ};
 
     ghost Value = { List ℕ };
@@ -46,7 +46,7 @@ impl<T: Framed> Model for FrameFeed<T> {
     ghost view = { λ a. a.unread };
 }
 
-impl<T: Framed> FrameFeed<T> {
+impl<T: FramePayload> FrameFeed<T> {
     /// A stream of which nothing came yet.
     pub fn new(alloc: Global) -> FrameFeed<T>
         ensures { result ≡ [] }

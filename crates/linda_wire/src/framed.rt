@@ -7,7 +7,7 @@ ghost use Rattle.linda_codec.specs.Steps.{Read, Gives, GivesAlways, left_by};
 ghost use Rattle.linda_codec.specs.Formats.{Format, number};
 ghost use Rattle.linda_codec.specs.Values as value;
 ghost use Rattle.linda_wire.specs.declared.limits.TheConstants.{LENGTH_BYTES, MAX_PAYLOAD};
-ghost use Rattle.linda_wire.specs.Frames.{frame, spoken};
+ghost use Rattle.linda_wire.specs.Frames.{frame, spoken, stored};
 ghost use Rattle.linda_wire.specs.Stream.{IsFramed};
 
 use crate::limits::{FORM, LENGTH_BYTES};
@@ -16,7 +16,7 @@ use linda_tuple::{Template, Tuple};
 use std::alloc::{AllocError, Global};
 
 /// A value that is in a frame: a kind byte and a body, by a lawful format.
-pub trait Framed: Drop {
+pub trait FramePayload: Drop {
     ghost format: { Format Self };
 
     /// Reads a value, and gives the bytes after it.
@@ -66,18 +66,27 @@ pub(crate) fn push_numbered(out: &mut Vec<u8>, kind: u8, n: u64) -> Result<(), A
     ensures ok { OnOk result (out.new.items ≡ out.old.items ++ (kind ∷ number.spell n)) }
     ensures front { take (length out.old.items) out.new.items ≡ out.old.items }
 {
-    out.push(kind)?;
-    out.extend_from_slice(&n.to_be_bytes())
+    let n = n.to_be_bytes();
+    out.extend_from_slice(&[kind, n[0], n[1], n[2], n[3], n[4], n[5], n[6], n[7]])
 }
 
-/// Appends two numbers; if memory runs out, a part of them may be after the old bytes.
-pub(crate) fn push_pair(out: &mut Vec<u8>, first: u64, second: u64) -> Result<(), AllocError>
+/// Appends a kind byte and two numbers; likewise.
+pub(crate) fn push_placed(
+    out: &mut Vec<u8>,
+    kind: u8,
+    number: u64,
+    id: u64,
+) -> Result<(), AllocError>
     ensures ok { OnOk result (out.new.items
-        ≡ out.old.items ++ (number.spell first ++ number.spell second)) }
+        ≡ out.old.items ++ (kind ∷ stored.spell (number, id))) }
     ensures front { take (length out.old.items) out.new.items ≡ out.old.items }
 {
-    out.extend_from_slice(&first.to_be_bytes())?;
-    out.extend_from_slice(&second.to_be_bytes())
+    let n = number.to_be_bytes();
+    let id = id.to_be_bytes();
+    out.extend_from_slice(&[
+        kind, n[0], n[1], n[2], n[3], n[4], n[5], n[6], n[7], id[0], id[1], id[2], id[3], id[4],
+        id[5], id[6], id[7],
+    ])
 }
 
 /// Appends the tuple in the form of frames, in which every tuple has a spelling; if memory runs
@@ -104,7 +113,7 @@ pub(crate) fn push_template(out: &mut Vec<u8>, template: &Template) -> Result<()
 }
 
 /// Appends the value's frame; if memory runs out, `out` is left as it was.
-pub(crate) fn encode<T: Framed>(out: &mut Vec<u8>, value: &T) -> Result<(), AllocError>
+pub(crate) fn encode<T: FramePayload>(out: &mut Vec<u8>, value: &T) -> Result<(), AllocError>
     ensures ok { OnOk result (out.new.items ≡ out.old.items ++ frame (T.format.spell value.now)) }
     ensures err { OnErr result (out.new.items ≡ out.old.items) }
 {
@@ -119,7 +128,7 @@ pub(crate) fn encode<T: Framed>(out: &mut Vec<u8>, value: &T) -> Result<(), Allo
 }
 
 // Appends the value's frame; if memory runs out, a part of it may be after the old bytes.
-fn push_frame<T: Framed>(out: &mut Vec<u8>, value: &T) -> Result<(), AllocError>
+fn push_frame<T: FramePayload>(out: &mut Vec<u8>, value: &T) -> Result<(), AllocError>
     ensures ok { OnOk result (out.new.items ≡ out.old.items ++ frame (T.format.spell value.now)) }
     ensures front { take (length out.old.items) out.new.items ≡ out.old.items }
 {

@@ -27,7 +27,7 @@ mod unread;
 
 pub use fault::FrameFault;
 pub use feed::{Feed, FrameFeed, ReplyFeed};
-pub use framed::Framed;
+pub use framed::FramePayload;
 pub use laws::{faults_stay, one_reading, one_reply_reading, reply_faults_stay};
 pub use limits::{LENGTH_BYTES, MAX_ASKS, MAX_CLIENTS, MAX_PAYLOAD, NUMBER_LIMIT, VERSION};
 pub use message::{Message, encode_message};

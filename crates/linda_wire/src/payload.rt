@@ -7,14 +7,14 @@ ghost use Rattle.linda_wire.specs.Stream.{malformed_with, frame_fault, with_no_r
 ghost use Rattle.linda_wire.specs.Stream.{GivesWhole, Judges};
 
 use crate::fault::FrameFault;
-use crate::framed::Framed;
+use crate::framed::FramePayload;
 use crate::limits::LENGTH_BYTES;
 use linda_codec::ReadFault;
 use std::alloc::Global;
 
 /// The value that a payload spells, all of it. `Memory` is returned last: only of a payload that
 /// spells one.
-pub(crate) fn read_whole<T: Framed>(alloc: Global, payload: &[u8]) -> Result<T, FrameFault>
+pub(crate) fn read_whole<T: FramePayload>(alloc: Global, payload: &[u8]) -> Result<T, FrameFault>
     requires { length payload.now ≤ MAX_PAYLOAD }
     ensures value { GivesWhole result (whole_of T.format payload.now) }
     ensures memory { IsErrOf result FrameFault.Memory → IsOk (whole_of T.format payload.now) }
@@ -34,7 +34,7 @@ pub(crate) fn read_whole<T: Framed>(alloc: Global, payload: &[u8]) -> Result<T, 
 }
 
 // Whether a payload spells a value, all of it, and which fault it has if not; takes no memory.
-fn judge<T: Framed>(payload: &[u8]) -> Result<(), FrameFault>
+fn judge<T: FramePayload>(payload: &[u8]) -> Result<(), FrameFault>
     requires { length payload.now ≤ MAX_PAYLOAD }
     ensures { Judges result (whole_of T.format payload.now) }
 {

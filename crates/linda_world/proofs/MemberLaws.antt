@@ -5,7 +5,7 @@ use Rattle.std.specs.Option.{option_map}
 use Rattle.std.specs.BTreeMap as tree
 use Rattle.std.specs.FinMap.{get, insert, from_entries}
 use Rattle.std.proofs.lemmas.Bool.Decides.{eqb_tells}
-use Rattle.linda_maps.proofs.MapLaws.{get_same, get_other, same_map_by_key, one_set, viewed}
+use Rattle.linda_map_laws.proofs.MapLaws.{get_same, get_other, same_map_by_key, one_set, viewed}
 use Rattle.linda_client.specs.React.{Call, react}
 use Rattle.linda_world_laws.specs.declared.packet.Packet.{Packet}
 use Rattle.linda_world_laws.specs.declared.seen.Seen.{Seen}
@@ -16,7 +16,8 @@ use Rattle.linda_world.specs.declared.fault.WorldFault.TheVariants as faults
 use Rattle.linda_world.specs.Member.{refusal_of, refusal_to, Reacts, ReactsOrNot, ReactsIn, SameGot, ReactsInOrNot}
 
 -- One client was called, and is another then.
-module _ (call : Call) (c : ℕ) (old new : Members) (ps later : List Packet) (t u : BTreeMap ℕ Member) (member now : Member) (is : from_entries {R = nat_cmp} t.entries ≡ old) (new_is : from_entries {R = nat_cmp} u.entries ≡ new)
+module _ (call : Call) (c : ℕ) (old new : Members) (ps later : List Packet) (t u : BTreeMap ℕ Member) (member now : Member)
+    (is : from_entries {R = nat_cmp} t.entries ≡ old) (new_is : from_entries {R = nat_cmp} u.entries ≡ new)
     (there : tree.get nat_cmp t c ≡ Some member) (updates : IsSome (tree.get nat_cmp t c) → tree.Updates nat_cmp t u c (Some now)) where
   known : get old c ≡ Some member
   known = sym (viewed t old is c) ∙ there
@@ -25,16 +26,19 @@ module _ (call : Call) (c : ℕ) (old new : Members) (ps later : List Packet) (t
   set_now = sym new_is ∙ one_set t u c now (updates (ap is_some there)) ∙ ap (λ x. insert x c now) is
 
   same_now : now ≡ member → new ≡ old
-  same_now same = set_now ∙ ap (insert old c) same ∙ same_map_by_key (insert old c member) old c (get_same old c member ∙ sym known) (λ q apart. get_other old c member q apart)
+  same_now same = set_now ∙ ap (insert old c) same
+      ∙ same_map_by_key (insert old c member) old c (get_same old c member ∙ sym known) (λ q apart. get_other old c member q apart)
 
   same_got : now.got ≡ member.got → SameGot old new
   same_got same d = elim (eqb_tells d c) [
-    | inl here ↦ (ap (λ m. option_map (λ (m : Member). m.got) (get m d)) set_now ∙ ap (λ k. option_map (λ (m : Member). m.got) (get (insert old c now) k)) here.1 ∙ ap (option_map (λ (m : Member). m.got)) (get_same old c now)
+    | inl here ↦ (ap (λ m. option_map (λ (m : Member). m.got) (get m d)) set_now
+        ∙ ap (λ k. option_map (λ (m : Member). m.got) (get (insert old c now) k)) here.1 ∙ ap (option_map (λ (m : Member). m.got)) (get_same old c now)
         ∙ ap (λ l. Some l) same ∙ sym (ap (λ k. option_map (λ (m : Member). m.got) (get old k)) here.1 ∙ ap (option_map (λ (m : Member). m.got)) known))
     | inr apart ↦ ap (option_map (λ (m : Member). m.got)) (ap (λ m. get m d) set_now ∙ get_other old c now d apart.1)
   ]
 
-  refused : (fault : WorldFault) → (refusal_of (react member.client call) ≡ Some fault) × ((now ≡ member) × (later ≡ ps)) → (refusal_to (get old c) call ≡ Some fault) × ((new ≡ old) × (later ≡ ps))
+  refused : (fault : WorldFault) → (refusal_of (react member.client call) ≡ Some fault) × ((now ≡ member) × (later ≡ ps))
+      → (refusal_to (get old c) call ≡ Some fault) × ((new ≡ old) × (later ≡ ps))
   refused fault no_call = (ap (λ o. refusal_to o call) known ∙ no_call.0, (same_now no_call.1.0, no_call.1.1))
 
   done : (told : Told) → Reacts call c member ps told now later → ReactsIn call c old ps told new later

@@ -3,7 +3,7 @@ use Rattle.std.proofs.Common.{◌≡◌, ℕ, ◌+◌, ◌-◌, ◌<◌, List, �
 use Rattle.std.proofs.lemmas.Bool.{cases_eq}
 use Rattle.std.proofs.lemmas.List.{take-append-le, take_all}
 use Rattle.std.specs.FinMap.{empty, get, insert}
-use Rattle.linda_maps.proofs.MapLaws.{get_same, get_other, get_empty}
+use Rattle.linda_map_laws.proofs.MapLaws.{get_same, get_other, get_empty}
 use Rattle.linda_store_state.specs.declared.deed.Deed.{Deed}
 use Rattle.linda_store_state.specs.Deed.{client_of, number_of}
 use Rattle.linda_store_step.specs.Deeds.{last_in}
@@ -18,7 +18,8 @@ none_noted ds = record {
 }
 
 -- One deed more is noted.
-pub one_noted : (ds : List Deed) (k : ℕ) (lasts : Lasts) (d : Deed) → AreNoted ds k lasts → k < length ds → d ≡ get_or ds k d → AreNoted ds (k + 1) (insert lasts (client_of d) (number_of d))
+pub one_noted : (ds : List Deed) (k : ℕ) (lasts : Lasts) (d : Deed) → AreNoted ds k lasts → k < length ds
+    → d ≡ get_or ds k d → AreNoted ds (k + 1) (insert lasts (client_of d) (number_of d))
 one_noted ds k lasts d was low is = record { within = omega (arith, low); each = at }
   where
     back : k ≡ k + 1 - 1
@@ -29,9 +30,11 @@ one_noted ds k lasts d was low is = record { within = omega (arith, low); each =
 
     at : (c : ℕ) → noted_number (get (insert lasts (client_of d) (number_of d)) c) ≡ last_in (take (k + 1) ds) c
     at c = elim (cases_eq (client_of d) c) [
-      | inl mine ↦ (ap (λ q. noted_number (get (insert lasts (client_of d) (number_of d)) q)) (sym mine) ∙ ap noted_number (get_same lasts (client_of d) (number_of d))
+      | inl mine ↦ (ap (λ q. noted_number (get (insert lasts (client_of d) (number_of d)) q)) (sym mine)
+          ∙ ap noted_number (get_same lasts (client_of d) (number_of d))
           ∙ sym (last_of_own ds (k + 1) d c (omega arith) (omega (arith, low)) here mine))
-      | inr other ↦ (ap noted_number (get_other lasts (client_of d) (number_of d) c (λ same. other (sym same))) ∙ was.each c ∙ ap (λ j. last_in (take j ds) c) back
+      | inr other ↦ (ap noted_number (get_other lasts (client_of d) (number_of d) c (λ same. other (sym same)))
+          ∙ was.each c ∙ ap (λ j. last_in (take j ds) c) back
           ∙ sym (last_of_other ds (k + 1) d c (omega arith) (omega (arith, low)) here other))
     ]
 

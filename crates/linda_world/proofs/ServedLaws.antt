@@ -38,11 +38,13 @@ abbrev pub Learned : Type 0
 Learned = (ds es : List Deed) (old new : Node) (c : ℕ) (m : Message) (sends : List (ℕ × Reply))
     → IsSound ds old → Works old (says c m ∷ []) (Sent sends) es new → es ≡ option_to_list (reported_deed c m (last_number ds c) sends)
 
-module _ (task : Task) (s : ℕ) (was : Server) (ds : List Deed) (old new : Node) (was_is : (let server : Server = record { deeds = ds; node = old } in server) ≡ was) (ps later : List Packet) (es : List Deed) where
+module _ (task : Task) (s : ℕ) (was : Server) (ds : List Deed) (old new : Node)
+    (was_is : (let server : Server = record { deeds = ds; node = old } in server) ≡ was) (ps later : List Packet) (es : List Deed) where
   abbrev here : Server
   here = record { deeds = ds; node = old }
 
-  pub sent_served : (sends : List (ℕ × Reply)) (now : List Deed) (seen : Seen) → seen ≡ seen_served → Does task old (Sent sends) es new → now ≡ ds ++ es → later ≡ ps ++ map (sent_from s) sends
+  pub sent_served : (sends : List (ℕ × Reply)) (now : List Deed) (seen : Seen) → seen ≡ seen_served
+      → Does task old (Sent sends) es new → now ≡ ds ++ es → later ≡ ps ++ map (sent_from s) sends
       → Serves task s was ps (Ok seen) (record { deeds = now; node = new }) later
   sent_served sends now seen seen_is done now_is packets = subst (λ v. Serves task s v ps (Ok seen) (record { deeds = now; node = new }) later) was_is (record {
     answer = Sent sends;
@@ -78,8 +80,10 @@ module _ (task : Task) (s : ℕ) (was : Server) (ds : List Deed) (old new : Node
   })
 
 -- A node took a message: the deed that was reported is the one that it did.
-pub took : Learned → (s c : ℕ) (m : Message) (was : Server) (ds : List Deed) (old new : Node) → (let server : Server = record { deeds = ds; node = old } in server) ≡ was → (ps later : List Packet)
-    → (sends : List (ℕ × Reply)) (last : ℕ) (deed : Option Deed) (now : List Deed) (seen : Seen) → seen ≡ seen_served → IsSound was.deeds was.node → Handles old c m (Sent sends) new
+pub took : Learned → (s c : ℕ) (m : Message) (was : Server) (ds : List Deed) (old new : Node)
+    → (let server : Server = record { deeds = ds; node = old } in server) ≡ was → (ps later : List Packet)
+    → (sends : List (ℕ × Reply)) (last : ℕ) (deed : Option Deed) (now : List Deed) (seen : Seen)
+    → seen ≡ seen_served → IsSound was.deeds was.node → Handles old c m (Sent sends) new
     → last ≡ last_number ds c → deed ≡ reported_deed c m last sends → now ≡ ds ++ option_to_list deed → later ≡ ps ++ map (sent_from s) sends
     → Serves (Takes c m) s was ps (Ok seen) (record { deeds = now; node = new }) later
 took learned s c m was ds old new was_is ps later sends last deed now seen seen_is sound works last_is deed_is now_is packets =

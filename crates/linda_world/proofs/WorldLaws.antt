@@ -29,13 +29,17 @@ is_run w spent reached = record { now = w; reached = reached; shown = same_shown
 pub reached_now : (w : World) → IsRun w → w.is_spent ≡ false → IsReached w.world
 reached_now w is unspent = subst IsReached (sym (is.whole unspent)) is.reached
 
-pub goes_on : (w new : run.World) (was spent : Bool) (event : WorldEvent) (told : Told) → IsRun (record { world = w; is_spent = was }) → was ≡ false → (refusal w event ≡ None) × steps.Steps w event told new → IsRun (record { world = new; is_spent = spent })
-goes_on w new was spent event told is unspent step = is_run new spent (goes w new event told (reached_now (record { world = w; is_spent = was }) is unspent) step.1)
+pub goes_on : (w new : run.World) (was spent : Bool) (event : WorldEvent) (told : Told) → IsRun (record { world = w; is_spent = was })
+    → was ≡ false → (refusal w event ≡ None) × steps.Steps w event told new → IsRun (record { world = new; is_spent = spent })
+goes_on w new was spent event told is unspent step =
+    is_run new spent (goes w new event told (reached_now (record { world = w; is_spent = was }) is unspent) step.1)
 
-pub joins_on : (w new : run.World) (was spent : Bool) (c : ℕ) → IsRun (record { world = w; is_spent = was }) → was ≡ false → HasJoined c w new → IsRun (record { world = new; is_spent = spent })
+pub joins_on : (w new : run.World) (was spent : Bool) (c : ℕ) → IsRun (record { world = w; is_spent = was })
+    → was ≡ false → HasJoined c w new → IsRun (record { world = new; is_spent = spent })
 joins_on w new was spent c is unspent joined = is_run new spent (joins w new c (reached_now (record { world = w; is_spent = was }) is unspent) joined)
 
-pub falls_short : (w new : run.World) (was : Bool) → IsRun (record { world = w; is_spent = was }) → IsShownAs w new → IsRun (record { world = new; is_spent = true })
+pub falls_short : (w new : run.World) (was : Bool) → IsRun (record { world = w; is_spent = was })
+    → IsShownAs w new → IsRun (record { world = new; is_spent = true })
 falls_short w new was is shown = record {
   now = is.now;
   reached = is.reached;
@@ -45,7 +49,8 @@ falls_short w new was is shown = record {
 
 -- After a fault: an event where the server is down took place, one that is refused changed nothing, and where memory ran
 -- out the world is spent.
-pub fails : (w new : run.World) (was spent : Bool) (event : WorldEvent) (fault : WorldFault) → IsRun (record { world = w; is_spent = was }) → was ≡ false → (fault ≡ faults.Memory → spent ≡ true) → Answers w event (Err fault) new → IsRun (record { world = new; is_spent = spent })
+pub fails : (w new : run.World) (was spent : Bool) (event : WorldEvent) (fault : WorldFault) → IsRun (record { world = w; is_spent = was })
+    → was ≡ false → (fault ≡ faults.Memory → spent ≡ true) → Answers w event (Err fault) new → IsRun (record { world = new; is_spent = spent })
 fails w new was spent event fault is unspent is_spent answer = by fault is_spent answer
   where
     stays : new ≡ w → IsRun (record { world = new; is_spent = spent })
@@ -62,7 +67,8 @@ fails w new was spent event fault is unspent is_spent answer = by fault is_spent
     by (faults.Client why) short told = stays told.1
 
 -- One event more.
-pub runs_more : (w mid new : World) (events : List WorldEvent) (event : WorldEvent) (seen : Seen) → Runs w events mid → Steps mid event (Ok seen) new → Runs w (events ++ event ∷ []) new
+pub runs_more : (w mid new : World) (events : List WorldEvent) (event : WorldEvent) (seen : Seen)
+    → Runs w events mid → Steps mid event (Ok seen) new → Runs w (events ++ event ∷ []) new
 runs_more w mid new [] event seen same step = (seen, (new, (subst (λ v. Steps v event (Ok seen) new) same step, refl)))
 runs_more w mid new (x ∷ xs) event seen run step = (run.0, (run.1.0, (run.1.1.0, runs_more run.1.0 mid new xs event seen run.1.1.1 step)))
 
@@ -93,5 +99,7 @@ pub shown_unchanged : (old new : run.World) → new ≡ old → IsShownAs old ne
 shown_unchanged old new same = subst (IsShownAs old) (sym same) (same_shown old)
 
 -- Where one event is refused or goes wrong the others are not done.
-pub stops_at : (old mid new : World) (before later all : List WorldEvent) (event : WorldEvent) (fault : WorldFault) → all ≡ before ++ event ∷ later → Runs old before mid → Steps mid event (Err fault) new → StopsAt old all fault new
-stops_at old mid new before later all event fault parts runs step = record { before = before; event = event; later = later; parts = parts; mid = mid; runs = runs; step = step }
+pub stops_at : (old mid new : World) (before later all : List WorldEvent) (event : WorldEvent) (fault : WorldFault)
+    → all ≡ before ++ event ∷ later → Runs old before mid → Steps mid event (Err fault) new → StopsAt old all fault new
+stops_at old mid new before later all event fault parts runs step =
+    record { before = before; event = event; later = later; parts = parts; mid = mid; runs = runs; step = step }

@@ -1,6 +1,6 @@
 //! Scene of a world, its servers, clients and packets, and each event as one step of it.
 
-ghost use Rattle.std.specs.Prelude.{◌≡◌, ◌<◌, Some, [], ◌∷◌, length, IfOk, option_copied};
+ghost use Rattle.std.specs.Prelude.{◌≡◌, ◌<◌, [], ◌∷◌, length, IfOk, option_copied};
 ghost use Rattle.std.specs.Prelude.{map as map_list};
 ghost use Rattle.std.specs.Option.{option_map};
 ghost use Rattle.std.specs.List.{slice_get};
@@ -88,7 +88,7 @@ impl<N: Node> Scene<N> {
     }
 
     /// Adds a client.
-    pub(crate) fn add(&mut self, alloc: Global, number: u32) -> Result<(), WorldFault>
+    pub(crate) fn add_client(&mut self, alloc: Global, number: u32) -> Result<(), WorldFault>
         requires { IsReached self.old }
         ensures { AddsOrNot self.old number result self.new }
     {

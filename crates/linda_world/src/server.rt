@@ -1,6 +1,6 @@
 //! A server of a world: its node, and all that it has done.
 
-ghost use Rattle.std.specs.Prelude.{◌≡◌, ◌≤◌, [], ◌∷◌, IfOk, None};
+ghost use Rattle.std.specs.Prelude.{◌≡◌, [], ◌∷◌, IfOk, None};
 ghost use Rattle.linda_wire.specs.declared.refusal.Refusal.TheVariants as refusals;
 ghost use Rattle.linda_wire.specs.Refusal.{refused};
 ghost use Rattle.linda_store.specs.Sound.{IsSound};

@@ -1,6 +1,6 @@
 //! The world: its events one by one and in lists, and what it shows.
 
-ghost use Rattle.std.specs.Prelude.{◌≡◌, ◌≤◌, ◌<◌, [], Some, None, All, IfOk, OnOk, OnErr, true};
+ghost use Rattle.std.specs.Prelude.{◌≡◌, ◌≤◌, ◌<◌, [], Some, None, All, IfOk, true};
 ghost use Rattle.std.specs.Prelude.{false, length, option_copied};
 ghost use Rattle.std.specs.Prelude.{map as map_list};
 ghost use Rattle.std.specs.Option.{option_map};
@@ -81,7 +81,7 @@ impl<N: Node> World<N> {
         if self.spent {
             return Err(WorldFault::Memory);
         }
-        match self.scene.add(alloc, number) {
+        match self.scene.add_client(alloc, number) {
             Ok(()) => return Ok(()),
             Err(WorldFault::ClientKnown) => return Err(WorldFault::ClientKnown),
             Err(_) => {

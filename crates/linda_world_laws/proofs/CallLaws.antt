@@ -1,5 +1,7 @@
 -- What a call of a client leaves true of what it sent and asked before, and what is true of what it sends and is given now.
-use Rattle.std.proofs.Common.{◌≡◌, ℕ, ◌+◌, ◌-◌, ◌<◌, ◌≤◌, Bool, true, false, cond, List, [], All, Contains, option_to_list, ◌⊎◌, inl, inr, refl, sym, ap, ◌∙◌, subst, arith, slice_get, ltb-true, ltb-false}
+use Rattle.std.proofs.Common.{◌≡◌, ℕ, ◌+◌, ◌-◌, ◌<◌, ◌≤◌, Bool, true, false, cond, List, [], All, Contains}
+use Rattle.std.proofs.Common.{option_to_list, ◌⊎◌, inl, inr, refl, sym, ap, ◌∙◌, subst, arith, slice_get, ltb-true}
+use Rattle.std.proofs.Common.{ltb-false}
 use Rattle.std.specs.Prelude.{Option, Some, None, is_some, Ok, Err, IfSome, IsSomeAnd, nat_lt}
 use Rattle.std.proofs.lemmas.Option.{none-some, same_Some, slice_get_within}
 use Rattle.std.proofs.lemmas.List.Elements.{All-contains, All-get_or, All-nil, All-cons, All-map, All-weaker, Contains-push}
@@ -9,7 +11,7 @@ use Rattle.linda_wire.specs.declared.message.Message.{Message}
 use Rattle.linda_wire.specs.declared.message.Message.TheVariants as messages
 use Rattle.linda_wire.specs.declared.reply.Reply.{Reply}
 use Rattle.linda_wire.specs.declared.reply.Reply.TheVariants as replies
-use Rattle.linda_client.specs.declared.arrival.Accepted.{Accepted}
+use Rattle.linda_client.specs.declared.arrived_tuple.Accepted.{Accepted}
 use Rattle.linda_client.specs.declared.ask.Ask.{Ask}
 use Rattle.linda_client.specs.declared.fault.ClientFault.{ClientFault}
 use Rattle.linda_client.specs.declared.fault.ClientFault.TheVariants as faults
@@ -38,7 +40,8 @@ use Rattle.linda_world_laws.specs.Below.{OfCalls}
 pub open_range : (pending : Pending) (k : ℕ) (ask : Ask) → ask_at pending k ≡ Some ask → (pending.first ≤ k) × (k < pending.first + ticket_count pending)
 open_range pending k ask e = by (nat_lt k pending.first) refl e
   where
-    by : (b : Bool) → nat_lt k pending.first ≡ b → cond b None (slice_get (asks pending.event) (k - pending.first)) ≡ Some ask → (pending.first ≤ k) × (k < pending.first + ticket_count pending)
+    by : (b : Bool) → nat_lt k pending.first ≡ b → cond b None (slice_get (asks pending.event) (k - pending.first)) ≡ Some ask
+        → (pending.first ≤ k) × (k < pending.first + ticket_count pending)
     by true low f = absurd (none-some ask f)
     by false high f =
         let from : pending.first ≤ k = ltb-false k pending.first high in
@@ -68,7 +71,9 @@ pending_unanswered Left pending e = absurd (none-some pending e)
 pub accepted_unanswered : (c : Client) (pending : Pending) (a : Accepted) → pending_in c.task ≡ Some pending → pending.accepted ≡ Some a
     → IsUnanswered c a.server (messages.Accept a.n a.ticket a.id)
 accepted_unanswered c pending a e accepted =
-    subst (λ l. Contains {X = Packet} l (a.server, messages.Accept a.n a.ticket a.id)) (sym (pending_unanswered c.task pending e ∙ ap (λ o. option_to_list (accept_packet o)) accepted)) (Contains-push {X = Packet} [] (a.server, messages.Accept a.n a.ticket a.id))
+    subst (λ l. Contains {X = Packet} l (a.server, messages.Accept a.n a.ticket a.id))
+    (sym (pending_unanswered c.task pending e ∙ ap (λ o. option_to_list (accept_packet o)) accepted))
+    (Contains-push {X = Packet} [] (a.server, messages.Accept a.n a.ticket a.id))
 
 -- The number of a packet was used at its server.
 abbrev WasUsed : Client → Packet → Type 0
@@ -76,22 +81,27 @@ WasUsed c p = (n : ℕ) → number_of p.1 ≡ Some n → n < next_at c p.0
 
 accept_used : (c : Client) (o : Option Accepted) → IfSome o (λ a. IsUsed c a.server a.n) → All (WasUsed c) (option_to_list (accept_packet o))
 accept_used c None used = All-nil (WasUsed c)
-accept_used c (Some a) used = All-cons (WasUsed c) (a.server, messages.Accept a.n a.ticket a.id) [] (λ n e. subst (λ x. x < next_at c a.server) (same_Some a.n n e) used.1.1) (All-nil (WasUsed c))
+accept_used c (Some a) used = All-cons (WasUsed c) (a.server, messages.Accept a.n a.ticket a.id) []
+    (λ n e. subst (λ x. x < next_at c a.server) (same_Some a.n n e) used.1.1) (All-nil (WasUsed c))
 
-leaves_used : (c : Client) (leaves : List (ℕ × ℕ)) → All (λ (p : ℕ × ℕ). IsUsed c p.0 p.1 × (p.1 + 1 ≡ next_at c p.0)) leaves → All (WasUsed c) (leave_packets leaves)
+leaves_used : (c : Client) (leaves : List (ℕ × ℕ)) → All (λ (p : ℕ × ℕ). IsUsed c p.0 p.1 × (p.1 + 1 ≡ next_at c p.0)) leaves
+    → All (WasUsed c) (leave_packets leaves)
 leaves_used c leaves used =
     All-map (WasUsed c) (λ (p : ℕ × ℕ). (p.0, messages.Leave p.1)) leaves
-    (All-weaker (λ (p : ℕ × ℕ). IsUsed c p.0 p.1 × (p.1 + 1 ≡ next_at c p.0)) (λ (p : ℕ × ℕ). WasUsed c (p.0, messages.Leave p.1)) (λ p was n e. subst (λ x. x < next_at c p.0) (same_Some p.1 n e) was.0.1.1) leaves used)
+    (All-weaker (λ (p : ℕ × ℕ). IsUsed c p.0 p.1 × (p.1 + 1 ≡ next_at c p.0)) (λ (p : ℕ × ℕ). WasUsed c (p.0, messages.Leave p.1))
+    (λ p was n e. subst (λ x. x < next_at c p.0) (same_Some p.1 n e) was.0.1.1) leaves used)
 
 task_used : (c : Client) (t : Task) → IsTaskOf c t → All (WasUsed c) (unanswered t)
 task_used c Idle is = All-nil (WasUsed c)
-task_used c (Putting server m row) is = All-cons (WasUsed c) (server, messages.Out m row) [] (λ n e. subst (λ x. x < next_at c server) (same_Some m n e) is.1.1) (All-nil (WasUsed c))
+task_used c (Putting server m row) is = All-cons (WasUsed c) (server, messages.Out m row) []
+    (λ n e. subst (λ x. x < next_at c server) (same_Some m n e) is.1.1) (All-nil (WasUsed c))
 task_used c (Syncing pending) is = accept_used c pending.accepted is.accepted
 task_used c (Leaving leaves) is = leaves_used c leaves is.last
 task_used c Left is = All-nil (WasUsed c)
 
 -- A server has at most one message unanswered.
-one_accept : (o : Option Accepted) (s : ℕ) (k m : Message) → Contains (option_to_list (accept_packet o)) (s, k) → Contains (option_to_list (accept_packet o)) (s, m) → k ≡ m
+one_accept : (o : Option Accepted) (s : ℕ) (k m : Message) → Contains (option_to_list (accept_packet o)) (s, k)
+    → Contains (option_to_list (accept_packet o)) (s, m) → k ≡ m
 one_accept None s k m first second = nowhere {X = Packet} (s, k) first
 one_accept (Some a) s k m first second =
     let x : Packet = (a.server, messages.Accept a.n a.ticket a.id) in
@@ -101,10 +111,12 @@ one_accept (Some a) s k m first second =
 abbrev IsLastLeave : Client → Packet → Type 0
 IsLastLeave c p = p.1 ≡ messages.Leave (next_at c p.0 - 1)
 
-last_leaves : (c : Client) (leaves : List (ℕ × ℕ)) → All (λ (p : ℕ × ℕ). IsUsed c p.0 p.1 × (p.1 + 1 ≡ next_at c p.0)) leaves → All (IsLastLeave c) (leave_packets leaves)
+last_leaves : (c : Client) (leaves : List (ℕ × ℕ)) → All (λ (p : ℕ × ℕ). IsUsed c p.0 p.1 × (p.1 + 1 ≡ next_at c p.0)) leaves
+    → All (IsLastLeave c) (leave_packets leaves)
 last_leaves c leaves used =
     All-map (IsLastLeave c) (λ (p : ℕ × ℕ). (p.0, messages.Leave p.1)) leaves
-    (All-weaker (λ (p : ℕ × ℕ). IsUsed c p.0 p.1 × (p.1 + 1 ≡ next_at c p.0)) (λ (p : ℕ × ℕ). IsLastLeave c (p.0, messages.Leave p.1)) (λ p was. ap messages.Leave (before p.1 (next_at c p.0) was.1)) leaves used)
+    (All-weaker (λ (p : ℕ × ℕ). IsUsed c p.0 p.1 × (p.1 + 1 ≡ next_at c p.0)) (λ (p : ℕ × ℕ). IsLastLeave c (p.0, messages.Leave p.1))
+    (λ p was. ap messages.Leave (before p.1 (next_at c p.0) was.1)) leaves used)
   where
     before : (n next : ℕ) → n + 1 ≡ next → n ≡ next - 1
     before n next is = omega (arith, is)
@@ -173,7 +185,8 @@ module _ (c new : Client) (later : IsLater c new) where
     where
       by : (k : Message) → number_of k ≡ Some n → IsUnanswered c s k ⊎ (number_of k ≡ Some (next_at c s)) → k ≡ m
       by k number (inl was) = old.own k was number
-      by k number (inr next) = absurd (let low = old.used in let n_is : n ≡ next_at c s = same_Some n (next_at c s) (sym number ∙ next) in omega (arith, low, n_is))
+      by k number (inr next) =
+          absurd (let low = old.used in let n_is : n ≡ next_at c s = same_Some n (next_at c s) (sym number ∙ next) in omega (arith, low, n_is))
 
   pub said_still : (s : ℕ) (m : Message) → IsSaid s m c → IsSaid s m new
   said_still s (messages.Hello version client fresh) old = tt
@@ -250,9 +263,11 @@ module _ (laws : OfCalls) (c : Client) (call : Call) (r : Reaction) (is : IsClie
   sent_said s (messages.Cancel k) there = tt
   sent_said s (messages.Leave n) there = numbered_sent s n (messages.Leave n) there refl
   sent_said s (messages.Ask k remove template) there =
-      by (asked_in (pending_in r.client.task) k) refl (All-contains (IsSoundPacket r.client) r.packets (s, messages.Ask k remove template) (laws.packets c call r is answer) there).1
+      by (asked_in (pending_in r.client.task) k) refl
+      (All-contains (IsSoundPacket r.client) r.packets (s, messages.Ask k remove template) (laws.packets c call r is answer) there).1
     where
-      by : (o : Option Ask) → asked_in (pending_in r.client.task) k ≡ o → IsSomeAnd o (λ ask. (ask.remove ≡ remove) × (ask.template ≡ template)) → IsSaid s (messages.Ask k remove template) r.client
+      by : (o : Option Ask) → asked_in (pending_in r.client.task) k ≡ o
+          → IsSomeAnd o (λ ask. (ask.remove ≡ remove) × (ask.template ≡ template)) → IsSaid s (messages.Ask k remove template) r.client
       by None e never = absurd never
       by (Some ask) e same = record {
         below = open_used r.client r.client.task k ask (laws.kept c call r is answer).task e;
@@ -280,7 +295,8 @@ module _ (laws : OfCalls) (c : Client) (call : Call) (r : Reaction) (is : IsClie
         | inr on ↦ absurd (none-some o (sym on.silent ∙ e))
       ]
 
-      by_got : (base : ℕ) (got : Got) (labels raised : _) → r.outcome ≡ Some (Synced base got labels raised) → TakenBy c call (Some (Synced base got labels raised)) → (handed_by r.outcome ≡ None) ⊎ IsGiven
+      by_got : (base : ℕ) (got : Got) (labels raised : _) → r.outcome ≡ Some (Synced base got labels raised)
+          → TakenBy c call (Some (Synced base got labels raised)) → (handed_by r.outcome ≡ None) ⊎ IsGiven
       by_got base (Took server id row bindings) labels raised e t = inr (record {
         server = t.own.server;
         number = t.own.n;
@@ -288,7 +304,8 @@ module _ (laws : OfCalls) (c : Client) (call : Call) (r : Reaction) (is : IsClie
         id = t.own.id;
         tuple = row;
         call_is = t.answers;
-        handed = ap handed_by e ∙ ap (λ s. Some (record { server = s; id = id; tuple = row })) t.server_is ∙ ap (λ i. Some (record { server = t.own.server; id = i; tuple = row })) t.id_is;
+        handed = ap handed_by e ∙ ap (λ s. Some (record { server = s; id = id; tuple = row })) t.server_is
+            ∙ ap (λ i. Some (record { server = t.own.server; id = i; tuple = row })) t.id_is;
         was = accepted_unanswered c t.pending t.own t.pending_is t.accepted;
         over = idle_then t.pending _ e (subst (λ o. GoesOn c call o r) t.pending_is (laws.goes_on c call r is answer));
       })

@@ -1,8 +1,11 @@
 -- What comes to a server keeps the numbers of its deeds, its waits, its offers and its holds in order.
-use Rattle.std.proofs.Common.{◌≡◌, ◌≢◌, ℕ, ◌+◌, ◌<◌, ◌≤◌, ◌==◌, ◌&&◌, Bool, true, false, true≢false, List, [], ◌∷◌, ◌++◌, option_to_list, All, Contains, ◌⊎◌, inl, inr, refl, sym, ap, ◌∙◌, subst, arith, append-nil, eqb-true}
+use Rattle.std.proofs.Common.{◌≡◌, ◌≢◌, ℕ, ◌+◌, ◌<◌, ◌≤◌, ◌==◌, ◌&&◌, Bool, true, false, true≢false, List, [], ◌∷◌}
+use Rattle.std.proofs.Common.{◌++◌, option_to_list, All, Contains, ◌⊎◌, inl, inr, refl, sym, ap, ◌∙◌, subst, arith}
+use Rattle.std.proofs.Common.{append-nil, eqb-true}
 use Rattle.std.specs.Prelude.{Option, Some, None, is_some}
 use Rattle.std.proofs.lemmas.Option.{none-some, same_Some}
-use Rattle.std.proofs.lemmas.List.Elements.{All-nil, All-cons, All-head, All-tail, All-append, All-weaker, All-contains, All-contains_itself, Contains-append_left}
+use Rattle.std.proofs.lemmas.List.Elements.{All-nil, All-cons, All-head, All-tail, All-append, All-weaker, All-contains}
+use Rattle.std.proofs.lemmas.List.Elements.{All-contains_itself, Contains-append_left}
 use Rattle.std.specs.FinMap.{get}
 use Rattle.linda_tuple.specs.Tuple.{Tuple}
 use Rattle.linda_tuple.specs.Matching.{is_match}
@@ -31,7 +34,7 @@ use Rattle.linda_store_step.specs.Deeds.{last_in as last_number}
 use Rattle.linda_store_step.specs.Offers.{Seeks, HasTaker, MakesOffer, OffersWhatIsSought}
 use Rattle.linda_store.specs.Node.{Node, Sent as Gives, MayRemain, Works}
 use Rattle.linda_store.specs.Sound.{IsSound}
-use Rattle.linda_client.specs.declared.arrival.Accepted.{Accepted}
+use Rattle.linda_client.specs.declared.arrived_tuple.Accepted.{Accepted}
 use Rattle.linda_client.specs.Client.{Client}
 use Rattle.linda_client.specs.Numbers.{IsUnanswered}
 use Rattle.linda_client.specs.Offers.{InHand}
@@ -67,20 +70,24 @@ module _ (laws : OfSteps) (ms : Members) (s : ℕ) where
     holds = (said_numbered s (number_of d) m is.member.client of.number is.holds).used;
   }
 
-  used_first : (st new : State) (soft : Soft) (x : Coming) (a : Answer) → IsOrderly st soft → IsSpoken ms s x → Comes st soft x a new → All (IsUsedBy ms s) (option_to_list a.deed)
-  used_first st new soft (hangs_up c) a orderly spoken comes = subst (λ (b : Answer). All (IsUsedBy ms s) (option_to_list b.deed)) (sym comes.0) (All-nil (IsUsedBy ms s))
+  used_first : (st new : State) (soft : Soft) (x : Coming) (a : Answer) → IsOrderly st soft
+      → IsSpoken ms s x → Comes st soft x a new → All (IsUsedBy ms s) (option_to_list a.deed)
+  used_first st new soft (hangs_up c) a orderly spoken comes =
+      subst (λ (b : Answer). All (IsUsedBy ms s) (option_to_list b.deed)) (sym comes.0) (All-nil (IsUsedBy ms s))
   used_first st new soft (says c m) a orderly spoken comes = by a.deed refl
     where
       by : (o : Option Deed) → a.deed ≡ o → All (IsUsedBy ms s) (option_to_list o)
       by None e = All-nil (IsUsedBy ms s)
-      by (Some d) e = All-cons (IsUsedBy ms s) d [] (used_deed c m a.soft d spoken (laws.step_deed st new c soft m a d orderly.soft_is.there comes e)) (All-nil (IsUsedBy ms s))
+      by (Some d) e = All-cons (IsUsedBy ms s) d []
+          (used_deed c m a.soft d spoken (laws.step_deed st new c soft m a d orderly.soft_is.there comes e)) (All-nil (IsUsedBy ms s))
 
   orderly_then : (st new : State) (soft : Soft) (x : Coming) (a : Answer) → IsOrderly st soft → Comes st soft x a new → IsOrderly new a.soft
   orderly_then st new soft (says c m) a orderly comes = step_orderly st new soft c orderly m a comes
   orderly_then st new soft (hangs_up c) a orderly comes =
       subst (λ (t : State). IsOrderly t a.soft) (sym comes.1) (subst (λ (b : Answer). IsOrderly st b.soft) (sym comes.0) (close_orderly st soft c orderly))
 
-  used_all : (st : State) (soft : Soft) (xs : List Coming) (all : History) → IsOrderly st soft → All (IsSpoken ms s) xs → Happens st soft xs all → All (IsUsedBy ms s) all.deeds
+  used_all : (st : State) (soft : Soft) (xs : List Coming) (all : History) → IsOrderly st soft
+      → All (IsSpoken ms s) xs → Happens st soft xs all → All (IsUsedBy ms s) all.deeds
   used_all st soft [] all orderly spoken happens = subst (λ (a : History). All (IsUsedBy ms s) a.deeds) (sym happens) (All-nil (IsUsedBy ms s))
   used_all st soft (x ∷ xs) all orderly spoken happens =
       let first : Answer = happens.0 in
@@ -88,14 +95,17 @@ module _ (laws : OfSteps) (ms : Members) (s : ℕ) where
       subst (λ (a : History). All (IsUsedBy ms s) a.deeds) (sym happens.1.1.1.1.1)
       (All-append (IsUsedBy ms s) (option_to_list first.deed) later.deeds
       (used_first st happens.1.0 soft x first orderly (All-head (IsSpoken ms s) x xs spoken) happens.1.1.1.0)
-      (used_all happens.1.0 first.soft xs later (orderly_then st happens.1.0 soft x first orderly happens.1.1.1.0) (All-tail (IsSpoken ms s) x xs spoken) happens.1.1.1.1.0))
+      (used_all happens.1.0 first.soft xs later (orderly_then st happens.1.0 soft x first orderly happens.1.1.1.0)
+      (All-tail (IsSpoken ms s) x xs spoken) happens.1.1.1.1.0))
 
   -- So have some first ones of them.
   pub front_of : {X : Type 0} (P : X → Type 0) (front all : List X) → IsFront front all → All P all → All P front
   front_of P front all is every =
-      All-weaker (Contains front) P (λ x there. All-contains P all x every (subst (λ l. Contains l x) is.1 (Contains-append_left front is.0 x there))) front (All-contains_itself front)
+      All-weaker (Contains front) P (λ x there. All-contains P all x every (subst (λ l. Contains l x) is.1 (Contains-append_left front is.0 x there))) front
+      (All-contains_itself front)
 
-  pub used_left : (old : Node) (xs : List Coming) (ds : List Deed) → IsOrderly old.state old.soft → All (IsSpoken ms s) xs → MayRemain old xs ds → All (IsUsedBy ms s) ds
+  pub used_left : (old : Node) (xs : List Coming) (ds : List Deed) → IsOrderly old.state old.soft
+      → All (IsSpoken ms s) xs → MayRemain old xs ds → All (IsUsedBy ms s) ds
   used_left old xs ds orderly spoken left =
       front_of (IsUsedBy ms s) ds left.all.deeds left.front
       (used_all old.state old.soft left.first left.all orderly (front_of (IsSpoken ms s) left.first xs left.is_first spoken) left.happens)
@@ -125,7 +135,8 @@ single old x ds sends new happens =
     }
 
 -- A tuple that is in the bag before and after is the same.
-same_tuple : (st new : State) (ds : List Deed) (id : ℕ) (row later : Tuple) → IsState st → IsAfter st ds new → get st.bag id ≡ Some row → get new.bag id ≡ Some later → row ≡ later
+same_tuple : (st new : State) (ds : List Deed) (id : ℕ) (row later : Tuple) → IsState st → IsAfter st ds new
+    → get st.bag id ≡ Some row → get new.bag id ≡ Some later → row ≡ later
 same_tuple st new ds id row later is after was now = by (is_taken id ds) refl
   where
     by : (b : Bool) → is_taken id ds ≡ b → row ≡ later
@@ -136,7 +147,8 @@ same_tuple st new ds id row later is after was now = by (is_taken id ds) refl
 
 -- One thing comes to a server that is up.
 module _ (laws : OfSteps) (ms : Members) (ps : List Sent) (s : ℕ) (ds es : List Deed) (old new : Node) (x : Coming) (sends : List (ℕ × Reply))
-    (waited : IsWaitedFor ms ps s (record { deeds = ds; node = old })) (orderly : IsOrderly old.state old.soft) (spoken : IsSpoken ms s x) (one : IsSingle old x es sends new) where
+    (waited : IsWaitedFor ms ps s (record { deeds = ds; node = old })) (orderly : IsOrderly old.state old.soft)
+    (spoken : IsSpoken ms s x) (one : IsSingle old x es sends new) where
   answered : Answer
   answered = record { deed = one.deed; sends = sends; soft = new.soft }
 
@@ -144,7 +156,8 @@ module _ (laws : OfSteps) (ms : Members) (ps : List Sent) (s : ℕ) (ds es : Lis
   spreads_by (says c m) a t comes = laws.step_spreads old.state t old.soft c m a orderly.state_is comes
   spreads_by (hangs_up c) a t comes =
       subst (λ (u : State). OffersWhatIsSought u.bag (hangs_up c) old.soft a.sends a.soft) (sym comes.1)
-      (subst (λ (b : Answer). OffersWhatIsSought old.state.bag (hangs_up c) old.soft b.sends b.soft) (sym comes.0) (laws.close_spreads old.state.bag (hangs_up c) c old.soft))
+      (subst (λ (b : Answer). OffersWhatIsSought old.state.bag (hangs_up c) old.soft b.sends b.soft)
+      (sym comes.0) (laws.close_spreads old.state.bag (hangs_up c) c old.soft))
 
   spreads : OffersWhatIsSought new.state.bag x old.soft sends new.soft
   spreads = spreads_by x (record { deed = one.deed; sends = sends; soft = new.soft }) new.state one.comes
@@ -152,7 +165,8 @@ module _ (laws : OfSteps) (ms : Members) (ps : List Sent) (s : ℕ) (ds es : Lis
   after_by : (y : Coming) (a : Answer) (t : State) → Comes old.state old.soft y a t → IsAfter old.state (option_to_list a.deed) t
   after_by (says c m) a t comes = comes.state_is
   after_by (hangs_up c) a t comes =
-      subst (λ (b : Answer). IsAfter old.state (option_to_list b.deed) t) (sym comes.0) (subst (IsAfter old.state []) (sym comes.1) (none_after old.state orderly.state_is))
+      subst (λ (b : Answer). IsAfter old.state (option_to_list b.deed) t) (sym comes.0)
+      (subst (IsAfter old.state []) (sym comes.1) (none_after old.state orderly.state_is))
 
   -- what asks is of a client that asks so
   asks_so : (v : Wait) → Seeks old.soft x v → IsWaitOf ms v
@@ -173,26 +187,33 @@ module _ (laws : OfSteps) (ms : Members) (ps : List Sent) (s : ℕ) (ds es : Lis
         };
       })
 
-  held_suits : (id : ℕ) (request : Request) (row : Tuple) → get old.soft.holds id ≡ Some request → get new.state.bag id ≡ Some row → OfMember ms request.client (OfTicket request.ticket (Suits row))
+  held_suits : (id : ℕ) (request : Request) (row : Tuple) → get old.soft.holds id ≡ Some request
+      → get new.state.bag id ≡ Some row → OfMember ms request.client (OfTicket request.ticket (Suits row))
   held_suits id request row held there = by (get old.state.bag id) refl
     where
       by : (o : Option Tuple) → get old.state.bag id ≡ o → OfMember ms request.client (OfTicket request.ticket (Suits row))
       by None e = absurd (true≢false (sym (orderly.soft_is.there id (ap is_some held)) ∙ ap is_some e))
       by (Some was) e =
-          let same = same_tuple old.state new.state (option_to_list one.deed) id was row orderly.state_is (after_by x (record { deed = one.deed; sends = sends; soft = new.soft }) new.state one.comes) e there in
+          let same = same_tuple old.state new.state (option_to_list one.deed) id was row orderly.state_is
+          (after_by x (record { deed = one.deed; sends = sends; soft = new.soft }) new.state one.comes) e there in
           subst (λ t. OfMember ms request.client (OfTicket request.ticket (Suits t))) same (waited.fits id request was held e)
 
-  fits_then : (id : ℕ) (request : Request) (row : Tuple) → get new.soft.holds id ≡ Some request → get new.state.bag id ≡ Some row → OfMember ms request.client (OfTicket request.ticket (Suits row))
+  fits_then : (id : ℕ) (request : Request) (row : Tuple) → get new.soft.holds id ≡ Some request
+      → get new.state.bag id ≡ Some row → OfMember ms request.client (OfTicket request.ticket (Suits row))
   fits_then id request row held there = by (spreads.holds id request held)
     where
-      by : (get old.soft.holds id ≡ Some request) ⊎ MakesOffer new.state.bag old.soft x sends id request → OfMember ms request.client (OfTicket request.ticket (Suits row))
+      by : (get old.soft.holds id ≡ Some request) ⊎ MakesOffer new.state.bag old.soft x sends id request
+          → OfMember ms request.client (OfTicket request.ticket (Suits row))
       by (inl was) = held_suits id request row was there
-      by (inr offered) = subst (λ t. OfMember ms request.client (OfTicket request.ticket (Suits t))) (same_Some offered.tuple row (sym offered.there ∙ there)) (wanted_suits request offered.tuple offered.taker)
+      by (inr offered) = subst (λ t. OfMember ms request.client (OfTicket request.ticket (Suits t)))
+          (same_Some offered.tuple row (sym offered.there ∙ there)) (wanted_suits request offered.tuple offered.taker)
 
-  offer_suits : (request : Request) (id : ℕ) (row : Tuple) → Contains sends (request.client, replies.Offer request.ticket id row) → OfMember ms request.client (OfTicket request.ticket (Suits row))
+  offer_suits : (request : Request) (id : ℕ) (row : Tuple) → Contains sends (request.client, replies.Offer request.ticket id row)
+      → OfMember ms request.client (OfTicket request.ticket (Suits row))
   offer_suits request id row there = by (spreads.offers request id row there)
     where
-      by : ((get old.soft.holds id ≡ Some request) × (get new.state.bag id ≡ Some row)) ⊎ HasTaker old.soft x request row → OfMember ms request.client (OfTicket request.ticket (Suits row))
+      by : ((get old.soft.holds id ≡ Some request) × (get new.state.bag id ≡ Some row)) ⊎ HasTaker old.soft x request row
+          → OfMember ms request.client (OfTicket request.ticket (Suits row))
       by (inl held) = held_suits id request row held.0 held.1
       by (inr wanted) = wanted_suits request row wanted
 
@@ -224,11 +245,13 @@ module _ (laws : OfSteps) (ms : Members) (ps : List Sent) (s : ℕ) (ds es : Lis
         none e = subst (λ l. last_number l c < a.n) (sym (ap (λ l. ds ++ l) e ∙ append-nil ds)) low
 
         -- the message whose deed this is would be the Accept, which is let go
-        let_go : (y : ℕ) (m : Message) (d : Deed) → y ≡ c → OfMember ms y (IsSaid s m) → number_of_message m ≡ Some (number_of d) → a.n ≡ number_of d → LetsGo y m new.soft → ⊥
+        let_go : (y : ℕ) (m : Message) (d : Deed) → y ≡ c → OfMember ms y (IsSaid s m)
+            → number_of_message m ≡ Some (number_of d) → a.n ≡ number_of d → LetsGo y m new.soft → ⊥
         let_go y m d y_is is number same gone =
             let member_is : is.member ≡ member = same_Some is.member member (sym is.known ∙ ap (get ms) y_is ∙ known) in
             let said = said_numbered s (number_of d) m is.member.client number is.holds in
-            let waits : IsUnanswered is.member.client s (messages.Accept a.n k id) = subst (λ (m : Member). IsUnanswered m.client s (messages.Accept a.n k id)) (sym member_is) awaits in
+            let waits : IsUnanswered is.member.client s (messages.Accept a.n k id) =
+            subst (λ (m : Member). IsUnanswered m.client s (messages.Accept a.n k id)) (sym member_is) awaits in
             let m_is : messages.Accept a.n k id ≡ m = said.own (messages.Accept a.n k id) waits (ap (λ n. Some n) same) in
             subst (λ z. LetsGo y z new.soft) (sym m_is) gone (held ∙ ap (λ z. Some (request_of z k)) (sym y_is))
 
@@ -260,15 +283,19 @@ module _ (laws : OfSteps) (ms : Members) (ps : List Sent) (s : ℕ) (ds es : Lis
             absurd (none-some deed (sym (ap (λ (b : Answer). b.deed) closed.0) ∙ e))
         by (says y m) x_is (Some d) e =
             let step = subst (λ z. Comes old.state old.soft z (record { deed = one.deed; sends = sends; soft = new.soft }) new.state) x_is one.comes in
-            done y m d x_is e (laws.step_deed old.state new.state y old.soft m (record { deed = one.deed; sends = sends; soft = new.soft }) d orderly.soft_is.there step e)
+            done y m d x_is e (laws.step_deed old.state new.state y old.soft m
+            (record { deed = one.deed; sends = sends; soft = new.soft }) d orderly.soft_is.there step e)
 
     -- What is held then has a reason, where packets stay and those that are sent are among them.
-    held_then : (news : List Sent) → ((r : Request) → HasCancel ps s r → HasCancel news s r) → ((r : Request) (id : ℕ) → HasOffer ps s ds r id → HasOffer news s (ds ++ es) r id)
-        → ((r : Request) (id : ℕ) (row : Tuple) → IsPut (ds ++ es) id row → Contains sends (r.client, replies.Offer r.ticket id row) → HasOffer news s (ds ++ es) r id)
+    held_then : (news : List Sent) → ((r : Request) → HasCancel ps s r → HasCancel news s r)
+        → ((r : Request) (id : ℕ) → HasOffer ps s ds r id → HasOffer news s (ds ++ es) r id)
+        → ((r : Request) (id : ℕ) (row : Tuple) → IsPut (ds ++ es) id row
+        → Contains sends (r.client, replies.Offer r.ticket id row) → HasOffer news s (ds ++ es) r id)
         → (id : ℕ) (request : Request) → get new.soft.holds id ≡ Some request → HasReason ms news s (ds ++ es) id request
     held_then news cancels offers offered id request held = by (spreads.holds id request held)
       where
-        in_hand : OfMember ms request.client (HasInHand s (last_number ds request.client) request.ticket id) → OfMember ms request.client (HasInHand s (last_number (ds ++ es) request.client) request.ticket id)
+        in_hand : OfMember ms request.client (HasInHand s (last_number ds request.client) request.ticket id)
+            → OfMember ms request.client (HasInHand s (last_number (ds ++ es) request.client) request.ticket id)
         in_hand is = record {
           member = is.member;
           known = is.known;
@@ -282,7 +309,8 @@ module _ (laws : OfSteps) (ms : Members) (ps : List Sent) (s : ℕ) (ds es : Lis
           };
         }
           where
-            by_hand : InHand (λ a. last_number ds request.client < a.n) is.holds.pending s request.ticket id → InHand (λ a. last_number (ds ++ es) request.client < a.n) is.holds.pending s request.ticket id
+            by_hand : InHand (λ a. last_number ds request.client < a.n) is.holds.pending s request.ticket id
+                → InHand (λ a. last_number (ds ++ es) request.client < a.n) is.holds.pending s request.ticket id
             by_hand (inl saved) = inl saved
             by_hand (inr accepted) =
                 let a : Accepted = accepted.0.own in
@@ -304,20 +332,26 @@ module _ (laws : OfSteps) (ms : Members) (ps : List Sent) (s : ℕ) (ds es : Lis
         ]
 
     -- So the server is as it should be.
-    pub waited_then : (news : List Sent) → ((r : Request) → HasCancel ps s r → HasCancel news s r) → ((r : Request) (id : ℕ) → HasOffer ps s ds r id → HasOffer news s (ds ++ es) r id)
-        → ((r : Request) (id : ℕ) (row : Tuple) → IsPut (ds ++ es) id row → Contains sends (r.client, replies.Offer r.ticket id row) → HasOffer news s (ds ++ es) r id)
+    pub waited_then : (news : List Sent) → ((r : Request) → HasCancel ps s r → HasCancel news s r)
+        → ((r : Request) (id : ℕ) → HasOffer ps s ds r id → HasOffer news s (ds ++ es) r id)
+        → ((r : Request) (id : ℕ) (row : Tuple) → IsPut (ds ++ es) id row
+        → Contains sends (r.client, replies.Offer r.ticket id row) → HasOffer news s (ds ++ es) r id)
         → IsWaitedFor ms news s (record { deeds = ds ++ es; node = new })
     waited_then news cancels offers offered = record {
-      waits = All-weaker (Contains new.soft.waits) (IsWaitOf ms) (λ v there. asks_so v (spreads.waits v there)) new.soft.waits (All-contains_itself new.soft.waits);
+      waits = All-weaker (Contains new.soft.waits) (IsWaitOf ms) (λ v there. asks_so v (spreads.waits v there)) new.soft.waits
+          (All-contains_itself new.soft.waits);
       fits = fits_then;
       held = held_then news cancels offers offered;
     }
 
 -- The deed of a message is the one that the deeds of before and what is sent give.
-pub learned : ((st new : State) (c : ℕ) (old : Soft) (m : Message) (answered : Answer) → IsState st → IsStep st old c m answered new → answered.deed ≡ reported_deed c m (number_in (get st.book c)) answered.sends)
-    → (ds es : List Deed) (old new : Node) (c : ℕ) (m : Message) (sends : List (ℕ × Reply)) → IsSound ds old → Works old (says c m ∷ []) (Gives sends) es new → es ≡ option_to_list (reported_deed c m (last_number ds c) sends)
+pub learned : ((st new : State) (c : ℕ) (old : Soft) (m : Message) (answered : Answer) → IsState st
+    → IsStep st old c m answered new → answered.deed ≡ reported_deed c m (number_in (get st.book c)) answered.sends)
+    → (ds es : List Deed) (old new : Node) (c : ℕ) (m : Message) (sends : List (ℕ × Reply)) → IsSound ds old
+    → Works old (says c m ∷ []) (Gives sends) es new → es ≡ option_to_list (reported_deed c m (last_number ds c) sends)
 learned told ds es old new c m sends sound done =
     let one = single old (says c m) es sends new done.happens in
     one.deeds_are
-    ∙ ap option_to_list (told old.state new.state c old.soft m (record { deed = one.deed; sends = sends; soft = new.soft }) (sound.orderly done.was_up).state_is one.comes)
+    ∙ ap option_to_list (told old.state new.state c old.soft m (record { deed = one.deed; sends = sends; soft = new.soft })
+    (sound.orderly done.was_up).state_is one.comes)
     ∙ ap (λ o. option_to_list (reported_deed c m (number_in o) sends)) (sound.after.book c)

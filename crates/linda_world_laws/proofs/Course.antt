@@ -35,7 +35,8 @@ pub data Course (w : World) (told : Told) (new : World) : Type 0 where
   reacts : (call : Call) (c : ℕ) (ks : List ℕ) → IsCalled w call c ks → HasReacted call c ks w told new → Course w told new
   serves : (task : Task) (s : ℕ) (ks : List ℕ) → IsAsked w task s ks → HasServed task s ks w told new → Course w told new
 
-carries : (w new : World) (told : Told) (k : ℕ) (p : Packet) (body : Body) → slice_get w.packets k ≡ Some p → p.body ≡ body → Carries body p k w told new → Course w told new
+carries : (w new : World) (told : Told) (k : ℕ) (p : Packet) (body : Body) → slice_get w.packets k ≡ Some p
+    → p.body ≡ body → Carries body p k w told new → Course w told new
 carries w new told k p (bodies.Message m) there body step = serves (Takes p.client m) p.server (k ∷ []) (takes k p m there body) step
 carries w new told k p (bodies.Reply r) there body step = reacts (Receive p.server r) p.client (k ∷ []) (carried k p r there body) step
 
@@ -54,7 +55,8 @@ course w new (events.Resend c) told step = reacts Resend c [] (own Resend c (λ 
 course w new (events.Reconnect c s) told step = reacts (calls.Reconnected s) c [] (own (calls.Reconnected s) c (λ t r e. cc)) step
 course w new (events.Close s c) told step = serves (HangsUp c) s [] (hangs_up c s) step
 course w new (events.Snapshot s) told step = serves Saves s [] (saves s) step
-course w new (events.Stop s packets at torn) told step = serves (Halts (comings step.messages)) s packets.items (halts s packets.items step.messages step.in_hand) step.halted
+course w new (events.Stop s packets at torn) told step =
+    serves (Halts (comings step.messages)) s packets.items (halts s packets.items step.messages step.in_hand) step.halted
 course w new (events.StopSnapshot s at torn) told step = serves (Halts []) s [] (halts s [] [] refl) step
 
 -- A reply that a client receives is one of the packets, and reports what was done.
@@ -65,10 +67,12 @@ received_told w call c ks (carried k p r there body) backed s x e tells =
     let s_is : p.server ≡ s = cc in
     let r_is : r ≡ x = cc in
     let told = subst (IsBacked w.servers p.server p.client) body (of_one (IsBacked w.servers) w.packets k p backed there) in
-    subst (λ y. OfServer w.servers s (λ ds. ReportsOne ds p.client y)) r_is (subst (λ t. OfServer w.servers t (λ ds. ReportsOne ds p.client r)) s_is (told (ap reports_deed r_is ∙ tells)))
+    subst (λ y. OfServer w.servers s (λ ds. ReportsOne ds p.client y)) r_is
+    (subst (λ t. OfServer w.servers t (λ ds. ReportsOne ds p.client r)) s_is (told (ap reports_deed r_is ∙ tells)))
 
 -- A reply that is on its way stays as it was, or is the one that the client receives.
-pub received_or_same : (w : World) (call : Call) (c : ℕ) (ks : List ℕ) → IsCalled w call c ks → (p : Packet) (r : Reply) → p.body ≡ bodies.Reply r → Contains w.packets p
+pub received_or_same : (w : World) (call : Call) (c : ℕ) (ks : List ℕ) → IsCalled w call c ks
+    → (p : Packet) (r : Reply) → p.body ≡ bodies.Reply r → Contains w.packets p
     → Contains (delivered ks w.packets) p ⊎ ((p.client ≡ c) × (call ≡ Receive p.server r))
 received_or_same w call c ks (own _ _ none) p r body there = inl there
 received_or_same w call c ks (carried k q x at q_body) p r body there = elim (same_or_delivered k w.packets p there) [

@@ -45,14 +45,16 @@ pub record IsStillThere (ps : List Packet) (p : Packet) : Type 0 where
   pub is_delivered : Bool
   pub there : Contains ps (record p { delivered = is_delivered })
 
-one_there : (k i : ℕ) (ps : List Packet) (p : Packet) → slice_get ps i ≡ Some p → (b : Bool) × (slice_get (delivered_at k ps) i ≡ Some (record p { delivered = b }))
+one_there : (k i : ℕ) (ps : List Packet) (p : Packet) → slice_get ps i ≡ Some p
+    → (b : Bool) × (slice_get (delivered_at k ps) i ≡ Some (record p { delivered = b }))
 one_there k i [] p there = absurd (none-some p there)
 one_there zero zero (q ∷ ps) p there = (true, ap (λ (x : Packet). Some (record x { delivered = true })) (same_Some q p there))
 one_there (suc k) zero (q ∷ ps) p there = (p.delivered, there)
 one_there zero (suc i) (q ∷ ps) p there = (p.delivered, there)
 one_there (suc k) (suc i) (q ∷ ps) p there = one_there k i ps p there
 
-all_there : (ks : List ℕ) (i : ℕ) (ps : List Packet) (p : Packet) → slice_get ps i ≡ Some p → (b : Bool) × (slice_get (delivered ks ps) i ≡ Some (record p { delivered = b }))
+all_there : (ks : List ℕ) (i : ℕ) (ps : List Packet) (p : Packet) → slice_get ps i ≡ Some p
+    → (b : Bool) × (slice_get (delivered ks ps) i ≡ Some (record p { delivered = b }))
 all_there [] i ps p there = (p.delivered, there)
 all_there (k ∷ ks) i ps p there =
     let one = one_there k i ps p there in
@@ -88,7 +90,8 @@ messages_still ps s j [] ms are = are
 messages_still ps s j (k ∷ ks) [] are = absurd are
 messages_still ps s j (k ∷ ks) (m ∷ ms) are = (message_still ps s j k m are.0, messages_still ps s j ks ms are.1)
 
-pub unmoved : (ps : List Packet) (s : ℕ) (ks : List ℕ) (ms : List (ℕ × Message)) → AreMessagesAt ps s ks ms → (p : Packet) → ((m : Message) → p.body ≡ bodies.Message m → ⊥) → Contains ps p → Contains (delivered ks ps) p
+pub unmoved : (ps : List Packet) (s : ℕ) (ks : List ℕ) (ms : List (ℕ × Message)) → AreMessagesAt ps s ks ms
+    → (p : Packet) → ((m : Message) → p.body ≡ bodies.Message m → ⊥) → Contains ps p → Contains (delivered ks ps) p
 unmoved ps s [] ms are p apart there = there
 unmoved ps s (k ∷ ks) [] are p apart there = absurd are
 unmoved ps s (k ∷ ks) (m ∷ ms) are p apart there =

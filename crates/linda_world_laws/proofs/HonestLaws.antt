@@ -1,18 +1,17 @@
 -- Each step keeps a world honest, and what is honest is safe.
-use Rattle.std.proofs.Common.{◌≡◌, ◌≢◌, ℕ, ◌≤◌, true, true≢false, List, [], ◌∷◌, ◌++◌, length, option_to_list, Contains, slice_get, set, ◌⊎◌, inl, inr, refl, sym, ap, ◌∙◌, subst, arith, append-nil, append_assoc}
-use Rattle.std.specs.Prelude.{Some, None, IfSome, Result, Ok, Err, option_map}
+use Rattle.std.proofs.Common.{◌≡◌, ◌≢◌, ℕ, ◌≤◌, true, true≢false, List, [], ◌∷◌, ◌++◌, length, option_to_list, Contains}
+use Rattle.std.proofs.Common.{slice_get, set, ◌⊎◌, inl, inr, refl, sym, ap, ◌∙◌, subst, arith, append-nil}
+use Rattle.std.specs.Prelude.{Some, None, IfSome, Ok, Err, option_map}
 use Rattle.std.proofs.lemmas.Option.{none-some, same_Some}
 use Rattle.std.proofs.lemmas.List.{length-set}
-use Rattle.std.proofs.lemmas.List.Elements.{All-nil, All-cons, All-weaker, All-contains, All-contains_itself, Contains-append_left, Contains-push_cases}
+use Rattle.std.proofs.lemmas.List.Elements.{All-nil, All-weaker, All-contains, All-contains_itself, Contains-push_cases}
 use Rattle.std.specs.FinMap.{get}
 use Rattle.linda_client.specs.declared.limits.TheConstants.{MAX_SERVERS}
-use Rattle.linda_maps.proofs.MapLaws.{get_empty}
+use Rattle.linda_map_laws.proofs.MapLaws.{get_empty}
 use Rattle.linda_wire.specs.declared.message.Message.{Message}
 use Rattle.linda_wire.specs.declared.message.Message.TheVariants as messages
 use Rattle.linda_wire.specs.declared.reply.Reply.{Reply}
 use Rattle.linda_wire.specs.declared.reply.Reply.TheVariants as replies
-use Rattle.linda_wire.specs.declared.refusal.Refusal.TheVariants as refusals
-use Rattle.linda_wire.specs.Refusal.{refused}
 use Rattle.linda_store_state.specs.declared.deed.Deed.{Deed}
 use Rattle.linda_store_state.specs.declared.deed.Deed.TheVariants.{Take}
 use Rattle.linda_store_state.specs.State.{empty_state}
@@ -23,14 +22,11 @@ use Rattle.linda_store_state.proofs.StateLaws.{empty_is_state}
 use Rattle.linda_store_state.proofs.AfterLaws.{none_after}
 use Rattle.linda_store_state.proofs.ProperLaws.{none_proper}
 use Rattle.linda_store_step.specs.Store.{IsOrderly}
-use Rattle.linda_store_step.specs.History.{says}
 use Rattle.linda_store_step.proofs.OrderLaws.{no_asks_orderly}
 use Rattle.linda_store_step.specs.Replies.{reports_deed, ReportsOne}
 use Rattle.linda_store_step.specs.Deeds.{HandsOver}
-use Rattle.linda_store.specs.declared.node.NodeFault.{NodeFault}
-use Rattle.linda_store.specs.declared.node.NodeFault.TheVariants as faults
-use Rattle.linda_store.specs.Node.{Node, NodeAnswer, Sent, IsFull, IsDown, Works, Closes}
-use Rattle.linda_store.specs.Sound.{IsSound, AreBacked}
+use Rattle.linda_store.specs.Node.{NodeAnswer, Sent, IsFull, IsDown}
+use Rattle.linda_store.specs.Sound.{IsSound}
 use Rattle.linda_client.specs.Client.{Client, IsClient, next_at}
 use Rattle.linda_client.specs.Packets as packets
 use Rattle.linda_client.specs.Numbers.{number_of, IsUnanswered}
@@ -42,7 +38,7 @@ use Rattle.linda_world_laws.specs.declared.packet.Body.TheVariants as bodies
 use Rattle.linda_world_laws.specs.declared.packet.Packet.{Packet}
 use Rattle.linda_world_laws.specs.World.{Server, Member, World, handed_by, place_of, given_by, member_then, sent_by, sent_from}
 use Rattle.linda_world_laws.specs.declared.seen.Seen.{Seen}
-use Rattle.linda_world_laws.specs.Steps.{Told, Task, Takes, HangsUp, Saves, Halts, served, silent, Does, sends_of, HasReacted, HasServed, HasJoined, Steps}
+use Rattle.linda_world_laws.specs.Steps.{Told, Task, served, sends_of, HasReacted, HasServed, HasJoined, Steps}
 use Rattle.linda_world_laws.specs.Reached.{IsNew, IsStart, IsReached, begins, joins, goes}
 use Rattle.linda_world_laws.specs.Promises.{OfEach, IsOnce, OfServer, DeedsStay, IsRightful, IsBacked, IsGone, OfPackets, IsSafe, IsHanded}
 use Rattle.linda_world_laws.specs.Honest.{IsEarned, IsHonest}
@@ -51,81 +47,7 @@ use Rattle.linda_world_laws.proofs.PlaceLaws.{set_there, each_of_set, each_of_in
 use Rattle.linda_world_laws.proofs.DeliverLaws.{of_more}
 use Rattle.linda_world_laws.proofs.CallLaws.{rises, unanswered_from, IsGiven, given_now, given_used}
 use Rattle.linda_world_laws.proofs.Course.{IsCalled, Course, reacts, serves, course, received_told}
-
--- nothing that is reported, and what is sent where there is no room
-backed_none : (ds : List Deed) → AreBacked ds []
-backed_none ds = All-nil (λ (send : ℕ × Reply). reports_deed send.1 ≡ true → ReportsOne ds send.0 send.1)
-
-backed_full : (ds : List Deed) (c : ℕ) → AreBacked ds ((c, refused refusals.Full) ∷ [])
-backed_full ds c = All-cons (λ (send : ℕ × Reply). reports_deed send.1 ≡ true → ReportsOne ds send.0 send.1) (c, refused refusals.Full) [] (λ tells. absurd (true≢false (sym tells))) (backed_none ds)
-
-silent_sends : {A : Type 0} (task : Task) (result : Result A NodeFault) → sends_of task IsFull ≡ [] → sends_of task (silent result) ≡ []
-silent_sends task (Ok done) none = refl
-silent_sends task (Err faults.Full) none = none
-silent_sends task (Err faults.Down) none = refl
-
--- What a server is asked leaves it sound, and what it sends reports only its deeds.
-module _ (laws : OfSound) (ds es : List Deed) (old new : Node) (answer : NodeAnswer) (sound : IsSound ds old) where
-  pub does_sound : (task : Task) → Does task old answer es new → IsSound (ds ++ es) new
-  does_sound (Takes c m) does = laws.works ds es old new (says c m ∷ []) answer sound does
-  does_sound (HangsUp c) does = subst (λ l. IsSound l new) (sym (ap (λ l. ds ++ l) does.1 ∙ append-nil ds)) (laws.closes ds old new c answer sound does.0)
-  does_sound Saves does = subst (λ l. IsSound l new) (sym (ap (λ l. ds ++ l) does.1.1.1 ∙ append-nil ds)) (laws.snaps ds old new does.0 sound does.1.0)
-  does_sound (Halts xs) does = subst (λ l. IsSound (ds ++ l) new) (sym does.1.1.1) (laws.stops ds old new xs does.0 sound does.1.0)
-
-  silent_backed : (sends : List (ℕ × Reply)) → sends ≡ [] → AreBacked (ds ++ es) sends
-  silent_backed sends none = subst (AreBacked (ds ++ es)) (sym none) (backed_none (ds ++ es))
-
-  pub does_backed : (task : Task) → Does task old answer es new → AreBacked (ds ++ es) (sends_of task answer)
-  does_backed (Takes c m) does = by answer does
-    where
-      by : (a : NodeAnswer) → Works old (says c m ∷ []) a es new → AreBacked (ds ++ es) (sends_of (Takes c m) a)
-      by (Sent sends) done = laws.works_backed ds es old new (says c m ∷ []) sends sound done
-      by IsFull none = backed_full (ds ++ es) c
-      by IsDown went = backed_none (ds ++ es)
-  does_backed (HangsUp c) does = by answer does.0
-    where
-      by : (a : NodeAnswer) → Closes old c a new → AreBacked (ds ++ es) (sends_of (HangsUp c) a)
-      by (Sent sends) done = subst (λ l. AreBacked l sends) (sym (ap (λ l. ds ++ l) does.1 ∙ append-nil ds)) (laws.closes_backed ds old new c sends sound done)
-      by IsFull never = absurd never
-      by IsDown went = backed_none (ds ++ es)
-  does_backed Saves does = silent_backed (sends_of Saves answer) (ap (sends_of Saves) does.1.1.0 ∙ silent_sends Saves does.0 refl)
-  does_backed (Halts xs) does = silent_backed (sends_of (Halts xs) answer) (ap (sends_of (Halts xs)) does.1.1.0 ∙ silent_sends (Halts xs) does.0 refl)
-
--- What was reported and earned stays so while deeds stay.
-module _ (w new : World) (stay : DeedsStay w new) where
-  of_server_still : (P : List Deed → Type 0) → ((ds more : List Deed) → P ds → P (ds ++ more)) → (s : ℕ) → OfServer w.servers s P → OfServer new.servers s P
-  of_server_still P more s old =
-      let now = stay s old.0 old.1.0 in
-      (now.0, (now.1.0, subst P (sym now.1.1.1) (more old.0.deeds now.1.1.0 old.1.1)))
-
-  backed_still : (s c : ℕ) (body : Body) → IsBacked w.servers s c body → IsBacked new.servers s c body
-  backed_still s c (bodies.Message m) old = tt
-  backed_still s c (bodies.Reply r) old = λ tells. of_server_still (λ ds. ReportsOne ds c r) later s (old tells)
-    where
-      later : (ds more : List Deed) → ReportsOne ds c r → ReportsOne (ds ++ more) c r
-      later ds more is = record {
-        before = is.before;
-        deed = is.deed;
-        later = is.later ++ more;
-        parts = ap (λ l. l ++ more) is.parts ∙ append_assoc is.before (is.deed ∷ is.later) more;
-        client = is.client;
-        reply = is.reply;
-      }
-
-  earned_still : (c : ℕ) (client : Client) (pair : ℕ × ℕ) → IsEarned w.servers c client pair → IsEarned new.servers c client pair
-  earned_still c client pair old =
-      let now = stay pair.0 old.server old.there in
-      record {
-        server = now.0;
-        there = now.1.0;
-        number = old.number;
-        taken = subst (λ l. Contains l (Take c old.number pair.1)) (sym now.1.1.1) (Contains-append_left old.server.deeds now.1.1.0 (Take c old.number pair.1) old.taken);
-        used = old.used;
-        over = old.over;
-      }
-
-same_stay : (w new : World) → new.servers ≡ w.servers → DeedsStay w new
-same_stay w new same s old there = (old, (ap (λ l. slice_get l s) same ∙ there, ([], sym (append-nil old.deeds))))
+use Rattle.linda_world_laws.proofs.StayLaws.{does_sound, does_backed, backed_still, earned_still, same_stay}
 
 served_stay : (task : Task) (s : ℕ) (ks : List ℕ) (w new : World) (told : Told) → HasServed task s ks w told new → DeedsStay w new
 served_stay task s ks w new told served k old there = by (same_or_apart k s)
@@ -135,9 +57,22 @@ served_stay task s ks w new told served k old there = by (same_or_apart k s)
 
     by : (k ≡ s) ⊎ (k ≢ s) → OfServer new.servers k (λ ds. (more : List Deed) × (ds ≡ old.deeds ++ more))
     by (inl same) =
-        let old_is : served.server ≡ old = same_Some served.server old (sym served.there ∙ ap (slice_get w.servers) (sym same) ∙ there) in
-        (after, (ap (λ l. slice_get l k) served.servers ∙ ap (slice_get (set w.servers s after)) same ∙ set_there w.servers s after served.server served.there, (served.deeds, ap (λ (v : Server). v.deeds ++ served.deeds) old_is)))
-    by (inr apart) = (old, (ap (λ l. slice_get l k) served.servers ∙ Rattle.linda_world_laws.proofs.PlaceLaws.set_elsewhere w.servers s k after apart ∙ there, ([], sym (append-nil old.deeds))))
+        let old_is : served.server ≡ old = same_Some served.server old (sym served.there ∙ ap (slice_get w.servers) (sym same) ∙ there) in (
+          after,
+          (
+            ap (λ l. slice_get l k) served.servers ∙ ap (slice_get (set w.servers s after)) same
+                ∙ set_there w.servers s after served.server served.there,
+            (served.deeds, ap (λ (v : Server). v.deeds ++ served.deeds) old_is),
+          ),
+        )
+    by (inr apart) = (
+      old,
+      (
+        ap (λ l. slice_get l k) served.servers
+            ∙ Rattle.linda_world_laws.proofs.PlaceLaws.set_elsewhere w.servers s k after apart ∙ there,
+        ([], sym (append-nil old.deeds)),
+      ),
+    )
 
 -- Deeds stay at each step.
 pub deeds_stay : (w new : World) (event : WorldEvent) (told : Told) → Steps w event told new → DeedsStay w new
@@ -152,7 +87,8 @@ same_members : (P : ℕ → Member → Type 0) (w new : World) → new.members �
 same_members P w new same old c m known = old c m (ap (λ x. get x c) (sym same) ∙ known)
 
 -- A server did what it was asked.
-module _ (laws : OfSound) (task : Task) (s : ℕ) (ks : List ℕ) (w new : World) (told : Told) (honest : IsHonest w) (served : HasServed task s ks w told new) where
+module _ (laws : OfSound) (task : Task) (s : ℕ) (ks : List ℕ) (w new : World) (told : Told)
+    (honest : IsHonest w) (served : HasServed task s ks w told new) where
   abbrev after : Server
   after = record { deeds = served.server.deeds ++ served.deeds; node = served.node }
 
@@ -178,7 +114,8 @@ module _ (laws : OfSound) (task : Task) (s : ℕ) (ks : List ℕ) (w new : World
     backed = of_more (IsBacked new.servers) (sent_from s) ks w.packets new.packets (sends_of task served.answer) served.packets
         (All-weaker (λ (p : Packet). IsBacked w.servers p.server p.client p.body) (λ (p : Packet). IsBacked new.servers p.server p.client p.body)
         (λ p. backed_still w new stay p.server p.client p.body) w.packets honest.backed)
-        (All-weaker (λ (r : ℕ × Reply). reports_deed r.1 ≡ true → ReportsOne after.deeds r.0 r.1) (λ (r : ℕ × Reply). IsBacked new.servers s r.0 (bodies.Reply r.1))
+        (All-weaker (λ (r : ℕ × Reply). reports_deed r.1 ≡ true → ReportsOne after.deeds r.0 r.1)
+        (λ (r : ℕ × Reply). IsBacked new.servers s r.0 (bodies.Reply r.1))
         (λ r tells is. (after, (after_there, tells is))) (sends_of task served.answer)
         (does_backed laws served.server.deeds served.deeds served.server.node served.node served.answer was task served.done));
     clients = same_members (λ c m. IsClient m.client) w new served.members honest.clients;
@@ -188,7 +125,8 @@ module _ (laws : OfSound) (task : Task) (s : ℕ) (ks : List ℕ) (w new : World
   }
 
 -- A client reacted.
-module _ (of_deeds : OfDeeds) (of_calls : OfCalls) (call : Call) (c : ℕ) (ks : List ℕ) (w new : World) (told : Told) (honest : IsHonest w) (called : IsCalled w call c ks) (reacts : HasReacted call c ks w told new) where
+module _ (of_deeds : OfDeeds) (of_calls : OfCalls) (call : Call) (c : ℕ) (ks : List ℕ) (w new : World)
+    (told : Told) (honest : IsHonest w) (called : IsCalled w call c ks) (reacts : HasReacted call c ks w told new) where
   abbrev was_client : Client
   was_client = reacts.member.client
 
@@ -236,7 +174,8 @@ module _ (of_deeds : OfDeeds) (of_calls : OfCalls) (call : Call) (c : ℕ) (ks :
     handed_over : HandsOver backing.0.deeds c g.id g.tuple
     handed_over =
         let handed = of_deeds.handed backing.0.deeds c g.number g.id sound.proper taken in
-        let same : handed.0 ≡ g.tuple = same_Some handed.0 g.tuple (sym handed.1.put ∙ of_deeds.told_tuple backing.0.deeds c g.number g.id g.tuple backing.1.1) in
+        let same : handed.0 ≡ g.tuple =
+        same_Some handed.0 g.tuple (sym handed.1.put ∙ of_deeds.told_tuple backing.0.deeds c g.number g.id g.tuple backing.1.1) in
         subst (HandsOver backing.0.deeds c g.id) same handed.1
 
     earned_now : IsEarned w.servers c now (g.server, g.id)
@@ -257,7 +196,9 @@ module _ (of_deeds : OfDeeds) (of_calls : OfCalls) (call : Call) (c : ℕ) (ks :
         let e = honest.earned c reacts.member reacts.known (g.server, g.id) given in
         let same : e.server ≡ backing.0 = same_Some e.server backing.0 (sym e.there ∙ backing.1.0) in
         let before : Contains backing.0.deeds (Take c e.number g.id) = subst (λ (v : Server). Contains v.deeds (Take c e.number g.id)) same e.taken in
-        let one : Take c e.number g.id ≡ Take c g.number g.id = of_deeds.one_take backing.0.deeds c c e.number g.number g.id (of_deeds.taken_once empty_state backing.0.deeds empty_is_state sound.proper) before taken in
+        let one : Take c e.number g.id ≡ Take c g.number g.id =
+        of_deeds.one_take backing.0.deeds c c e.number g.number g.id
+        (of_deeds.taken_once empty_state backing.0.deeds empty_is_state sound.proper) before taken in
         e.over (messages.Accept g.number g.ticket g.id) g.was
         (ap (λ d. Some (deeds.number_of d)) (sym one))
 
@@ -268,7 +209,8 @@ module _ (of_deeds : OfDeeds) (of_calls : OfCalls) (call : Call) (c : ℕ) (ks :
       before given = earned_on pair (honest.earned c reacts.member reacts.known pair given)
 
       by : (handed_by reacts.reaction.outcome ≡ None) ⊎ IsGiven of_calls was_client call reacts.reaction is_client reacts.answer → IsEarned w.servers c now pair
-      by (inl none) = before (subst (λ l. Contains l pair) (ap (λ o. reacts.member.got ++ option_to_list (option_map place_of o)) none ∙ append-nil reacts.member.got) there)
+      by (inl none) = before (subst (λ l. Contains l pair)
+          (ap (λ o. reacts.member.got ++ option_to_list (option_map place_of o)) none ∙ append-nil reacts.member.got) there)
       by (inr g) = elim (Contains-push_cases reacts.member.got (g.server, g.id) pair (subst (λ l. Contains (reacts.member.got ++ l) pair) (given_is g) there)) [
         | inl old ↦ before old
         | inr new_one ↦ subst (IsEarned w.servers c now) new_one (earned_now g)
@@ -280,21 +222,26 @@ module _ (of_deeds : OfDeeds) (of_calls : OfCalls) (call : Call) (c : ℕ) (ks :
       old : IsOnce reacts.member.got
       old = honest.once c reacts.member reacts.known
 
-      by : (handed_by reacts.reaction.outcome ≡ None) ⊎ IsGiven of_calls was_client call reacts.reaction is_client reacts.answer → IsOnce (reacts.member.got ++ given_by reacts.reaction.outcome)
-      by (inl none) = subst (λ l. IsOnce l) (sym (ap (λ o. reacts.member.got ++ option_to_list (option_map place_of o)) none ∙ append-nil reacts.member.got)) old
+      by : (handed_by reacts.reaction.outcome ≡ None) ⊎ IsGiven of_calls was_client call reacts.reaction is_client reacts.answer
+          → IsOnce (reacts.member.got ++ given_by reacts.reaction.outcome)
+      by (inl none) = subst (λ l. IsOnce l)
+          (sym (ap (λ o. reacts.member.got ++ option_to_list (option_map place_of o)) none ∙ append-nil reacts.member.got)) old
       by (inr g) = subst (λ l. IsOnce (reacts.member.got ++ l)) (sym (given_is g)) (pushed_once reacts.member.got (g.server, g.id) old (not_before g))
 
   of_each_now : (P : ℕ → Member → Type 0) → P c (member_then reacts.member reacts.reaction) → OfEach w P → OfEach new P
-  of_each_now P own others d m known = each_of_insert P w.members c (member_then reacts.member reacts.reaction) own (λ d m apart at. others d m at) d m (ap (λ x. get x d) (sym reacts.members) ∙ known)
+  of_each_now P own others d m known = each_of_insert P w.members c (member_then reacts.member reacts.reaction) own
+      (λ d m apart at. others d m at) d m (ap (λ x. get x d) (sym reacts.members) ∙ known)
 
   -- What is handed over is what was put.
   pub handed_right : IsHanded new c (handed_by reacts.reaction.outcome)
-  handed_right = subst (λ l. IfSome (handed_by reacts.reaction.outcome) (λ h. OfServer l h.server (λ ds. HandsOver ds c h.id h.tuple))) (sym reacts.servers) (by given_or_not)
+  handed_right = subst (λ l. IfSome (handed_by reacts.reaction.outcome) (λ h. OfServer l h.server (λ ds. HandsOver ds c h.id h.tuple)))
+      (sym reacts.servers) (by given_or_not)
     where
       by : (handed_by reacts.reaction.outcome ≡ None) ⊎ IsGiven of_calls was_client call reacts.reaction is_client reacts.answer
           → IfSome (handed_by reacts.reaction.outcome) (λ h. OfServer w.servers h.server (λ ds. HandsOver ds c h.id h.tuple))
       by (inl none) = subst (λ o. IfSome o (λ h. OfServer w.servers h.server (λ ds. HandsOver ds c h.id h.tuple))) (sym none) tt
-      by (inr g) = subst (λ o. IfSome o (λ h. OfServer w.servers h.server (λ ds. HandsOver ds c h.id h.tuple))) (sym g.handed) ((backing g).0, ((backing g).1.0, handed_over g))
+      by (inr g) = subst (λ o. IfSome o (λ h. OfServer w.servers h.server (λ ds. HandsOver ds c h.id h.tuple)))
+          (sym g.handed) ((backing g).0, ((backing g).1.0, handed_over g))
 
   pub reacted_honest : IsHonest new
   reacted_honest = record {
@@ -328,7 +275,8 @@ joined_honest of_calls c w new honest joined = record {
     fresh = record { client = new_client c (length w.servers); got = [] }
 
     of_each_now : (P : ℕ → Member → Type 0) → P c fresh → OfEach w P → OfEach new P
-    of_each_now P own others d m known = each_of_insert P w.members c fresh own (λ d m apart at. others d m at) d m (ap (λ x. get x d) (sym joined.members) ∙ known)
+    of_each_now P own others d m known =
+        each_of_insert P w.members c fresh own (λ d m apart at. others d m at) d m (ap (λ x. get x d) (sym joined.members) ∙ known)
 
 -- A world begins honest.
 pub nobody : (w : World) → IsStart w → (c : ℕ) (m : Member) → get w.members c ≡ Some m → ⊥
@@ -348,8 +296,10 @@ start_honest w start = record {
     new_sound : (server : Server) → IsNew server → IsSound server.deeds server.node
     new_sound server is = record {
       proper = subst (IsProper empty_state) (sym is.deeds) (none_proper empty_state);
-      after = subst (λ l. IsAfter empty_state l server.node.state) (sym is.deeds) (subst (IsAfter empty_state []) (sym is.unused.state) (none_after empty_state empty_is_state));
-      orderly = λ up. subst (λ st. IsOrderly st server.node.soft) (sym is.unused.state) (subst (IsOrderly empty_state) (sym is.unused.soft) (no_asks_orderly empty_state empty_is_state));
+      after = subst (λ l. IsAfter empty_state l server.node.state) (sym is.deeds)
+          (subst (IsAfter empty_state []) (sym is.unused.state) (none_after empty_state empty_is_state));
+      orderly = λ up. subst (λ st. IsOrderly st server.node.soft) (sym is.unused.state)
+          (subst (IsOrderly empty_state) (sym is.unused.soft) (no_asks_orderly empty_state empty_is_state));
       lost = λ down. absurd (true≢false (sym down ∙ is.unused.is_up));
     }
 
@@ -395,7 +345,8 @@ module _ (of_sound : OfSound) (of_deeds : OfDeeds) (of_calls : OfCalls) where
     };
     rightful = λ c m known. All-weaker (Contains m.got) (IsRightful w c) (λ pair given.
         let e = honest.earned c m known pair given in
-        (e.server, (e.there, of_deeds.handed e.server.deeds c e.number pair.1 (honest.sound pair.0 e.server e.there).proper e.taken))) m.got (All-contains_itself m.got);
+        (e.server, (e.there, of_deeds.handed e.server.deeds c e.number pair.1 (honest.sound pair.0 e.server e.there).proper e.taken))) m.got
+        (All-contains_itself m.got);
     backed = honest.backed;
     gone = All-weaker (λ (p : Packet). IsBacked w.servers p.server p.client p.body) (λ (p : Packet). IsGone w.servers p.server p.client p.body)
         (λ p. gone_right w honest p.server p.client p.body) w.packets honest.backed;
@@ -405,7 +356,8 @@ module _ (of_sound : OfSound) (of_deeds : OfDeeds) (of_calls : OfCalls) where
   reached_safe w reached = honest_safe w (reached_honest w reached)
 
   -- What is handed over by a step is what was put.
-  pub reached_handed : (w new : World) (event : WorldEvent) (seen : Seen) → IsReached w → Steps w event (Ok seen) new → IfSome seen.client (λ c. IsHanded new c (handed_by seen.outcome))
+  pub reached_handed : (w new : World) (event : WorldEvent) (seen : Seen) → IsReached w
+      → Steps w event (Ok seen) new → IfSome seen.client (λ c. IsHanded new c (handed_by seen.outcome))
   reached_handed w new event seen reached step = by (course w new event (Ok seen) step)
     where
       same_seen : (a b : Seen) → saw a ≡ saw b → a ≡ b

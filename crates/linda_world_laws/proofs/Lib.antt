@@ -4,6 +4,7 @@ pub mod MarkLaws
 pub mod PutLaws
 pub mod CallLaws
 pub mod Course
+pub mod StayLaws
 pub mod HonestLaws
 pub mod NumberLaws
 pub mod ComingLaws

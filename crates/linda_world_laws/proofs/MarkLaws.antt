@@ -31,7 +31,8 @@ all_delivered_front (k ∷ ks) ps more low =
     ∙ all_delivered_front ks (delivered_at k ps) more (subst (λ n. All (λ j. j < n) ks) (sym same) (All-tail (λ k. k < length ps) k ks low))
 
 -- One more counts as delivered.
-pub next_mark : (ks : List ℕ) (i : ℕ) (ps now all : List Packet) → delivered (drop i ks) ps ≡ all → now ≡ delivered_at (get_or ks i 0) ps → i < length ks → delivered (drop (i + 1) ks) now ≡ all
+pub next_mark : (ks : List ℕ) (i : ℕ) (ps now all : List Packet) → delivered (drop i ks) ps ≡ all
+    → now ≡ delivered_at (get_or ks i 0) ps → i < length ks → delivered (drop (i + 1) ks) now ≡ all
 next_mark ks i ps now all before is low =
     ap (λ n. delivered (drop n ks) now) (add-one i) ∙ ap (delivered (drop (suc i) ks)) is
     ∙ sym (ap (λ l. delivered l ps) (drop-cons ks i 0 low)) ∙ before

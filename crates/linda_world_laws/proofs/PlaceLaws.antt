@@ -4,7 +4,7 @@ use Rattle.std.proofs.lemmas.Option.{none-some, same_Some, slice_get-get_or, get
 use Rattle.std.proofs.lemmas.Bool.Decides.{eqb_tells}
 use Rattle.std.specs.FinMap.{FinMap, get, insert}
 use Rattle.std.specs.Ordering.{nat_cmp}
-use Rattle.linda_maps.proofs.MapLaws.{get_same, get_other}
+use Rattle.linda_map_laws.proofs.MapLaws.{get_same, get_other}
 use Rattle.linda_world_laws.specs.Promises.{IsOnce}
 
 pub same_or_apart : (i k : ℕ) → (i ≡ k) ⊎ (i ≢ k)

@@ -4,7 +4,7 @@ use Rattle.std.specs.Prelude.{Some}
 use Rattle.std.proofs.lemmas.Bool.{cases_lt}
 use Rattle.std.proofs.lemmas.Option.{none-some, slice_get_within}
 use Rattle.std.specs.FinMap.{get}
-use Rattle.linda_maps.proofs.MapLaws.{get_empty}
+use Rattle.linda_map_laws.proofs.MapLaws.{get_empty}
 use Rattle.linda_tuple.specs.Tuple.{Tuple}
 use Rattle.linda_store_state.specs.declared.deed.Deed.{Deed}
 use Rattle.linda_store_state.specs.Deed.{outs_of, is_taken}

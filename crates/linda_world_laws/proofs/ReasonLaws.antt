@@ -1,10 +1,11 @@
 -- Each step keeps a reason for each hold, so each hold in a world that a run leads to has one.
-use Rattle.std.proofs.Common.{◌≡◌, ◌≢◌, ℕ, ◌<◌, ◌≤◌, true, false, true≢false, List, [], ◌∷◌, Contains, slice_get, ◌⊎◌, inl, inr, refl, sym, ap, ◌∙◌, subst, arith}
+use Rattle.std.proofs.Common.{◌≡◌, ◌≢◌, ℕ, ◌<◌, ◌≤◌, true, false, true≢false, List, [], ◌∷◌, Contains, slice_get, ◌⊎◌}
+use Rattle.std.proofs.Common.{inl, inr, refl, sym, ap, ◌∙◌, subst, arith}
 use Rattle.std.specs.Prelude.{Option, Some, None, is_some, All, IsSomeAnd}
 use Rattle.std.proofs.lemmas.Option.{none-some, same_Some}
 use Rattle.std.proofs.lemmas.List.Elements.{All-nil, All-weaker, All-contains, All-contains_itself}
 use Rattle.std.specs.FinMap.{get}
-use Rattle.linda_maps.proofs.MapLaws.{get_same, get_other, get_empty}
+use Rattle.linda_map_laws.proofs.MapLaws.{get_same, get_other, get_empty}
 use Rattle.linda_tuple.specs.Tuple.{Tuple}
 use Rattle.linda_hold.specs.declared.request.Request.{Request}
 use Rattle.linda_hold.specs.Request.{request_of}
@@ -16,7 +17,7 @@ use Rattle.linda_store_state.specs.declared.deed.Deed.TheVariants.{Take, Pass}
 use Rattle.linda_store_step.specs.Soft.{Soft}
 use Rattle.linda_store_step.specs.Deeds.{last_in as last_number}
 use Rattle.linda_store_step.specs.Replies.{reports_deed, ReportsOne}
-use Rattle.linda_client.specs.declared.arrival.Accepted.{Accepted}
+use Rattle.linda_client.specs.declared.arrived_tuple.Accepted.{Accepted}
 use Rattle.linda_client.specs.declared.ask.Ask.{Ask}
 use Rattle.linda_client.specs.Pending.{Pending, ask_at, is_fit}
 use Rattle.linda_client.specs.Client.{Client, IsClient, asked_in, next_at, pending_in, servers}
@@ -45,7 +46,8 @@ some_and P None never = absurd never
 some_and P (Some x) is = (x, (refl, is))
 
 -- A client reacted.
-module _ (of_deeds : OfDeeds) (of_calls : OfCalls) (call : Call) (c : ℕ) (ks : List ℕ) (w new : World) (told : Told) (honest : IsHonest w) (reasons : HasReasons w) (called : IsCalled w call c ks) (reaction : HasReacted call c ks w told new) where
+module _ (of_deeds : OfDeeds) (of_calls : OfCalls) (call : Call) (c : ℕ) (ks : List ℕ) (w new : World) (told : Told)
+    (honest : IsHonest w) (reasons : HasReasons w) (called : IsCalled w call c ks) (reaction : HasReacted call c ks w told new) where
   abbrev was : Client
   was = reaction.member.client
 
@@ -69,8 +71,14 @@ module _ (of_deeds : OfDeeds) (of_calls : OfCalls) (call : Call) (c : ℕ) (ks :
     where
       by : (d ≡ c) ⊎ (d ≢ c) → (n : Member) × ((get new.members d ≡ Some n) × Rattle.linda_world_laws.proofs.CallLaws.IsLater m.client n.client)
       by (inl same) =
-          let is : reaction.member ≡ m = same_Some reaction.member m (sym reaction.known ∙ ap (get w.members) (sym same) ∙ known) in
-          (after, (ap (get new.members) same ∙ known_now, subst (λ (x : Member). Rattle.linda_world_laws.proofs.CallLaws.IsLater x.client now) is (later of_calls was call reaction.reaction is_client reaction.answer)))
+          let is : reaction.member ≡ m = same_Some reaction.member m (sym reaction.known ∙ ap (get w.members) (sym same) ∙ known) in (
+            after,
+            (
+              ap (get new.members) same ∙ known_now,
+              subst (λ (x : Member). Rattle.linda_world_laws.proofs.CallLaws.IsLater x.client now) is
+                  (later of_calls was call reaction.reaction is_client reaction.answer),
+            ),
+          )
       by (inr apart) = (m, (others d apart ∙ known, same_later m.client))
 
   cancel_sent : (s k : ℕ) → Contains reaction.reaction.packets (s, messages.Cancel k) → HasCancel new.packets s (request_of c k)
@@ -86,10 +94,12 @@ module _ (of_deeds : OfDeeds) (of_calls : OfCalls) (call : Call) (c : ℕ) (ks :
 
     -- the next number is not done
     next_undone : s < servers was → last < next_at was s
-    next_undone within = last_used w.members s c server.deeds reaction.member (reasons.servers s server there).deeds reaction.known (next_above was s is_client within)
+    next_undone within = last_used w.members s c server.deeds reaction.member
+        (reasons.servers s server there).deeds reaction.known (next_above was s is_client within)
 
     -- What is in hand at the client then is so in the world.
-    in_hand_now : (pending then : Pending) (ask : Ask) → s < servers was → pending_in was.task ≡ Some pending → pending_in now.task ≡ Some then → ask_at pending k ≡ Some ask
+    in_hand_now : (pending then : Pending) (ask : Ask) → s < servers was → pending_in was.task ≡ Some pending
+        → pending_in now.task ≡ Some then → ask_at pending k ≡ Some ask
         → InHand (λ a. last < a.n) then s k id → HasReason new.members new.packets s server.deeds id (request_of c k)
     in_hand_now pending then ask within before pending_now is_open hand = inr (inr (record {
       member = after;
@@ -105,17 +115,21 @@ module _ (of_deeds : OfDeeds) (of_calls : OfCalls) (call : Call) (c : ℕ) (ks :
     }))
 
     -- an Accept that is answered was done
-    done_by : (n : ℕ) (r : Reply) → call ≡ Receive s r → reports_deed r ≡ true → ((ds : List Deed) → ReportsOne ds c r → Rattle.linda_store_state.specs.Proper.IsProper Rattle.linda_store_state.specs.State.empty_state ds → n ≤ last_number ds c) → n ≤ last
+    done_by : (n : ℕ) (r : Reply) → call ≡ Receive s r → reports_deed r ≡ true
+        → ((ds : List Deed) → ReportsOne ds c r → Rattle.linda_store_state.specs.Proper.IsProper Rattle.linda_store_state.specs.State.empty_state ds
+        → n ≤ last_number ds c) → n ≤ last
     done_by n r e tells low =
         let found = received_told w call c ks called honest.backed s r e tells in
         let same : found.0 ≡ server = same_Some found.0 server (sym found.1.0 ∙ there) in
         subst (λ (v : Server). n ≤ last_number v.deeds c) same (low found.0.deeds found.1.1 (honest.sound s found.0 found.1.0).proper)
 
     gone_done : (n : ℕ) → call ≡ Receive s (replies.Gone n) → n ≤ last
-    gone_done n e = done_by n (replies.Gone n) e refl (λ ds reply proper. let is = of_deeds.told_gone ds c n proper reply in (of_deeds.numbered ds proper).low (Pass c n is.id) is.passed)
+    gone_done n e = done_by n (replies.Gone n) e refl (λ ds reply proper. let is =
+        of_deeds.told_gone ds c n proper reply in (of_deeds.numbered ds proper).low (Pass c n is.id) is.passed)
 
     taken_done : (n i : ℕ) (row : Tuple) → call ≡ Receive s (replies.Taken n i row) → n ≤ last
-    taken_done n i row e = done_by n (replies.Taken n i row) e refl (λ ds reply proper. (of_deeds.numbered ds proper).low (Take c n i) (of_deeds.told_take ds c n i row reply))
+    taken_done n i row e = done_by n (replies.Taken n i row) e refl
+        (λ ds reply proper. (of_deeds.numbered ds proper).low (Take c n i) (of_deeds.told_take ds c n i row reply))
 
     -- what the client had in hand
     own_hand : HasInHand s last k id was → HasReason new.members new.packets s server.deeds id (request_of c k)
@@ -138,7 +152,8 @@ module _ (of_deeds : OfDeeds) (of_calls : OfCalls) (call : Call) (c : ℕ) (ks :
         by (inr (inr answered)) = absurd (never answered)
 
     -- an Offer that comes now
-    offer_comes : (row : Tuple) → call ≡ Receive s (replies.Offer k id row) → OfTicket k (Suits row) was → HasReason new.members new.packets s server.deeds id (request_of c k)
+    offer_comes : (row : Tuple) → call ≡ Receive s (replies.Offer k id row) → OfTicket k (Suits row) was
+        → HasReason new.members new.packets s server.deeds id (request_of c k)
     offer_comes row e suits = by_pending (pending_in was.task) refl
       where
         treated : IsTreated was s k id row reaction.reaction
@@ -148,20 +163,24 @@ module _ (of_deeds : OfDeeds) (of_calls : OfCalls) (call : Call) (c : ℕ) (ks :
         within = received_within was s (replies.Offer k id row) reaction.reaction (ap (react was) (sym e) ∙ reaction.answer)
 
         stray : asked_in (pending_in was.task) k ≡ None → HasReason new.members new.packets s server.deeds id (request_of c k)
-        stray none = inr (inl (cancel_sent s k (subst (λ (r : Reaction). Contains {X = client_packets.Packet} r.packets (s, messages.Cancel k)) (sym (treated.stray none))
+        stray none = inr (inl (cancel_sent s k
+            (subst (λ (r : Reaction). Contains {X = client_packets.Packet} r.packets (s, messages.Cancel k)) (sym (treated.stray none))
             (placed {X = client_packets.Packet} ((s, messages.Cancel k) ∷ []) 0 (s, messages.Cancel k) refl))))
 
-        by_accepted : (pending : Pending) (ask : Ask) → pending_in was.task ≡ Some pending → ask_at pending k ≡ Some ask → is_fit ask true row ≡ true → (o : Option Accepted) → pending.accepted ≡ o
+        by_accepted : (pending : Pending) (ask : Ask) → pending_in was.task ≡ Some pending
+            → ask_at pending k ≡ Some ask → is_fit ask true row ≡ true → (o : Option Accepted) → pending.accepted ≡ o
             → HasReason new.members new.packets s server.deeds id (request_of c k)
         by_accepted pending ask before is_open fits (Some own) accepted =
             let then = some_and (λ then. IsSaved then s k id) (pending_in now.task) (treated.saved pending ask before is_open fits (ap is_some accepted)) in
             in_hand_now pending then.0 ask within before then.1.0 is_open (inl then.1.1)
         by_accepted pending ask before is_open fits None free =
-            let then = some_and (λ (then : Pending). then.accepted ≡ Some (next_accept was s k id)) (pending_in now.task) (treated.accepted pending ask before is_open fits free) in
+            let then = some_and (λ (then : Pending). then.accepted ≡ Some (next_accept was s k id))
+            (pending_in now.task) (treated.accepted pending ask before is_open fits free) in
             in_hand_now pending then.0 ask within before then.1.0 is_open
             (inr (record { own = next_accept was s k id; there = then.1.1; server_is = refl; ticket_is = refl; id_is = refl }, next_undone within))
 
-        by_ask : (pending : Pending) → pending_in was.task ≡ Some pending → (o : Option Ask) → ask_at pending k ≡ o → HasReason new.members new.packets s server.deeds id (request_of c k)
+        by_ask : (pending : Pending) → pending_in was.task ≡ Some pending → (o : Option Ask)
+            → ask_at pending k ≡ o → HasReason new.members new.packets s server.deeds id (request_of c k)
         by_ask pending before None none = stray (ap (λ o. asked_in o k) before ∙ none)
         by_ask pending before (Some ask) is_open =
             by_accepted pending ask before is_open (suits.asked ask (ap (λ o. asked_in o k) before ∙ is_open)) pending.accepted refl
@@ -171,8 +190,10 @@ module _ (of_deeds : OfDeeds) (of_calls : OfCalls) (call : Call) (c : ℕ) (ks :
         by_pending (Some pending) before = by_ask pending before (ask_at pending k) refl
 
     -- A reason stays one, whosever it is, or there is another.
-    reason_on : (d : ℕ) → HasReason w.members w.packets s server.deeds id (request_of d k) → HasReason new.members new.packets s server.deeds id (request_of d k)
-    reason_on d (inr (inl cancel)) = inr (inl (cancel_there (sent_by c) ks w.packets new.packets reaction.reaction.packets reaction.packets s (request_of d k) cancel))
+    reason_on : (d : ℕ) → HasReason w.members w.packets s server.deeds id (request_of d k)
+        → HasReason new.members new.packets s server.deeds id (request_of d k)
+    reason_on d (inr (inl cancel)) =
+        inr (inl (cancel_there (sent_by c) ks w.packets new.packets reaction.reaction.packets reaction.packets s (request_of d k) cancel))
     reason_on d (inr (inr hand)) = by (same_or_apart d c)
       where
         by : (d ≡ c) ⊎ (d ≢ c) → HasReason new.members new.packets s server.deeds id (request_of d k)
@@ -185,9 +206,11 @@ module _ (of_deeds : OfDeeds) (of_calls : OfCalls) (call : Call) (c : ℕ) (ks :
         row = offer.tuple
 
         suits : OfMember w.members d (OfTicket k (Suits row))
-        suits = All-contains (λ (p : Packet). IsSane w.members p.server p.client p.body) w.packets (sent_from s (d, replies.Offer k id row)) reasons.sane offer.sent
+        suits = All-contains (λ (p : Packet). IsSane w.members p.server p.client p.body) w.packets
+            (sent_from s (d, replies.Offer k id row)) reasons.sane offer.sent
 
-        by : Contains (delivered ks w.packets) (sent_from s (d, replies.Offer k id row)) ⊎ ((d ≡ c) × (call ≡ Receive s (replies.Offer k id row))) → HasReason new.members new.packets s server.deeds id (request_of d k)
+        by : Contains (delivered ks w.packets) (sent_from s (d, replies.Offer k id row)) ⊎ ((d ≡ c) × (call ≡ Receive s (replies.Offer k id row)))
+            → HasReason new.members new.packets s server.deeds id (request_of d k)
         by (inl same) = inl (record {
           tuple = row;
           put = offer.put;
@@ -206,7 +229,8 @@ module _ (of_deeds : OfDeeds) (of_calls : OfCalls) (call : Call) (c : ℕ) (ks :
         reaction.reaction.packets (All-contains_itself reaction.reaction.packets));
     servers = λ s server found.
         let there : slice_get w.servers s ≡ Some server = ap (λ l. slice_get l s) (sym reaction.servers) ∙ found in
-        reasoned_on w.members new.members go w.packets new.packets s server (λ id request is. reason_on s server there request.ticket id request.client is) (reasons.servers s server there);
+        reasoned_on w.members new.members go w.packets new.packets s server
+        (λ id request is. reason_on s server there request.ticket id request.client is) (reasons.servers s server there);
   }
 
 -- A client joined.
@@ -216,7 +240,8 @@ joined_reasons c w new reasons joined = record {
       (All-weaker (λ (p : Packet). IsSane w.members p.server p.client p.body) (λ (p : Packet). IsSane new.members p.server p.client p.body)
       (λ p. sane_on w.members new.members go p.server p.client p.body) w.packets reasons.sane);
   servers = λ s server found. subst (λ l. IsReasoned new.members l s server) (sym joined.packets)
-      (reasoned_on w.members new.members go w.packets w.packets s server (λ id request is. reason_on s server.deeds id request is) (reasons.servers s server (ap (λ l. slice_get l s) (sym joined.servers) ∙ found)));
+      (reasoned_on w.members new.members go w.packets w.packets s server (λ id request is. reason_on s server.deeds id request is)
+      (reasons.servers s server (ap (λ l. slice_get l s) (sym joined.servers) ∙ found)));
 }
   where
     same : (d : ℕ) (m : Member) → get w.members d ≡ Some m → get new.members d ≡ Some m
@@ -226,10 +251,12 @@ joined_reasons c w new reasons joined = record {
     go : Goes w.members new.members
     go d m known = (m, (same d m known, same_later m.client))
 
-    reason_on : (s : ℕ) (ds : List Deed) (id : ℕ) (request : Request) → HasReason w.members w.packets s ds id request → HasReason new.members w.packets s ds id request
+    reason_on : (s : ℕ) (ds : List Deed) (id : ℕ) (request : Request) → HasReason w.members w.packets s ds id request
+        → HasReason new.members w.packets s ds id request
     reason_on s ds id request (inl offer) = inl offer
     reason_on s ds id request (inr (inl cancel)) = inr (inl cancel)
-    reason_on s ds id request (inr (inr hand)) = inr (inr (record { member = hand.member; known = same request.client hand.member hand.known; holds = hand.holds }))
+    reason_on s ds id request (inr (inr hand)) =
+        inr (inr (record { member = hand.member; known = same request.client hand.member hand.known; holds = hand.holds }))
 
 -- A world begins with nothing held.
 start_reasons : (w : World) → IsStart w → HasReasons w
@@ -254,7 +281,8 @@ start_reasons w start = record {
 
 module _ (of_sound : OfSound) (of_deeds : OfDeeds) (of_steps : OfSteps) (of_calls : OfCalls) where
   step_reasons : (w new : World) (told : Told) → IsHonest w → HasReasons w → Course w told new → HasReasons new
-  step_reasons w new told honest reasons (reacts call c ks called reaction) = reacted_reasons of_deeds of_calls call c ks w new told honest reasons called reaction
+  step_reasons w new told honest reasons (reacts call c ks called reaction) =
+      reacted_reasons of_deeds of_calls call c ks w new told honest reasons called reaction
   step_reasons w new told honest reasons (serves task s ks asked served) = served_reasons of_sound of_steps task s ks w new told honest reasons asked served
 
   reached_reasons : (w : World) → IsReached w → HasReasons w
@@ -267,7 +295,13 @@ module _ (of_sound : OfSound) (of_deeds : OfDeeds) (of_steps : OfSteps) (of_call
   pub reached_right : (w : World) → IsReached w → AreHeldRightly w
   reached_right w reached s server id request there up held = by ((((reached_reasons w reached).servers s server there).up up).held id request held)
     where
-      by : HasReason w.members w.packets s server.deeds id request → IsOpenAt w.members request ⊎ (HasCancel w.packets s request ⊎ HasOffer w.packets s server.deeds request id)
+      by : HasReason w.members w.packets s server.deeds id request → IsOpenAt w.members request
+          ⊎ (HasCancel w.packets s request ⊎ HasOffer w.packets s server.deeds request id)
       by (inl offer) = inr (inr offer)
       by (inr (inl cancel)) = inr (inl cancel)
-      by (inr (inr h)) = inl (record { member = h.member; known = h.known; is_open = ap is_some (ap (λ o. asked_in o request.ticket) h.holds.pending_is ∙ h.holds.is_open) })
+      by (inr (inr h)) = inl (record {
+        member = h.member;
+        known = h.known;
+        is_open =
+            ap is_some (ap (λ o. asked_in o request.ticket) h.holds.pending_is ∙ h.holds.is_open);
+      })

@@ -1,11 +1,12 @@
 -- What a server is asked keeps a reason for each hold.
-use Rattle.std.proofs.Common.{◌≡◌, ℕ, Bool, true, false, true≢false, List, [], ◌∷◌, ◌++◌, map, Contains, slice_get, inl, inr, refl, sym, ap, ◌∙◌, subst, arith, append-nil}
+use Rattle.std.proofs.Common.{◌≡◌, ℕ, Bool, true, false, true≢false, List, [], ◌∷◌, ◌++◌, map, Contains, slice_get, inl}
+use Rattle.std.proofs.Common.{inr, refl, sym, ap, ◌∙◌, subst, arith, append-nil}
 use Rattle.std.specs.Prelude.{Some, Ok, Err, All, Result}
 use Rattle.std.specs.Global.{Vec}
 use Rattle.std.proofs.lemmas.Option.{none-some, same_Some}
-use Rattle.std.proofs.lemmas.List.Elements.{All-nil, All-cons, All-append, All-weaker, All-contains, All-contains_itself, Contains-append_left, Contains-append_right}
+use Rattle.std.proofs.lemmas.List.Elements.{All-nil, All-cons, All-append, All-weaker, Contains-append_left, Contains-append_right}
 use Rattle.std.specs.FinMap.{get}
-use Rattle.linda_maps.proofs.MapLaws.{get_empty}
+use Rattle.linda_map_laws.proofs.MapLaws.{get_empty}
 use Rattle.linda_tuple.specs.Tuple.{Tuple}
 use Rattle.linda_hold.specs.declared.request.Request.{Request}
 use Rattle.linda_wire.specs.declared.message.Message.{Message}
@@ -30,14 +31,15 @@ use Rattle.linda_world_laws.specs.World.{Server, Member, Members, World, sent_by
 use Rattle.linda_world_laws.specs.Steps.{Told, Task, Takes, HangsUp, Saves, Halts, silent, Does, without_room, sends_of, HasServed, AreMessagesAt}
 use Rattle.linda_world_laws.specs.Promises.{OfPackets, HasCancel, HasOffer, IsPut}
 use Rattle.linda_world_laws.specs.Honest.{IsHonest}
-use Rattle.linda_world_laws.specs.Reasons.{OfMember, OfTicket, Asks, Suits, IsSaid, IsReplied, IsSane, IsUsedBy, IsWaitOf, HasReason, IsWaitedFor, IsReasoned, HasReasons}
+use Rattle.linda_world_laws.specs.Reasons.{OfMember, OfTicket, Asks, Suits, IsSaid, IsReplied, IsSane, IsUsedBy}
+use Rattle.linda_world_laws.specs.Reasons.{IsWaitOf, HasReason, IsWaitedFor, IsReasoned, HasReasons}
 use Rattle.linda_world_laws.specs.Below.{OfSound, OfSteps}
 use Rattle.linda_world_laws.proofs.PlaceLaws.{each_of_set}
 use Rattle.linda_world_laws.proofs.PutLaws.{put_still}
 use Rattle.linda_world_laws.proofs.DeliverLaws.{mapped_there, of_more, of_one, still_there, same_or_delivered, unmoved}
 use Rattle.linda_world_laws.proofs.CallLaws.{IsLater, same_later, ticket_still, said_still}
 use Rattle.linda_world_laws.proofs.Course.{IsAsked, takes, hangs_up as closes, saves, halts}
-use Rattle.linda_world_laws.proofs.HonestLaws.{does_sound}
+use Rattle.linda_world_laws.proofs.StayLaws.{does_sound}
 use Rattle.linda_world_laws.proofs.ComingLaws.{IsSpoken, front_of, used_left, single, sends_suit, deeds_used, waited_then}
 
 -- Clients go on: each is there still, later on.
@@ -78,7 +80,8 @@ module _ (ms news : Members) (go : Goes ms news) where
     deeds = All-weaker (IsUsedBy ms s) (IsUsedBy news s) (used_on s) server.deeds is.deeds;
     lost = λ down. All-weaker (IsUsedBy ms s) (IsUsedBy news s) (used_on s) server.node.lost (is.lost down);
     up = λ up. record {
-      waits = All-weaker (IsWaitOf ms) (IsWaitOf news) (λ v. ticket_on v.0.client v.0.ticket (Asks v.1.remove v.1.template)) server.node.soft.waits (is.up up).waits;
+      waits = All-weaker (IsWaitOf ms) (IsWaitOf news)
+          (λ v. ticket_on v.0.client v.0.ticket (Asks v.1.remove v.1.template)) server.node.soft.waits (is.up up).waits;
       fits = λ id request row h b. ticket_on request.client request.ticket (Suits row) ((is.up up).fits id request row h b);
       held = λ id request h. held id request ((is.up up).held id request h);
     };
@@ -104,11 +107,13 @@ comings_of (HangsUp c) = hangs_up c ∷ []
 comings_of Saves = []
 comings_of (Halts xs) = xs
 
-message_spoken : (ms : Members) (s : ℕ) (p : Packet) (m : Message) → p.body ≡ bodies.Message m → IsSane ms p.server p.client p.body → p.server ≡ s → (c : ℕ) → p.client ≡ c → OfMember ms c (IsSaid s m)
+message_spoken : (ms : Members) (s : ℕ) (p : Packet) (m : Message) → p.body ≡ bodies.Message m
+    → IsSane ms p.server p.client p.body → p.server ≡ s → (c : ℕ) → p.client ≡ c → OfMember ms c (IsSaid s m)
 message_spoken ms s p m body sane server c client =
     subst (λ d. OfMember ms d (IsSaid s m)) client (subst (λ t. OfMember ms p.client (IsSaid t m)) server (subst (IsSane ms p.server p.client) body sane))
 
-in_hand_spoken : (ms : Members) (ps : List Packet) (s : ℕ) (ks : List ℕ) (xs : List (ℕ × Message)) → OfPackets (IsSane ms) ps → AreMessagesAt ps s ks xs → All (IsSpoken ms s) (comings xs)
+in_hand_spoken : (ms : Members) (ps : List Packet) (s : ℕ) (ks : List ℕ) (xs : List (ℕ × Message))
+    → OfPackets (IsSane ms) ps → AreMessagesAt ps s ks xs → All (IsSpoken ms s) (comings xs)
 in_hand_spoken ms ps s [] xs sane are = subst (λ l. All (IsSpoken ms s) (comings l)) (sym are) (All-nil (IsSpoken ms s))
 in_hand_spoken ms ps s (k ∷ ks) [] sane are = absurd are
 in_hand_spoken ms ps s (k ∷ ks) (x ∷ xs) sane are =
@@ -118,14 +123,16 @@ in_hand_spoken ms ps s (k ∷ ks) (x ∷ xs) sane are =
 
 spoken : (w : World) (task : Task) (s : ℕ) (ks : List ℕ) → HasReasons w → IsAsked w task s ks → All (IsSpoken w.members s) (comings_of task)
 spoken w task s ks reasons (takes k p m there body) =
-    All-cons (IsSpoken w.members p.server) (says p.client m) [] (message_spoken w.members p.server p m body (of_one (IsSane w.members) w.packets k p reasons.sane there) refl p.client refl)
+    All-cons (IsSpoken w.members p.server) (says p.client m) []
+    (message_spoken w.members p.server p m body (of_one (IsSane w.members) w.packets k p reasons.sane there) refl p.client refl)
     (All-nil (IsSpoken w.members p.server))
 spoken w task s ks reasons (closes c _) = All-cons (IsSpoken w.members s) (hangs_up c) [] tt (All-nil (IsSpoken w.members s))
 spoken w task s ks reasons (saves _) = All-nil (IsSpoken w.members s)
 spoken w task s ks reasons (halts _ _ ms are) = in_hand_spoken w.members w.packets s ks ms reasons.sane are
 
 -- An Offer stays undelivered where messages are delivered.
-offer_unmoved : (w : World) (task : Task) (s : ℕ) (ks : List ℕ) → IsAsked w task s ks → (p : Packet) → ((m : Message) → p.body ≡ bodies.Message m → ⊥) → Contains w.packets p → Contains (delivered ks w.packets) p
+offer_unmoved : (w : World) (task : Task) (s : ℕ) (ks : List ℕ) → IsAsked w task s ks → (p : Packet)
+    → ((m : Message) → p.body ≡ bodies.Message m → ⊥) → Contains w.packets p → Contains (delivered ks w.packets) p
 offer_unmoved w task s ks (takes k q m at body) p apart there = elim (same_or_delivered k w.packets p there) [
   | inl same ↦ same
   | inr it ↦ absurd (apart m (ap (λ (x : Packet). x.body) (same_Some p q (sym it ∙ at)) ∙ body))
@@ -135,13 +142,15 @@ offer_unmoved w task s ks (saves _) p apart there = there
 offer_unmoved w task s ks (halts _ _ ms are) p apart there = unmoved w.packets s ks ms are p apart there
 
 suits_full : (ms : Members) (task : Task) → All (λ (r : ℕ × Reply). IsReplied ms r.0 r.1) (without_room task)
-suits_full ms (Takes c m) = All-cons (λ (r : ℕ × Reply). IsReplied ms r.0 r.1) (c, refused refusals.Full) [] tt (All-nil (λ (r : ℕ × Reply). IsReplied ms r.0 r.1))
+suits_full ms (Takes c m) = All-cons (λ (r : ℕ × Reply). IsReplied ms r.0 r.1) (c, refused refusals.Full) [] tt
+    (All-nil (λ (r : ℕ × Reply). IsReplied ms r.0 r.1))
 suits_full ms (HangsUp c) = All-nil (λ (r : ℕ × Reply). IsReplied ms r.0 r.1)
 suits_full ms Saves = All-nil (λ (r : ℕ × Reply). IsReplied ms r.0 r.1)
 suits_full ms (Halts xs) = All-nil (λ (r : ℕ × Reply). IsReplied ms r.0 r.1)
 
 -- A server did what it was asked.
-module _ (of_sound : OfSound) (of_steps : OfSteps) (task : Task) (s : ℕ) (ks : List ℕ) (w new : World) (told : Told) (honest : IsHonest w) (reasons : HasReasons w) (asked : IsAsked w task s ks) (served : HasServed task s ks w told new) where
+module _ (of_sound : OfSound) (of_steps : OfSteps) (task : Task) (s : ℕ) (ks : List ℕ) (w new : World) (told : Told)
+    (honest : IsHonest w) (reasons : HasReasons w) (asked : IsAsked w task s ks) (served : HasServed task s ks w told new) where
   abbrev ms : Members
   ms = w.members
 
@@ -163,12 +172,15 @@ module _ (of_sound : OfSound) (of_steps : OfSteps) (task : Task) (s : ℕ) (ks :
   cancels : (t : ℕ) (r : Request) → HasCancel w.packets t r → HasCancel new.packets t r
   cancels = cancel_there (sent_from s) ks w.packets new.packets (sends_of task served.answer) served.packets
 
-  offers : (t : ℕ) (ds later : List Deed) (r : Request) (id : ℕ) → ((row : Tuple) → IsPut ds id row → IsPut later id row) → HasOffer w.packets t ds r id → HasOffer new.packets t later r id
+  offers : (t : ℕ) (ds later : List Deed) (r : Request) (id : ℕ) → ((row : Tuple) → IsPut ds id row → IsPut later id row)
+      → HasOffer w.packets t ds r id → HasOffer new.packets t later r id
   offers t ds later r id still offer = record {
     tuple = offer.tuple;
     put = still offer.tuple offer.put;
-    sent = kept_there (sent_from s) ks w.packets new.packets (sends_of task served.answer) served.packets (sent_from t (r.client, replies.Offer r.ticket id offer.tuple))
-        (offer_unmoved w task s ks asked (sent_from t (r.client, replies.Offer r.ticket id offer.tuple)) (λ m e. apart m (replies.Offer r.ticket id offer.tuple) e) offer.sent);
+    sent = kept_there (sent_from s) ks w.packets new.packets (sends_of task served.answer) served.packets
+        (sent_from t (r.client, replies.Offer r.ticket id offer.tuple))
+        (offer_unmoved w task s ks asked (sent_from t (r.client, replies.Offer r.ticket id offer.tuple))
+        (λ m e. apart m (replies.Offer r.ticket id offer.tuple) e) offer.sent);
   }
     where
       apart : (m : Message) (r : Reply) → bodies.Reply r ≡ bodies.Message m → ⊥
@@ -211,7 +223,8 @@ module _ (of_sound : OfSound) (of_steps : OfSteps) (task : Task) (s : ℕ) (ks :
   went_down : (xs : List Coming) → All (IsSpoken ms s) xs → served.deeds ≡ [] → WentDown old xs served.node → IsReasoned ms new.packets s after
   went_down xs heard none went = record {
     deeds = subst (All (IsUsedBy ms s)) (none_more none) was.deeds;
-    lost = λ _. by_down (All (IsUsedBy ms s) served.node.lost) (λ up. used_left of_steps ms s old xs served.node.lost (sound.orderly up) heard (went.from_up up))
+    lost = λ _. by_down (All (IsUsedBy ms s) served.node.lost)
+        (λ up. used_left of_steps ms s old xs served.node.lost (sound.orderly up) heard (went.from_up up))
         (λ down. subst (λ (n : Node). All (IsUsedBy ms s) n.lost) (sym (went.from_down down)) (was.lost down));
     up = λ up. absurd (true≢false (sym went.is_down ∙ up));
   }
@@ -232,14 +245,19 @@ module _ (of_sound : OfSound) (of_steps : OfSteps) (task : Task) (s : ℕ) (ks :
       nothing : (id : ℕ) (request : Request) → get served.node.soft.holds id ≡ Some request → ⊥
       nothing id request held = none-some request (sym (get_empty id) ∙ sym (ap (λ (f : Soft). get f.holds id) is.soft_is) ∙ held)
 
-  done : (x : Coming) (sends : List (ℕ × Reply)) → IsSpoken ms s x → sends_of task served.answer ≡ sends → IsDone old (x ∷ []) served.deeds sends served.node → IsGood
+  done : (x : Coming) (sends : List (ℕ × Reply)) → IsSpoken ms s x → sends_of task served.answer ≡ sends
+      → IsDone old (x ∷ []) served.deeds sends served.node → IsGood
   done x sends heard sends_are is = (
     record {
-      deeds = All-append (IsUsedBy ms s) served.server.deeds served.deeds was.deeds (deeds_used of_steps ms w.packets s served.server.deeds served.deeds old served.node x sends waited (sound.orderly is.was_up) heard one);
+      deeds = All-append (IsUsedBy ms s) served.server.deeds served.deeds was.deeds
+          (deeds_used of_steps ms w.packets s served.server.deeds served.deeds old served.node x sends waited (sound.orderly is.was_up) heard one);
       lost = λ down. absurd (true≢false (sym down ∙ is.is_up));
-      up = λ _. waited_then of_steps ms w.packets s served.server.deeds served.deeds old served.node x sends waited (sound.orderly is.was_up) heard one sound sound_then new.packets (cancels s) (λ r id. offers s served.server.deeds after.deeds r id (λ row. put_still served.server.deeds served.deeds id row)) offered;
+      up = λ _. waited_then of_steps ms w.packets s served.server.deeds served.deeds old served.node x sends waited (sound.orderly is.was_up) heard one
+          sound sound_then new.packets (cancels s)
+          (λ r id. offers s served.server.deeds after.deeds r id (λ row. put_still served.server.deeds served.deeds id row)) offered;
     },
-    subst (All (λ (r : ℕ × Reply). IsReplied ms r.0 r.1)) (sym sends_are) (sends_suit of_steps ms w.packets s served.server.deeds served.deeds old served.node x sends waited (sound.orderly is.was_up) heard one),
+    subst (All (λ (r : ℕ × Reply). IsReplied ms r.0 r.1)) (sym sends_are)
+        (sends_suit of_steps ms w.packets s served.server.deeds served.deeds old served.node x sends waited (sound.orderly is.was_up) heard one),
   )
     where
       waited : IsWaitedFor ms w.packets s served.server
@@ -248,7 +266,8 @@ module _ (of_sound : OfSound) (of_steps : OfSteps) (task : Task) (s : ℕ) (ks :
       one : Rattle.linda_world_laws.proofs.ComingLaws.IsSingle old x served.deeds sends served.node
       one = single old x served.deeds sends served.node is.happens
 
-      offered : (r : Request) (id : ℕ) (row : Tuple) → IsPut after.deeds id row → Contains sends (r.client, replies.Offer r.ticket id row) → HasOffer new.packets s after.deeds r id
+      offered : (r : Request) (id : ℕ) (row : Tuple) → IsPut after.deeds id row
+          → Contains sends (r.client, replies.Offer r.ticket id row) → HasOffer new.packets s after.deeds r id
       offered r id row put there = record {
         tuple = row;
         put = put;
@@ -277,7 +296,8 @@ module _ (of_sound : OfSound) (of_steps : OfSteps) (task : Task) (s : ℕ) (ks :
       taking c m e IsDown f is = (went_down (comings_of (Takes c m)) (heard (Takes c m) e) is.1 is.0, down_at f)
 
       leaving : (c : ℕ) → task ≡ HangsUp c → served.deeds ≡ [] → (a : NodeAnswer) → served.answer ≡ a → Closes old c a served.node → IsGood
-      leaving c e none (Sent sends) f is = done (hangs_up c) sends (heard_one (HangsUp c) (hangs_up c) e refl) (ap (sends_of task) f) (subst (λ l. IsDone old (hangs_up c ∷ []) l sends served.node) (sym none) is)
+      leaving c e none (Sent sends) f is = done (hangs_up c) sends (heard_one (HangsUp c) (hangs_up c) e refl)
+          (ap (sends_of task) f) (subst (λ l. IsDone old (hangs_up c ∷ []) l sends served.node) (sym none) is)
       leaving c e none IsFull f never = absurd never
       leaving c e none IsDown f is = (went_down (comings_of (HangsUp c)) (heard (HangsUp c) e) none is, down_at f)
 
@@ -286,8 +306,10 @@ module _ (of_sound : OfSound) (of_steps : OfSteps) (task : Task) (s : ℕ) (ks :
       saving e none (Err faults.Full) f is = (unchanged none is.1.1, full_at f)
       saving e none (Err faults.Down) f is = (went_down [] (heard Saves e) none is, down_at f)
 
-      halting : (xs : List Coming) → task ≡ Halts xs → (result : Result (Vec Deed) NodeFault) → served.deeds ≡ added result → served.answer ≡ silent result → Stops old xs result served.node → IsGood
-      halting xs e (Ok es) are f is = (opened xs (heard (Halts xs) e) (subst (λ l. IsOpened old xs l served.node) (sym are) is), suits_none (ap (sends_of task) f))
+      halting : (xs : List Coming) → task ≡ Halts xs → (result : Result (Vec Deed) NodeFault)
+          → served.deeds ≡ added result → served.answer ≡ silent result → Stops old xs result served.node → IsGood
+      halting xs e (Ok es) are f is =
+          (opened xs (heard (Halts xs) e) (subst (λ l. IsOpened old xs l served.node) (sym are) is), suits_none (ap (sends_of task) f))
       halting xs e (Err faults.Full) are f never = absurd never
       halting xs e (Err faults.Down) are f is = (went_down xs (heard (Halts xs) e) are is, down_at f)
 
@@ -302,6 +324,7 @@ module _ (of_sound : OfSound) (of_steps : OfSteps) (task : Task) (s : ℕ) (ks :
     sane = subst (λ m. OfPackets (IsSane m) new.packets) (sym served.members)
         (of_more (IsSane ms) (sent_from s) ks w.packets new.packets (sends_of task served.answer) served.packets reasons.sane good.1);
     servers = λ t server found. subst (λ m. IsReasoned m new.packets t server) (sym served.members)
-        (each_of_set (IsReasoned ms new.packets) w.servers s after served.server served.there good.0 (λ t v apart at. idle_at t v (reasons.servers t v at)) t server
+        (each_of_set (IsReasoned ms new.packets) w.servers s after served.server served.there good.0
+        (λ t v apart at. idle_at t v (reasons.servers t v at)) t server
         (ap (λ l. slice_get l t) (sym served.servers) ∙ found));
   }

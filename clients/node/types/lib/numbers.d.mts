@@ -4,7 +4,8 @@
  */
 export function defaultFile(): any;
 /**
- * The numbers of a file, in order; none if there is no file. A line that is no number is passed over.
+ * The numbers of a file, in order; none if there is no file. A line that is no number is passed over, and so is a last
+ * one without an end: it was cut off, and its program did not use that number.
  *
  * Throws NoNumber if the file cannot be read.
  * @param {string} file @returns {Promise<number[]>}

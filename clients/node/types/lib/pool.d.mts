@@ -93,7 +93,10 @@ export class Pool {
      * @param {(offer: Timed<Offer<Matched<T>>, L>) => Promise<R> | R} work @returns {Promise<R>}
      */
     holding<T_9 extends import("./values.mjs").Patterns, L_10 extends import("./space.mjs").HoldOptions, R>(template: T_9 & import("./values.mjs").Whole<T_9>, options: Only<L_10, import("./space.mjs").HoldOptions>, work: (offer: import("./values.mjs").Timed<import("./results.mjs").Offer<import("./values.mjs").Matched<T_9>>, L_10>) => R | Promise<R>): Promise<R>;
-    /** Closes all members. Calls that have not ended throw Closed. It may be called twice. */
+    /**
+     * Closes all members. Calls that have not ended throw Closed. What was taken for a call that an error ended, and no
+     * other call got, is said in a warning of the process. It may be called twice.
+     */
     close(): void;
     #private;
 }

@@ -1,6 +1,6 @@
 //! The unix sockets that a command line names for a call.
 
-ghost use Rattle.std.specs.Prelude.{◌≡◌, ◌≤◌, length, vec_len};
+ghost use Rattle.std.specs.Prelude.{◌≤◌, length, vec_len};
 ghost use Rattle.linda_client.specs.declared.limits.TheConstants.{MAX_SERVERS};
 
 use super::socket::SOCKET;

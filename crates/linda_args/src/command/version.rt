@@ -6,7 +6,7 @@ ghost use Rattle.linda_args.specs.Commands.{AsksForVersion};
 
 /// What is printed of the program: its version, and the forms of banks and frames that it reads and
 /// writes.
-pub const VERSION_LINES: &str = "linda 0.18.0\nbank LND2\nframe 2\n";
+pub const VERSION_LINES: &str = "linda 0.19.0\nbank LND2\nframe 2\n";
 
 /// Whether the words of the command line, of which the first names the program, ask for the
 /// version.

@@ -37,7 +37,7 @@ fn is_option(word: &str, name: &str) -> bool {
 }
 
 /// Whether one of the words is the option of the status with a path, or the path follows it.
-pub(super) fn has_path(words: &[String]) -> bool {
+pub(super) fn has_status_path(words: &[String]) -> bool {
     let mut is_value = false;
     for word in words {
         let word = word.as_str();

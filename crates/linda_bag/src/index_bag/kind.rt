@@ -5,12 +5,12 @@ ghost use Rattle.std.specs.FinMap as map;
 ghost use Rattle.linda_tuple.specs.declared.atom.Atom as atoms;
 ghost use Rattle.linda_bag.specs.Candidates.{tag_of, count_of};
 ghost use Rattle.linda_bag.specs.Filing.{IsBare};
-ghost use Rattle.linda_bag.specs.Heads.{IsBefore, IsPast, with_head};
+ghost use Rattle.linda_bag.specs.TagIndex.{IsBefore, IsPast, with_head};
 ghost use Rattle.linda_bag.specs.Ids.{IsCount};
 
-use crate::heads::{Head, next_head};
 use crate::index::Group;
 use crate::index_bag::IndexBag;
+use crate::tag_index::{TagEntry, next_tag_entry};
 use linda_tuple::{Atom, Tuple};
 
 /// The tuples of one tag and one number of fields.
@@ -39,13 +39,20 @@ impl IndexBag {
             → IsPast last.entry tag fields
             → IsBare (with_head tag_of count_of tag fields (map.get self.now))) }
     {
-        let Some(Head { tag, count, shelf }) = next_head::<Tuple, Group>(&self.index, last) else {
+        let Some(
+            TagEntry {
+                tag,
+                count,
+                id_index,
+            },
+        ) = next_tag_entry::<Tuple, Group>(&self.index, last)
+        else {
             return None;
         };
         Some(Kind {
             tag,
             fields: count,
-            tuples: shelf.len(),
+            tuples: id_index.len(),
         })
     }
 }

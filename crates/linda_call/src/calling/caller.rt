@@ -1,23 +1,22 @@
 //! A client at work over its links: what comes is given to it, and what it answers is sent and
 //! written.
 
-ghost use Rattle.std.specs.Prelude.{◌≡◌, ◌≤◌, length};
-ghost use Rattle.linda_call.specs.Ring as spec;
+mod kept_replies;
+mod puts;
+
+ghost use Rattle.std.specs.Prelude.{◌≤◌, length};
 ghost use Rattle.linda_client.specs.declared.limits.TheConstants.{MAX_SERVERS};
 
-use super::asking::{is_answer, kept_ask};
 use super::clock::{is_late, ticks_in};
 use super::fault::CallFault;
-use super::kept::{write_kept, write_none, write_without_id};
 use super::manner::Manner;
 use super::party::Party;
-use super::ring::{Fate, MOST, News, PutRing};
-use linda_client::{ClientFault, Outcome, Reaction};
+use super::ring::PutRing;
+use linda_client::{ClientFault, Reaction};
 use linda_net_proxy::{EventInbox, ServerEvent, ServerLink};
 use linda_shell_text::{Request, behind_word, read_request, write_outcome, write_refusal};
 use linda_text::skip_blanks;
-use linda_tuple::Tuple;
-use linda_wire::{Message, Refusal, Reply};
+use linda_wire::Message;
 use std::alloc::Global;
 use std::io::Write;
 use std::sync::Wait;
@@ -143,64 +142,6 @@ impl Caller<'_> {
         self.run(rt, alloc, request, writer)
     }
 
-    // Puts one more tuple beside those that are under way, or does what is asked for, once they are
-    // answered.
-    fn begin_beside<S: Wait + Clock, W: Write>(
-        &mut self,
-        rt: &S,
-        alloc: Global,
-        request: Request,
-        writer: &mut W,
-    ) -> Result<(), CallFault> {
-        match request {
-            Request::Out(tuple) => self.put(rt, alloc, tuple, writer),
-            other => {
-                self.finish(rt, alloc, writer)?;
-                self.run(rt, alloc, other, writer)
-            }
-        }
-    }
-
-    // Puts a tuple, and does not wait for its outcome. If as many as may be are under way, it waits
-    // for the first of them.
-    fn put<S: Wait + Clock, W: Write>(
-        &mut self,
-        rt: &S,
-        alloc: Global,
-        tuple: Tuple,
-        writer: &mut W,
-    ) -> Result<(), CallFault> {
-        self.make_room(rt, alloc, writer)?;
-        let server = self.ring.turn();
-        let number = self.party.puts(server);
-        self.ring.push(self.party.servers(), number, tuple)?;
-        self.send_last(rt, alloc, server)
-    }
-
-    // Waits until one more put may be under way.
-    fn make_room<S: Wait + Clock, W: Write>(
-        &mut self,
-        rt: &S,
-        alloc: Global,
-        writer: &mut W,
-    ) -> Result<(), CallFault> {
-        for _ in rt.forever() {
-            if !self.ring.is_full() {
-                return Ok(());
-            }
-            self.wait_for_news(rt, alloc, writer)?;
-        }
-        Ok(())
-    }
-
-    // Sends the last put to its server.
-    fn send_last(&self, rt: &impl Wait, alloc: Global, server: u32) -> Result<(), CallFault> {
-        match self.ring.last() {
-            Some(message) => self.send(rt, alloc, server, message),
-            None => Ok(()),
-        }
-    }
-
     /// Waits until all puts are answered, and writes their outcomes.
     ///
     /// # Errors
@@ -217,78 +158,6 @@ impl Caller<'_> {
                 return Ok(());
             }
             self.wait_for_news(rt, alloc, writer)?;
-        }
-        Ok(())
-    }
-
-    // Hears what comes next, if something does within a millisecond.
-    fn wait_for_news<S: Wait + Clock, W: Write>(
-        &mut self,
-        rt: &S,
-        alloc: Global,
-        writer: &mut W,
-    ) -> Result<(), CallFault> {
-        match self.inbox.take(rt) {
-            Some((server, arrival)) => self.hear_beside(rt, alloc, server, arrival, writer),
-            None => Ok(()),
-        }
-    }
-
-    // Hears what came while the client does nothing: the puts under way hear it, and what has come
-    // of them is written. A Gap is passed over while puts wait at its server. The server refused
-    // one before, which is what is reported; or what it answers went out over a new connection
-    // before its Welcome was heard, and was sent again after that.
-    fn hear_beside<S: Wait, W: Write>(
-        &mut self,
-        rt: &S,
-        alloc: Global,
-        server: u32,
-        arrival: ServerEvent,
-        writer: &mut W,
-    ) -> Result<(), CallFault> {
-        if is_gap(&arrival) && self.ring.waits_at(server) {
-            return Ok(());
-        }
-        let news = news_in(server, &arrival);
-        let is_refusal = matches!(news, Some(News::Refused { .. }));
-        if !is_refusal || !self.ring.waits_at(server) {
-            self.hear(rt, alloc, server, arrival, writer)?;
-        }
-        let Some(news) = news else {
-            return Ok(());
-        };
-        self.ring.hears(news);
-        if matches!(news, News::Welcomed { .. }) {
-            self.put_again(rt, alloc, server)?;
-        }
-        self.tell_done(alloc, writer)
-    }
-
-    // Sends again what the server has not answered of the puts under way.
-    fn put_again(&self, rt: &impl Wait, alloc: Global, server: u32) -> Result<(), CallFault> {
-        for place in 0..MOST {
-            if let Some(message) = self.ring.again(server, place) {
-                self.send(rt, alloc, server, message)?;
-            }
-        }
-        Ok(())
-    }
-
-    // Writes the outcomes of the first puts, as far as they are answered.
-    fn tell_done<W: Write>(&mut self, alloc: Global, writer: &mut W) -> Result<(), CallFault> {
-        for _ in 0..MOST {
-            let Some((server, fate)) = self.ring.take() else {
-                return Ok(());
-            };
-            let client = self.party.number();
-            let line = match fate {
-                Fate::Stored(id) => write_outcome(alloc, client, &Outcome::Stored { server, id })?,
-                Fate::Refused(code, detail) => {
-                    return Err(CallFault::Refused(server, code, detail));
-                }
-                _ => write_without_id(alloc, server, client)?,
-            };
-            write_line(writer, &line)?;
         }
         Ok(())
     }
@@ -320,58 +189,6 @@ impl Caller<'_> {
         if let Some(link) = self.links.get(server as usize) {
             link.retry(rt);
         }
-    }
-
-    // Writes the reply that each server keeps to the client.
-    fn tell_kept<S: Wait + Clock, W: Write>(
-        &mut self,
-        rt: &S,
-        alloc: Global,
-        writer: &mut W,
-    ) -> Result<(), CallFault> {
-        let mut server: u32 = 0;
-        for _ in 0..self.links.len() {
-            let line = self.kept_line(rt, alloc, server, writer)?;
-            write_line(writer, &line)?;
-            server = server.saturating_add(1);
-        }
-        Ok(())
-    }
-
-    // The line of the reply that a server keeps to the client. It is asked for by the number that
-    // is kept.
-    fn kept_line<S: Wait + Clock, W: Write>(
-        &mut self,
-        rt: &S,
-        alloc: Global,
-        server: u32,
-        writer: &mut W,
-    ) -> Result<String, CallFault> {
-        let number = self.party.kept(server);
-        let client = self.party.number();
-        if number == 0 {
-            return Ok(write_none(alloc, server, client)?);
-        }
-        self.send(rt, alloc, server, &kept_ask(number))?;
-        for _ in rt.forever() {
-            match self.inbox.take(rt) {
-                None => {}
-                Some((from, ServerEvent::Came(reply))) if is_answer(from, &reply, server, number) =>
-                    {
-                        if let Some(line) = write_kept(alloc, server, client, &reply)? {
-                            return Ok(line);
-                        }
-                    }
-                Some((from, arrival)) => {
-                    let is_greeted = from == server && is_greeting(&arrival);
-                    self.hear(rt, alloc, from, arrival, writer)?;
-                    if is_greeted {
-                        self.send(rt, alloc, server, &kept_ask(number))?;
-                    }
-                }
-            }
-        }
-        Ok(String::new(alloc))
     }
 
     // Does what is asked for. The client knows the time when it is asked.
@@ -504,44 +321,6 @@ impl Caller<'_> {
 // Whether the line asks for the replies that are kept.
 fn is_last(line: &[u8]) -> bool {
     matches!(behind_word(skip_blanks(line), b"last"), Some([]))
-}
-
-// Whether a server says that messages before one are missing.
-fn is_gap(arrival: &ServerEvent) -> bool
-    ensures { result ≡ spec.is_gap arrival.now }
-{
-    match arrival {
-        ServerEvent::Came(Reply::Refused { code, .. }) => *code == Refusal::Gap(0).code(),
-        _ => false,
-    }
-}
-
-// What comes of puts by what a server brings.
-fn news_in(server: u32, arrival: &ServerEvent) -> Option<News>
-    ensures { result ≡ spec.news_in server arrival.now }
-{
-    match arrival {
-        ServerEvent::Greeted(last) => Some(News::Welcomed {
-            server,
-            last: *last,
-        }),
-        ServerEvent::Came(Reply::Stored { n, id }) => Some(News::Stored {
-            server,
-            number: *n,
-            id: *id,
-        }),
-        ServerEvent::Came(Reply::Refused { code, detail }) => Some(News::Refused {
-            server,
-            code: *code,
-            detail: *detail,
-        }),
-        _ => None,
-    }
-}
-
-// Whether a server welcomed the client.
-fn is_greeting(arrival: &ServerEvent) -> bool {
-    matches!(arrival, ServerEvent::Greeted(_))
 }
 
 // Writes a line, with its line feed, and flushes it.

@@ -1,8 +1,8 @@
 //! The client of a call and how it stands with its servers: what it does with lines, with time and
 //! with what comes, over no connection.
 
-ghost use Rattle.std.specs.Prelude.{◌≡◌, ◌↔◌, ◌≤◌, [], None, Some, Ok, Err, true, false, map};
-ghost use Rattle.std.specs.Prelude.{IfOk, IfErr, OnErr, OnOk, option_copied};
+ghost use Rattle.std.specs.Prelude.{◌≡◌, ◌≤◌, None, Some, Ok, Err, true, false, map};
+ghost use Rattle.std.specs.Prelude.{IfOk, IfErr, OnErr};
 ghost use Rattle.std.specs.List.{list_any};
 ghost use Rattle.linda_client.specs.declared.limits.TheConstants.{MAX_SERVERS};
 ghost use Rattle.linda_client.specs.Client.{has_left, servers};

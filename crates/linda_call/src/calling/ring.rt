@@ -1,6 +1,6 @@
 //! Puts under way of a call that puts together, in the order of its lines.
 
-ghost use Rattle.std.specs.Prelude.{◌≡◌, ◌≤◌, ◌+◌, ◌%◌, ◌++◌, ◌∷◌, [], map, nat_le, IfOk, OnOk, OnErr};
+ghost use Rattle.std.specs.Prelude.{◌≡◌, ◌≤◌, ◌+◌, ◌%◌, ◌++◌, ◌∷◌, [], map, nat_le, OnOk, OnErr};
 ghost use Rattle.std.specs.Prelude.{option_copied, vec_len};
 ghost use Rattle.std.specs.List.{list_any};
 ghost use Rattle.linda_call.specs.Ring as spec;

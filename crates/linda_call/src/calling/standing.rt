@@ -183,12 +183,12 @@ impl ServerStanding {
     pub(super) fn is_foreign(&self, reply: &Reply) -> bool
         ensures { result ≡ spec.is_foreign self.now reply.now }
     {
-        self.is_open(number_of(reply)) && !fits(self.wants, reply)
+        self.is_unanswered(number_of(reply)) && !fits(self.wants, reply)
     }
 
     // Whether the number is that of a message that is unanswered.
-    fn is_open(&self, number: Option<u64>) -> bool
-        ensures { result ≡ spec.is_open self.now number }
+    fn is_unanswered(&self, number: Option<u64>) -> bool
+        ensures { result ≡ spec.is_unanswered self.now number }
     {
         match number {
             Some(n) => n > self.kept && n <= self.sent,

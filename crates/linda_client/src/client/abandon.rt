@@ -1,6 +1,5 @@
 //! The end of a synchronization by its client.
 
-ghost use Rattle.std.specs.Prelude.{◌≡◌};
 ghost use Rattle.linda_client.specs.React.{Abandon, react};
 ghost use Rattle.linda_client.specs.Reaction.{Does};
 

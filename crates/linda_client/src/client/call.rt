@@ -1,6 +1,5 @@
 //! Any call of the client.
 
-ghost use Rattle.std.specs.Prelude.{◌≡◌};
 ghost use Rattle.linda_client.specs.React.{react};
 ghost use Rattle.linda_client.specs.Reaction.{Does};
 ghost use Rattle.linda_client.specs.Call.{call_of};

@@ -2,7 +2,7 @@
 
 ghost use Rattle.std.specs.Prelude.{◌≡◌, ◌<◌, [], None, Some, Ok, IfOk, IsSome, is_some, true};
 ghost use Rattle.linda_tuple.specs.Matching.{Matches};
-ghost use Rattle.linda_client.specs.Arrival.{arrival_of};
+ghost use Rattle.linda_client.specs.ArrivedTuple.{arrival_of};
 ghost use Rattle.linda_client.specs.Client as seen;
 ghost use Rattle.linda_client.specs.Client.{OfPending, pending_in, servers};
 ghost use Rattle.linda_client.specs.Packets.{cancels_but};
@@ -12,7 +12,7 @@ ghost use Rattle.linda_client.specs.React.{got_by_read, react};
 ghost use Rattle.linda_client.specs.Reaction.{Does, commitment};
 
 use super::Client;
-use crate::arrival::{Accepted, Arriving};
+use crate::arrived_tuple::{Accepted, Arriving};
 use crate::ask::Ask;
 use crate::fault::ClientFault;
 use crate::outcome::Got;

@@ -1,6 +1,5 @@
 //! The client's clock.
 
-ghost use Rattle.std.specs.Prelude.{◌≡◌};
 ghost use Rattle.linda_client.specs.React.{Tick, react};
 ghost use Rattle.linda_client.specs.Reaction.{Does};
 

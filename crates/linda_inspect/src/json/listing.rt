@@ -12,7 +12,7 @@ ghost use Rattle.linda_inspect.specs.Json.{json_reply, json_state, json_tuple_li
 use super::output::write_bytes;
 use super::value::{push_member, push_tuple};
 use crate::fault::OutputFault;
-use crate::listing::Lists;
+use crate::lists::Lists;
 use linda_bag::Bag;
 use linda_book::{Book, KeptReply};
 use linda_snap::{kept_after, tuple_from};

@@ -7,8 +7,8 @@ use crate::disks::{Disks, Pair};
 use crate::empty::{expect_empty, of_device, spell_empty};
 use crate::fault::OpenFault;
 use linda_disk::Disk;
+use linda_ghost::Moment;
 use linda_journal::{Bank, BankFault, lay_gate};
-use linda_moment::Moment;
 use linda_store_step::Store;
 use std::alloc::Global;
 

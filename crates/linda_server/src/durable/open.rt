@@ -8,7 +8,7 @@ use crate::disks::{Disks, Pair};
 use crate::empty::is_limit;
 use crate::fault::OpenFault;
 use linda_disk::Disk;
-use linda_moment::Moment;
+use linda_ghost::Moment;
 use linda_snap::{ChoiceFault, Chosen, choose_bank};
 use linda_store_step::Store;
 use std::alloc::Global;

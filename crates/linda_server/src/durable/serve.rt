@@ -15,13 +15,12 @@ use super::Durable;
 use crate::commit::commit;
 use crate::copying::renewed;
 use crate::fault::ServeFault;
-use crate::next::{noted, spared, unless_spent};
-use crate::served::Served;
-use crate::serving::{Batch, serve};
+use crate::next::{unless_spent, with_deeds_logged, with_taken_copied};
+use crate::serving::{Messages, serve};
 use linda_disk::Disk;
+use linda_ghost::Moment;
 use linda_journal::{GATE_BYTES, RECORD_HEAD, records_for};
-use linda_moment::Moment;
-use linda_store_step::Need;
+use linda_store_step::{Need, Served};
 use linda_wire::Message;
 use std::alloc::Global;
 use std::mem;
@@ -33,7 +32,7 @@ impl<D: Disk> Durable<D> {
     ghost use Rattle.linda_store_step.specs.declared.size.TheConstants.{MAX_GROUP};
     ghost use Rattle.linda_store_step.specs.History.{History, Answers};
     ghost use Rattle.linda_store_step.specs.Store.{IsOrderly};
-    ghost use Rattle.linda_server.specs.Served.{messages_of};
+    ghost use Rattle.linda_server.specs.Messages.{messages_of};
     ghost use Rattle.linda_server.specs.Calls.{LeadTo, IsEither};
     ghost use Rattle.linda_server.specs.Handled.{Serves};
     ghost use Rattle.linda_store_state.specs.Deed.{is_taken};
@@ -56,7 +55,7 @@ impl<D: Disk> Durable<D> {
         requires { length messages.now ≤ MAX_GROUP }
         ensures { Serves self.old messages.now result self.new }
     {
-        self.serve_batch(alloc, Batch::Many(messages))
+        self.serve_batch(alloc, Messages::Many(messages))
     }
 
     /// Does what the message of the client asks, as `serve_all` does of several.
@@ -72,11 +71,11 @@ impl<D: Disk> Durable<D> {
     ) -> Result<Served, ServeFault>
         ensures { Serves self.old ((client, message.now) ∷ []) result self.new }
     {
-        self.serve_batch(alloc, Batch::One(client, message))
+        self.serve_batch(alloc, Messages::One(client, message))
     }
 
-    // Does what the messages of the batch ask.
-    fn serve_batch(&mut self, alloc: Global, batch: Batch<'_>) -> Result<Served, ServeFault>
+    // Does what the messages ask.
+    fn serve_batch(&mut self, alloc: Global, batch: Messages<'_>) -> Result<Served, ServeFault>
         requires { length (messages_of batch) ≤ MAX_GROUP }
         ensures { Serves self.old (messages_of batch.entry) result self.new }
     {
@@ -84,7 +83,7 @@ impl<D: Disk> Durable<D> {
         self.admit(need)?;
         self.begin();
         let next = mem::replace(&mut self.next, None);
-        self.next = unless_spent(spared(next, alloc, self.store.state(), batch));
+        self.next = unless_spent(with_taken_copied(next, alloc, self.store.state(), batch));
         let Ok(served) = serve(&mut self.store, alloc, batch) else {
             return Err(ServeFault::Memory);
         };
@@ -93,7 +92,7 @@ impl<D: Disk> Durable<D> {
 
     // What the deeds of the messages will need on the bank in use; None if one of them will have no
     // spelling in its form.
-    fn need_of(&self, batch: Batch<'_>) -> Option<Need>
+    fn need_of(&self, batch: Messages<'_>) -> Option<Need>
         requires { length (messages_of batch) ≤ MAX_GROUP }
         ensures need { (all : History)
             → Answers self.now.store.state self.now.store.soft (messages_of batch.entry) all
@@ -103,8 +102,8 @@ impl<D: Disk> Durable<D> {
     {
         let form = self.disks.form();
         match batch {
-            Batch::One(client, message) => self.store.need_of_one(form, client, message),
-            Batch::Many(messages) => self.store.need_of(form, messages),
+            Messages::One(client, message) => self.store.need_of_one(form, client, message),
+            Messages::Many(messages) => self.store.need_of(form, messages),
         }
     }
 
@@ -193,7 +192,7 @@ impl<D: Disk> Durable<D> {
         match commit(&mut self.disks, alloc, &served.deeds) {
             Ok(()) => {
                 let next = mem::replace(&mut self.next, None);
-                self.next = unless_spent(noted(next, alloc, &served.deeds));
+                self.next = unless_spent(with_deeds_logged(next, alloc, &served.deeds));
                 let copy = mem::replace(&mut self.copy, None);
                 self.copy = renewed(copy, alloc, self.store.state(), &served.deeds);
                 self.down = false;

@@ -7,7 +7,7 @@ use super::Durable;
 use crate::fault::{ServeFault, node_fault};
 use crate::renewal::renew;
 use linda_disk::Disk;
-use linda_moment::Moment;
+use linda_ghost::Moment;
 use linda_store::NodeFault;
 use std::alloc::Global;
 

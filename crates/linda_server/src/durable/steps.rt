@@ -8,7 +8,7 @@ use crate::fault::{ServeFault, node_fault};
 use crate::progress::Progress;
 use crate::stepping::{advance, start};
 use linda_disk::Disk;
-use linda_moment::Moment;
+use linda_ghost::Moment;
 use linda_store::NodeFault;
 use std::alloc::Global;
 use std::mem;
@@ -19,16 +19,16 @@ impl<D: Disk> Durable<D> {
     ghost use Rattle.linda_server.specs.Handled.{HasBegun, CameTo};
 
     /// Whether a snapshot in steps is begun, and was not given up.
-    pub fn is_stepping(&self) -> bool
+    pub fn is_snapshot_begun(&self) -> bool
         ensures { result ≡ is_some self.now.next }
     {
         self.next.is_some()
     }
 
     /// Copies the next clients, so many at most, for a snapshot in steps that is begun later: it
-    /// walks over no client then. Until that the copy follows what is done; if memory runs out it is
-    /// given up, and nothing else is. Returns whether nothing is left to copy, or it is given up. No
-    /// device call is made, and nothing changes that a call answers.
+    /// walks over no client then. Until that the copy follows what is done; if memory runs out it
+    /// is given up, and nothing else is. Returns whether nothing is left to copy, or it is given
+    /// up. No device call is made, and nothing changes that a call answers.
     pub fn copy_clients(&mut self, alloc: Global, most: u32) -> bool
         ensures store { self.new.store ≡ self.old.store }
         ensures disks { (self.new.disks ≡ self.old.disks) × (self.new.limit ≡ self.old.limit) }
@@ -61,15 +61,15 @@ impl<D: Disk> Durable<D> {
     }
 
     /// Begins a snapshot in steps: the next bank is laid on the disk that is not in use, behind a
-    /// first gate that is closed. What is done from now on is noted for it; if memory runs out then,
-    /// or the bank would pass its limit, it is given up, and nothing else is. One that was begun
-    /// before is given up. Nothing changes that a client sees.
+    /// first gate that is closed. What is done from now on is noted for it; if memory runs out
+    /// then, or the bank would pass its limit, it is given up, and nothing else is. One that was
+    /// begun before is given up. Nothing changes that a client sees.
     ///
     /// # Errors
     ///
     /// `Full` if the next bank would pass the limit or no generation is left, and nothing changed;
     /// `Down`: it was down, or it is because a device failed or memory ran out.
-    pub fn begin_steps(&mut self, alloc: Global) -> Result<(), NodeFault>
+    pub fn begin_snapshot(&mut self, alloc: Global) -> Result<(), NodeFault>
         // It goes on for the same state, and it falls as said.
         ensures rewrites { Rewrites self.old result self.new }
         ensures falls { Falls self.old result self.new }
@@ -86,8 +86,8 @@ impl<D: Disk> Durable<D> {
         }
     }
 
-    /// Begins a snapshot in steps. It is what `begin_steps` stands on, and distinguishes a device's
-    /// failure from `Memory`.
+    /// Begins a snapshot in steps. It is what `begin_snapshot` stands on, and distinguishes a
+    /// device's failure from `Memory`.
     ///
     /// # Errors
     ///
@@ -124,14 +124,14 @@ impl<D: Disk> Durable<D> {
     }
 
     /// Takes the next step of a snapshot: it writes so many bytes at most, and one entry of the
-    /// snapshot more, and ends synced. With the last one the new bank is in use: its records are what
-    /// was done since it was begun.
+    /// snapshot more, and ends synced. With the last one the new bank is in use: its records are
+    /// what was done since it was begun.
     /// Nothing changes that a client sees.
     ///
     /// # Errors
     ///
     /// `Down`: it was down, or it is because a device failed or memory ran out.
-    pub fn step(&mut self, alloc: Global, most: usize) -> Result<Progress, NodeFault>
+    pub fn continue_snapshot(&mut self, alloc: Global, most: usize) -> Result<Progress, NodeFault>
         // It goes on for the same state, and it falls as said.
         ensures rewrites { Rewrites self.old result self.new }
         ensures falls { Falls self.old result self.new }
@@ -147,8 +147,8 @@ impl<D: Disk> Durable<D> {
         }
     }
 
-    /// Takes the next step of a snapshot. It is what `step` stands on, and distinguishes a device's
-    /// failure from `Memory`.
+    /// Takes the next step of a snapshot. It is what `continue_snapshot` stands on, and
+    /// distinguishes a device's failure from `Memory`.
     ///
     /// # Errors
     ///

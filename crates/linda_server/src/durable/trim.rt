@@ -6,7 +6,7 @@ use super::Durable;
 use crate::clearing::clear;
 use crate::fault::{ServeFault, node_fault, of_disk};
 use linda_disk::Disk;
-use linda_moment::Moment;
+use linda_ghost::Moment;
 use linda_store::NodeFault;
 
 impl<D: Disk> Durable<D> {

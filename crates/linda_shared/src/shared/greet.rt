@@ -11,7 +11,7 @@ use crate::greeted::Greeted;
 use crate::seat::Seat;
 use linda_disk::Disk;
 use linda_shared_accounts::SharedFault;
-use linda_shared_held::Held;
+use linda_shared_held::{Admission, Held};
 use linda_shared_queue::{Mailbox, Outlet};
 use linda_wire::Message;
 use std::alloc::{AllocError, Global};
@@ -121,9 +121,10 @@ fn admit<D: Disk, L: Ledger>(
         × (held.new.accounts ≡ held.old.accounts)
         × ((c : ℕ) → waits_for held.new.boxes c ≡ waits_for held.old.boxes c) }
 {
-    match held.greet(alloc, message)? {
-        Err((code, detail)) => Ok(Greeted::Refused(code, detail)),
-        Ok((account, last)) => Ok(Greeted::Welcome(
+    let admission = held.greet(alloc, message)?;
+    match admission {
+        Admission::Refused(code, detail) => Ok(Greeted::Refused(code, detail)),
+        Admission::Welcome(account, last) => Ok(Greeted::Welcome(
             Seat::new(account, mine),
             Outlet::new(out),
             last,

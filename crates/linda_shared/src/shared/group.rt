@@ -1,6 +1,7 @@
 //! Sessions that one thread serves, which waits for none of them.
 
 ghost use Rattle.std.specs.Prelude.{◌≡◌, map, All, IfOk};
+ghost use Rattle.linda_shared_held.specs.Greeting.{admission_of};
 ghost use Rattle.linda_shared.specs.Greeting.{WasGreeted, IsSeatOf};
 ghost use Rattle.linda_shared.specs.Group.{told_in, AreTold, IsEffectOf};
 
@@ -9,6 +10,7 @@ use crate::group::MessageGroup;
 use crate::served::ServedGroup;
 use linda_disk::Disk;
 use linda_shared_accounts::{Account, SharedFault};
+use linda_shared_held::Admission;
 use linda_shared_outbox::Sent;
 use linda_wire::Message;
 use std::sync::Wait;
@@ -32,15 +34,11 @@ impl<D: Disk, L: Ledger> Shared<D, L> {
     /// # Errors
     ///
     /// `Down`, before all; `Memory`: nothing changed.
-    pub fn admit<R: Wait>(
-        &self,
-        rt: &R,
-        message: &Message,
-    ) -> Result<Result<(Account<L>, u64), (u8, u64)>, SharedFault>
+    pub fn admit<R: Wait>(&self, rt: &R, message: &Message) -> Result<Admission<L>, SharedFault>
         // It was answered as a server says that is in some state, and has given out some seats;
-        ensures greeted { IfOk result (WasGreeted message.now) }
+        ensures greeted { IfOk result (λ a. WasGreeted message.now (admission_of a)) }
         // so the account is of the Hello's client, and nothing of it is on its way.
-        ensures account { IfOk result (IsSeatOf message.now) }
+        ensures account { IfOk result (λ a. IsSeatOf message.now (admission_of a)) }
     {
         let mut guard = self.locked.lock(rt);
         let answer = guard.held.greet(self.alloc, message);

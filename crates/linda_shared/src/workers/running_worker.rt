@@ -9,7 +9,7 @@ use crate::seat::Seat;
 use crate::shared::Shared;
 use crate::worker::{Worker, work};
 use linda_disk::Disk;
-use linda_moment::Moment;
+use linda_ghost::Moment;
 use linda_shared_accounts::SharedFault;
 use linda_shared_queue::Outlet;
 use std::alloc::Global;

@@ -22,7 +22,7 @@ impl<D: Disk, L: Ledger> Held<D, L> {
             × (self.new.receipts.items ≡ self.old.receipts.items)
             × (self.new.count ≡ self.old.count)
             × (self.new.accounts ≡ self.old.accounts)
-            × (self.new.pace ≡ self.old.pace)
+            × (self.new.policy ≡ self.old.policy)
             × (self.new.recall ≡ self.old.recall) }
     {
         self.server.set_second(second);

@@ -18,6 +18,7 @@ use linda_server::Durable;
 use linda_shared_accounts::{SharedFault, SharedReceipt};
 use linda_shared_outbox::Outboxes;
 use linda_store_state::State;
+use linda_store_step::comes_next;
 use linda_wire::{Message, Refusal, Reply};
 use std::alloc::{AllocError, Global};
 use std::slice;
@@ -74,7 +75,7 @@ fn take_one<D: Disk>(
     ensures { TakesOne (kept server.old receipts.old boxes.old) count message.now result
         (kept server.new receipts.new boxes.new) }
 {
-    if count == u64::MAX && comes_next(server.state(), message.0, &message.1) {
+    if count == u64::MAX && is_its_next(server.state(), message.0, &message.1) {
         if server.is_down() {
             return Err(SharedFault::Down);
         }
@@ -117,16 +118,11 @@ fn first_of(told: Vec<Option<SharedReceipt>>) -> Option<SharedReceipt>
 }
 
 // Whether the message bears the number after its client's last.
-fn comes_next(state: &State<IndexBag>, client: u32, message: &Message) -> bool
+fn is_its_next(state: &State<IndexBag>, client: u32, message: &Message) -> bool
     ensures { result ≡ steps.comes_next (number_of_message message.now)
         (last_number state.now client) }
 {
-    match message {
-        Message::Out { n, .. } => state.book.last(client).checked_add(1) == Some(*n),
-        Message::Accept { n, .. } => state.book.last(client).checked_add(1) == Some(*n),
-        Message::Leave { n } => state.book.last(client).checked_add(1) == Some(*n),
-        _ => false,
-    }
+    comes_next(message, state.book.last(client))
 }
 
 // Tells the client that its message is refused. Where there is no memory for that, the server is

@@ -11,7 +11,8 @@ ghost use Rattle.linda_server.specs.Server.{BothHonest, StandNow};
 ghost use Rattle.linda_shared_held.specs.Order.{known, IsReplayed, CountsDeeds, StandsBehind};
 ghost use Rattle.linda_shared_outbox.specs.Waiting.{waits_for};
 ghost use Rattle.linda_shared_accounts.specs.Accounts.{AreShortened};
-ghost use Rattle.linda_shared_held.specs.Pace.{is_due, pace_from, put_off_at, tried_at};
+ghost use Rattle.linda_shared_held.specs.SnapshotPolicy.{is_due, policy_from, deferred_at};
+ghost use Rattle.linda_shared_held.specs.SnapshotPolicy.{tried_at};
 ghost use Rattle.linda_shared_held.specs.Recall.{Remembers};
 ghost use Rattle.linda_store_state.specs.Numbers.{kept_sum};
 ghost use Rattle.linda_shared_held.specs.Covered.{BoxesCovered};
@@ -20,9 +21,9 @@ ghost use Rattle.linda_shared_held.specs.Snapshot.{TakesSnapshot};
 use super::Held;
 use super::forget::put_away;
 use super::recall::begin_anew;
-use crate::pace::Pace;
+use crate::snapshot_policy::SnapshotPolicy;
 use linda_disk::Disk;
-use linda_moment::Moment;
+use linda_ghost::Moment;
 use linda_server::Durable;
 use linda_shared_accounts::SharedFault;
 use linda_store::NodeFault;
@@ -77,19 +78,20 @@ impl<D: Disk, L: Ledger> Held<D, L> {
     /// Whether a snapshot pays for itself: there are 1,024 records since the last one or they have
     /// 32 MiB, and they have at least as many bytes as that one left in the bank, or half of the
     /// limit is taken; or the bank in use is not in the form of new banks. After one that was
-    /// refused, once there are 1,024 records more, or 32 MiB of them. Or a deed was refused for room
-    /// since the last one or since one was last tried, and there is a record that this one did not
-    /// find. A server that was opened counts bytes from what the bank has, unless `count_from` says
-    /// otherwise.
-    pub fn pays(&self) -> bool
-        ensures is { result ≡ is_due (is_old (form_in_use self.now.server.disks)) self.now.pace.base
-            self.now.pace.start self.now.pace.not_before self.now.pace.not_below
-            self.now.pace.tried self.now.pace.lacks_room
+    /// refused, once there are 1,024 records more, or 32 MiB of them. Or a deed was refused for
+    /// room since the last one or since one was last tried, and there is a record that this one did
+    /// not find. A server that was opened counts bytes from what the bank has, unless `count_from`
+    /// says otherwise.
+    pub fn snapshot_due(&self) -> bool
+        ensures is { result ≡ is_due (is_old (form_in_use self.now.server.disks))
+            self.now.policy.base
+            self.now.policy.start self.now.policy.not_before self.now.policy.not_below
+            self.now.policy.tried self.now.policy.lacks_room
             (records_in_use self.now.server.disks) (end_in_use self.now.server.disks)
             self.now.server.limit }
     {
         let server = &self.server;
-        self.pace.is_due(
+        self.policy.is_due(
             server.is_of_old_form(),
             server.records(),
             server.used(),
@@ -100,9 +102,9 @@ impl<D: Disk, L: Ledger> Held<D, L> {
     /// No snapshot that pays is tried before there are 1,024 records more, or records of `room`
     /// bytes, 32 MiB at most, whichever come first; one that a refused deed asks for is. Nothing
     /// else changes.
-    pub fn put_off(&mut self, room: usize)
-        ensures pace { self.new.pace ≡ put_off_at (records_in_use self.old.server.disks)
-            (end_in_use self.old.server.disks) room self.old.pace }
+    pub fn defer_snapshot(&mut self, room: usize)
+        ensures policy { self.new.policy ≡ deferred_at (records_in_use self.old.server.disks)
+            (end_in_use self.old.server.disks) room self.old.policy }
         ensures same { (self.new.opening.value ≡ self.old.opening.value)
             × (self.new.base.value ≡ self.old.base.value)
             × (self.new.receipts.items ≡ self.old.receipts.items)
@@ -111,14 +113,14 @@ impl<D: Disk, L: Ledger> Held<D, L> {
             × (self.new.boxes ≡ self.old.boxes)
             × (self.new.recall ≡ self.old.recall) }
     {
-        self.pace
-            .puts_off(self.server.records(), self.server.used(), room);
+        self.policy
+            .defers(self.server.records(), self.server.used(), room);
     }
 
     /// The bank in use took `base` bytes when it was new: its bytes are counted from there on. What
     /// was put off is so no more. Nothing else changes.
     pub fn count_from(&mut self, base: usize)
-        ensures pace { self.new.pace ≡ pace_from base base }
+        ensures policy { self.new.policy ≡ policy_from base base }
         ensures same { (self.new.opening.value ≡ self.old.opening.value)
             × (self.new.base.value ≡ self.old.base.value)
             × (self.new.receipts.items ≡ self.old.receipts.items)
@@ -127,12 +129,12 @@ impl<D: Disk, L: Ledger> Held<D, L> {
             × (self.new.boxes ≡ self.old.boxes)
             × (self.new.recall ≡ self.old.recall) }
     {
-        self.pace = Pace::new(base, base);
+        self.policy = SnapshotPolicy::new(base, base);
     }
 
-    /// Takes a snapshot, from which on the receipts begin anew. Only this call, the last `step` of a
-    /// snapshot and `forget` move the base. No receipt of a seat is younger then: seats that came
-    /// back for a next session keep only their last one.
+    /// Takes a snapshot, from which on the receipts begin anew. Only this call, the last
+    /// `continue_snapshot` of a snapshot and `forget` move the base. No receipt of a seat is
+    /// younger then: seats that came back for a next session keep only their last one.
     ///
     /// # Errors
     ///
@@ -153,17 +155,18 @@ impl<D: Disk, L: Ledger> Held<D, L> {
         ensures shortened { OnOk result
             (AreShortened self.old.accounts.places self.new.accounts.places) }
         ensures accounts { OnErr result (self.new.accounts ≡ self.old.accounts) }
-        // At Ok the pace is that of a new bank, else a snapshot was tried in vain.
-        ensures pace { OnOk result (self.new.pace ≡ pace_from (end_in_use self.new.server.disks)
+        // At Ok the policy is that of a new bank, else a snapshot was tried in vain.
+        ensures policy { OnOk result
+            (self.new.policy ≡ policy_from (end_in_use self.new.server.disks)
             (end_in_use self.new.server.disks)) }
-        ensures tried { OnErr result (self.new.pace
+        ensures tried { OnErr result (self.new.policy
             ≡ tried_at (records_in_use self.old.server.disks) (end_in_use self.old.server.disks)
-            self.old.pace) }
+            self.old.policy) }
     {
-        self.pace.tries(self.server.records(), self.server.used());
+        self.policy.tries(self.server.records(), self.server.used());
         take_snapshot(&mut self.server, alloc)?;
         self.move_base(alloc);
-        self.pace = new_pace(&self.server);
+        self.policy = new_policy(&self.server);
         Ok(())
     }
 
@@ -175,7 +178,7 @@ impl<D: Disk, L: Ledger> Held<D, L> {
         ensures same { (self.new.server ≡ self.old.server)
             × (self.new.opening.value ≡ self.old.opening.value)
             × (self.new.count ≡ self.old.count) × (self.new.boxes ≡ self.old.boxes)
-            × (self.new.pace ≡ self.old.pace) }
+            × (self.new.policy ≡ self.old.policy) }
         ensures total { self.new.accounts.total ≡ self.old.accounts.total }
         ensures shortened { AreShortened self.old.accounts.places self.new.accounts.places }
     {
@@ -191,12 +194,12 @@ impl<D: Disk, L: Ledger> Held<D, L> {
     }
 }
 
-/// The pace of a bank that was taken into use just now.
-pub(super) fn new_pace<D: Disk>(server: &Durable<D>) -> Pace
-    ensures { result ≡ pace_from (end_in_use server.now.disks) (end_in_use server.now.disks) }
+/// The policy of a bank that was taken into use just now.
+pub(super) fn new_policy<D: Disk>(server: &Durable<D>) -> SnapshotPolicy
+    ensures { result ≡ policy_from (end_in_use server.now.disks) (end_in_use server.now.disks) }
 {
     let used = server.used();
-    Pace::new(used, used)
+    SnapshotPolicy::new(used, used)
 }
 
 // Takes a snapshot. What is known of a server that did not is as before.

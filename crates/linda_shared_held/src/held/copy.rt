@@ -23,7 +23,7 @@ impl<D: Disk, L: Ledger> Held<D, L> {
             × (self.new.count ≡ self.old.count)
             × (self.new.accounts ≡ self.old.accounts)
             × (self.new.boxes ≡ self.old.boxes)
-            × (self.new.pace ≡ self.old.pace)
+            × (self.new.policy ≡ self.old.policy)
             × (self.new.recall ≡ self.old.recall) }
     {
         self.server.copy_clients(alloc, most)
@@ -43,7 +43,7 @@ impl<D: Disk, L: Ledger> Held<D, L> {
             × (self.new.count ≡ self.old.count)
             × (self.new.accounts ≡ self.old.accounts)
             × (self.new.boxes ≡ self.old.boxes)
-            × (self.new.pace ≡ self.old.pace)
+            × (self.new.policy ≡ self.old.policy)
             × (self.new.recall ≡ self.old.recall) }
     {
         self.server.forget_copy();

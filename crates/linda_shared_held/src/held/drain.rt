@@ -26,7 +26,7 @@ impl<D: Disk, L: Ledger> Held<D, L> {
             × (self.new.receipts.items ≡ self.old.receipts.items)
             × (self.new.count ≡ self.old.count)
             × (self.new.accounts ≡ self.old.accounts) × (self.new.server ≡ self.old.server)
-            × (self.new.pace ≡ self.old.pace) × (self.new.recall ≡ self.old.recall) }
+            × (self.new.policy ≡ self.old.policy) × (self.new.recall ≡ self.old.recall) }
     {
         self.boxes.drain(alloc, client)
     }
@@ -41,7 +41,7 @@ impl<D: Disk, L: Ledger> Held<D, L> {
             × (self.new.receipts.items ≡ self.old.receipts.items)
             × (self.new.count ≡ self.old.count)
             × (self.new.accounts ≡ self.old.accounts) × (self.new.server ≡ self.old.server)
-            × (self.new.pace ≡ self.old.pace) × (self.new.recall ≡ self.old.recall) }
+            × (self.new.policy ≡ self.old.policy) × (self.new.recall ≡ self.old.recall) }
     {
         drain_some(&mut self.boxes, alloc)
     }

@@ -39,7 +39,7 @@ impl<D: Disk, L: Ledger> Held<D, L> {
             × (self.new.receipts.items ≡ self.old.receipts.items)
             × (self.new.count ≡ self.old.count)
             × (self.new.server ≡ self.old.server) × (self.new.boxes ≡ self.old.boxes)
-            × (self.new.pace ≡ self.old.pace) × (self.new.recall ≡ self.old.recall) }
+            × (self.new.policy ≡ self.old.policy) × (self.new.recall ≡ self.old.recall) }
     {
         self.park_all(given);
         if self.is_down() {
@@ -64,7 +64,7 @@ impl<D: Disk, L: Ledger> Held<D, L> {
             × (self.new.receipts.items ≡ self.old.receipts.items)
             × (self.new.count ≡ self.old.count)
             × (self.new.server ≡ self.old.server) × (self.new.boxes ≡ self.old.boxes)
-            × (self.new.pace ≡ self.old.pace) × (self.new.recall ≡ self.old.recall) }
+            × (self.new.policy ≡ self.old.policy) × (self.new.recall ≡ self.old.recall) }
     {
         put_all_back(&mut self.accounts, given);
     }

@@ -14,13 +14,13 @@ use std::alloc::Global;
 use std::sync::ledger::Ledger;
 
 impl<D: Disk, L: Ledger> Held<D, L> {
-    /// Forgets the receipts if there are 4,096 and the server is up: the state now is the base. For a
-    /// program that serves, and never calls `finish`. Nothing changes that a session sees.
+    /// Forgets the receipts if there are 4,096 and the server is up: the state now is the base. For
+    /// a program that serves, and never calls `finish`. Nothing changes that a session sees.
     pub fn forget(&mut self, alloc: Global)
         ensures same { (self.new.server ≡ self.old.server)
             × (self.new.opening.value ≡ self.old.opening.value)
             × (self.new.count ≡ self.old.count) × (self.new.boxes ≡ self.old.boxes)
-            × (self.new.pace ≡ self.old.pace) }
+            × (self.new.policy ≡ self.old.policy) }
         // Then the base is the state now, and no place has a younger receipt;
         ensures many { MANY_RECEIPTS ≤ vec_len self.old.receipts → self.old.server.down ≡ false
             → (self.new.base.value ≡ self.new.server.store.state)
@@ -54,7 +54,7 @@ impl<D: Disk, L: Ledger> Held<D, L> {
             × (self.new.receipts.items ≡ self.old.receipts.items)
             × (self.new.count ≡ self.old.count)
             × (self.new.accounts ≡ self.old.accounts) × (self.new.server ≡ self.old.server)
-            × (self.new.boxes ≡ self.old.boxes) × (self.new.pace ≡ self.old.pace)
+            × (self.new.boxes ≡ self.old.boxes) × (self.new.policy ≡ self.old.policy)
             × (self.new.recall ≡ self.old.recall) }
     {
         let left = self.gone.len().saturating_sub(most);

@@ -19,7 +19,7 @@ impl<D: Disk, L: Ledger> Held<D, L> {
             × (self.new.receipts.items ≡ self.old.receipts.items)
             × (self.new.count ≡ self.old.count)
             × (self.new.accounts ≡ self.old.accounts) × (self.new.boxes ≡ self.old.boxes)
-            × (self.new.pace ≡ self.old.pace) × (self.new.recall ≡ self.old.recall) }
+            × (self.new.policy ≡ self.old.policy) × (self.new.recall ≡ self.old.recall) }
         ensures disks { (self.new.server.disks ≡ self.old.server.disks)
             × (self.new.server.limit ≡ self.old.server.limit) }
     {

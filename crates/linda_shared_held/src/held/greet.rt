@@ -1,8 +1,8 @@
 //! Greeting: who may have a seat.
 
-ghost use Rattle.std.specs.Prelude.{◌≡◌, ◌≢◌, ◌⊎◌, ◌∷◌, ◌+◌, ◌*◌, ◌<◌, [], ℕ, true, false, None};
+ghost use Rattle.std.specs.Prelude.{◌≡◌, ◌≢◌, ◌∷◌, ◌+◌, ◌*◌, ◌<◌, [], ℕ, true, false, None};
 ghost use Rattle.std.specs.Prelude.{vec_len};
-ghost use Rattle.std.specs.Prelude.{IfOk, IfErr, OnOk, OnErr, IsErrOf, IfSome, IfNone};
+ghost use Rattle.std.specs.Prelude.{IfOk, IfErr, OnErr, IfSome, IfNone};
 ghost use Rattle.std.specs.FinMap as map;
 ghost use Rattle.linda_wire.specs.declared.reply.Reply as wire;
 ghost use Rattle.linda_store_step.specs.Answer.{greeting};
@@ -10,13 +10,13 @@ ghost use Rattle.linda_shared_outbox.specs.Waiting.{waits_for};
 ghost use Rattle.linda_shared_outbox.specs.Replies.{opened};
 ghost use Rattle.linda_shared_accounts.specs.declared.limits.TheConstants.{ACCOUNT_PARTS, PARTS};
 ghost use Rattle.linda_shared_accounts.specs.Accounts.{is_away, account_at, seats_out};
-ghost use Rattle.linda_shared_held.specs.Greeting as spec;
 ghost use Rattle.linda_shared_held.specs.Greeting.{IsGreeted, IsAdmitted, IsGreetingReply};
-ghost use Rattle.linda_shared_held.specs.Greeting.{OnNoSeat};
+ghost use Rattle.linda_shared_held.specs.Greeting.{OnNoSeat, admission_of, told_why};
 ghost use Rattle.linda_shared_held.specs.Kept.{KeepCovered};
 ghost use Rattle.linda_shared_held.specs.Seating.{Admits, Greets, GoesOut, IsAsked, NoneGoesOut};
 
 use super::Held;
+use crate::admission::Admission;
 use linda_disk::Disk;
 use linda_server::{Durable, ServeFault};
 use linda_shared_accounts::{Account, Accounts, SharedFault};
@@ -41,15 +41,11 @@ impl<D: Disk, L: Ledger> Held<D, L> {
     ///
     /// `Down` before all, and exactly where the server is down: one that was down is as before.
     /// `Memory`: nothing changed.
-    pub fn greet(
-        &mut self,
-        alloc: Global,
-        message: &Message,
-    ) -> Result<Result<(Account<L>, u64), (u8, u64)>, SharedFault>
-        ensures greeted { IfOk result
-            (IsGreeted self.old.server.store.state self.old.accounts.places message.now) }
+    pub fn greet(&mut self, alloc: Global, message: &Message) -> Result<Admission<L>, SharedFault>
+        ensures greeted { IfOk result (λ answer. IsGreeted self.old.server.store.state
+            self.old.accounts.places message.now (admission_of answer)) }
         // Whoever is welcome has its seat, which is out, and an outbox;
-        ensures out { IfOk result (λ answer. IfOk answer (λ got.
+        ensures out { IfOk result (λ answer. IfOk (admission_of answer) (λ got.
             GoesOut self.old.accounts self.old.boxes got.0.client self.new.accounts
             self.new.boxes)) }
         // where it gives no seat none is out but those of before, and what waits is as it was.
@@ -60,7 +56,7 @@ impl<D: Disk, L: Ledger> Held<D, L> {
             × (self.new.base.value ≡ self.old.base.value)
             × (self.new.receipts.items ≡ self.old.receipts.items)
             × (self.new.count ≡ self.old.count)
-            × (self.new.pace ≡ self.old.pace) × (self.new.recall ≡ self.old.recall)
+            × (self.new.policy ≡ self.old.policy) × (self.new.recall ≡ self.old.recall)
             × (self.new.server.limit ≡ self.old.server.limit) }
     {
         if self.server.is_down() {
@@ -72,13 +68,13 @@ impl<D: Disk, L: Ledger> Held<D, L> {
             fresh,
         } = message
         else {
-            return Ok(Err(told_why(Refusal::NoHello)));
+            return Ok(refused(Refusal::NoHello));
         };
         if *version != VERSION {
-            return Ok(Err(told_why(Refusal::Version)));
+            return Ok(refused(Refusal::Version));
         }
         if self.accounts.is_out(*client) {
-            return Ok(Err(told_why(Refusal::Busy)));
+            return Ok(refused(Refusal::Busy));
         }
         admit(
             &mut self.server,
@@ -91,11 +87,11 @@ impl<D: Disk, L: Ledger> Held<D, L> {
     }
 }
 
-// The code and the detail of a refusal.
-fn told_why(refusal: Refusal) -> (u8, u64)
-    ensures { result ≡ spec.told_why refusal }
+// The client is refused, for this.
+fn refused<L: Ledger>(refusal: Refusal) -> Admission<L>
+    ensures { admission_of result ≡ Err (told_why refusal) }
 {
-    (refusal.code(), refusal.detail())
+    Admission::Refused(refusal.code(), refusal.detail())
 }
 
 // Greets a client whose seat is not out.
@@ -106,11 +102,11 @@ fn admit<D: Disk, L: Ledger>(
     alloc: Global,
     client: u32,
     fresh: bool,
-) -> Result<Result<(Account<L>, u64), (u8, u64)>, SharedFault>
+) -> Result<Admission<L>, SharedFault>
     requires { is_away (map.get accounts.old.places client) ≡ false }
-    ensures admitted { IfOk result
-        (IsAdmitted server.old.store.state accounts.old.places client fresh) }
-    ensures out { IfOk result (λ answer. IfOk answer (λ got.
+    ensures admitted { IfOk result (λ answer. IsAdmitted server.old.store.state
+        accounts.old.places client fresh (admission_of answer)) }
+    ensures out { IfOk result (λ answer. IfOk (admission_of answer) (λ got.
         GoesOut accounts.old boxes.old got.0.client accounts.new boxes.new)) }
     ensures none { OnNoSeat result
         (NoneGoesOut accounts.old boxes.old accounts.new boxes.new) }
@@ -119,10 +115,10 @@ fn admit<D: Disk, L: Ledger>(
     ensures covered { KeepCovered boxes.old boxes.new }
 {
     match hello(server, alloc, client, fresh)? {
-        Err(why) => Ok(Err(why)),
+        Err((code, detail)) => Ok(Admission::Refused(code, detail)),
         Ok(last) => match seat(boxes, accounts, alloc, client)? {
-            Some(account) => Ok(Ok((account, last))),
-            None => Ok(Err(told_why(Refusal::TooManyClients))),
+            Some(account) => Ok(Admission::Welcome(account, last)),
+            None => Ok(refused(Refusal::TooManyClients)),
         },
     }
 }

@@ -29,7 +29,7 @@ impl<D: Disk, L: Ledger> Held<D, L> {
             × (self.new.base.value ≡ self.old.base.value)
             × (self.new.receipts.items ≡ self.old.receipts.items)
             × (self.new.count ≡ self.old.count)
-            × (self.new.accounts ≡ self.old.accounts) × (self.new.pace ≡ self.old.pace)
+            × (self.new.accounts ≡ self.old.accounts) × (self.new.policy ≡ self.old.policy)
             × (self.new.recall ≡ self.old.recall) }
     {
         close_and_post(&mut self.server, &mut self.boxes, alloc, client)
@@ -45,7 +45,7 @@ impl<D: Disk, L: Ledger> Held<D, L> {
             × (self.new.receipts.items ≡ self.old.receipts.items)
             × (self.new.count ≡ self.old.count)
             × (self.new.server ≡ self.old.server) × (self.new.boxes ≡ self.old.boxes)
-            × (self.new.pace ≡ self.old.pace) }
+            × (self.new.policy ≡ self.old.policy) }
     {
         put_back(&mut self.accounts, &mut self.recall, account);
     }
@@ -58,7 +58,7 @@ impl<D: Disk, L: Ledger> Held<D, L> {
             × (self.new.receipts.items ≡ self.old.receipts.items)
             × (self.new.count ≡ self.old.count)
             × (self.new.server ≡ self.old.server) × (self.new.boxes ≡ self.old.boxes)
-            × (self.new.pace ≡ self.old.pace) × (self.new.recall ≡ self.old.recall) }
+            × (self.new.policy ≡ self.old.policy) × (self.new.recall ≡ self.old.recall) }
     {
         put_back_for_good(&mut self.accounts, account);
     }
@@ -79,7 +79,7 @@ impl<D: Disk, L: Ledger> Held<D, L> {
             × (self.new.base.value ≡ self.old.base.value)
             × (self.new.receipts.items ≡ self.old.receipts.items)
             × (self.new.count ≡ self.old.count)
-            × (self.new.pace ≡ self.old.pace) }
+            × (self.new.policy ≡ self.old.policy) }
     {
         depart(
             &mut self.server,

@@ -30,9 +30,9 @@ impl<D: Disk, L: Ledger> Held<D, L> {
     }
 
     /// The first clients from this one on that have an outbox or for which a reply is kept, as many
-    /// as are asked for, as `linda_shared_listing` bounds them: each with its last number and reply,
-    /// whether it has an outbox, how many tuples are held for it, and how many of its asks wait.
-    /// Nothing changes.
+    /// as are asked for, as `linda_shared_listing` bounds them: each with its last number and
+    /// reply, whether it has an outbox, how many tuples are held for it, and how many of its asks
+    /// wait. Nothing changes.
     ///
     /// # Errors
     ///

@@ -8,7 +8,7 @@ ghost use Rattle.linda_shared_held.specs.Posted.{WereTaken};
 
 use super::alone::serve_each;
 use super::serve::serve;
-use crate::pace::Pace;
+use crate::snapshot_policy::SnapshotPolicy;
 use linda_disk::Disk;
 use linda_server::Durable;
 use linda_shared_accounts::{SharedFault, SharedReceipt};
@@ -28,7 +28,7 @@ pub(super) fn take<D: Disk>(
     server: &mut Durable<D>,
     receipts: &mut Vec<SharedReceipt>,
     boxes: &mut Outboxes,
-    pace: &mut Pace,
+    policy: &mut SnapshotPolicy,
     alloc: Global,
     count: u64,
     messages: &[(u32, Message)],
@@ -40,7 +40,7 @@ pub(super) fn take<D: Disk>(
         told.items (waits_for boxes.old) (waits_for boxes.new) server.new) }
     ensures fails { Fails (kept server.old receipts.old boxes.old) result
         (kept server.new receipts.new boxes.new) }
-    ensures asks { Asks server.old count messages.now pace.old result pace.new }
+    ensures asks { Asks server.old count messages.now policy.old result policy.new }
 {
     if server.is_down() {
         return Err(SharedFault::Down);
@@ -51,7 +51,7 @@ pub(super) fn take<D: Disk>(
     match serve(server, receipts, boxes, alloc, messages) {
         Ok(told) => Ok(told),
         Err(SharedFault::Full) => {
-            pace.refuses();
+            policy.refuses();
             serve_each(server, receipts, boxes, alloc, count, messages)
         }
         Err(fault) => Err(fault),

@@ -184,9 +184,9 @@ fn push_head(out: &mut Vec<u8>, kind: u8, client: u32, n: u64) -> Result<(), All
         ≡ out.old.items ++ kind ∷ (short_number.spell client ++ number.spell n)) }
     ensures front { take (length out.old.items) out.new.items ≡ out.old.items }
 {
-    out.push(kind)?;
-    out.extend_from_slice(&client.to_be_bytes())?;
-    out.extend_from_slice(&n.to_be_bytes())
+    let [a, b, c, d] = client.to_be_bytes();
+    let [s, t, u, v, w, x, y, z] = n.to_be_bytes();
+    out.extend_from_slice(&[kind, a, b, c, d, s, t, u, v, w, x, y, z])
 }
 
 impl Deed {

@@ -1,8 +1,8 @@
 //! Requests for a tuple, as a server answers them.
 
-ghost use Rattle.std.specs.Prelude.{◌≡◌, if◌then◌else◌, ℕ, nat_le, false, None, Option, List, IfOk};
+ghost use Rattle.std.specs.Prelude.{◌≡◌, [], if◌then◌else◌, ℕ, nat_le, false, None, Option, IfOk};
 ghost use Rattle.std.specs.Prelude.{OnOk};
-ghost use Rattle.linda_bag.specs.Starts.{AreRight};
+ghost use Rattle.linda_bag.specs.SearchHints.{AreRight};
 ghost use Rattle.linda_wire.specs.declared.limits.TheConstants.{MAX_ASKS};
 ghost use Rattle.linda_hold.specs.Holds.{IsHeldAt};
 ghost use Rattle.linda_hold.specs.Waits.{is_waiting};
@@ -13,7 +13,7 @@ ghost use Rattle.linda_store_step.specs.Asking.{AnswersAsk, offer_of, read_of, s
 
 use super::Soft;
 use crate::step::one_send;
-use linda_bag::{Bag, Starts};
+use linda_bag::{Bag, SearchHints};
 use linda_hold::{Asked, Request};
 use linda_tuple::Template;
 use linda_wire::{MAX_ASKS, Refusal, Reply};
@@ -25,7 +25,8 @@ impl Soft {
     /// for which a tuple is held is offered that again, one that waits is sent nothing, and one of
     /// a client with 64 open asks is refused; nothing changes then. Else the least tuple that it
     /// can have is offered to an input, which holds it, or answers a read; and where there is none
-    /// it waits. What is sent, each reply to a client, in order.
+    /// it waits. What is sent, each reply to a client, in order: it is put into `room`, which has
+    /// none yet.
     ///
     /// # Errors
     ///
@@ -34,31 +35,33 @@ impl Soft {
         &mut self,
         alloc: Global,
         bag: &B,
-        starts: &mut Starts,
+        hints: &mut SearchHints,
         next: u64,
         request: Request,
         remove: bool,
         template: &Template,
+        room: Vec<(u32, Reply)>,
     ) -> Result<Vec<(u32, Reply)>, AllocError>
-        requires right { AreRight (B.contents bag.now) (is_held self.old.holds) next starts.old }
+        requires room { room.items ≡ [] }
+        requires right { AreRight (B.contents bag.now) (is_held self.old.holds) next hints.old }
         ensures sends { IfOk result (λ sends.
             AnswersAsk (B.contents bag.now) request remove template.now
             self.old (record { sends = sends.items; soft = self.new })) }
         ensures right { OnOk result (AreRight (B.contents bag.now) (is_held self.new.holds)
-            next starts.new) }
+            next hints.new) }
     {
         if let Some(id) = self.holds.find(request) {
-            with_tuple(alloc, bag, id, request, true)
+            with_tuple(alloc, bag, id, request, true, room)
         } else if self.waits.contains(request) {
-            Ok(Vec::new(alloc))
+            Ok(room)
         } else if self.asks_too_much(request.client) {
             one_send(
-                alloc,
+                room,
                 request.client,
                 Refusal::TooManyAsks(request.ticket).reply(),
             )
         } else {
-            self.serve(alloc, bag, starts, next, request, remove, template)
+            self.serve(alloc, bag, hints, next, request, remove, template, room)
         }
     }
 
@@ -76,13 +79,15 @@ impl Soft {
         &mut self,
         alloc: Global,
         bag: &B,
-        starts: &mut Starts,
+        hints: &mut SearchHints,
         next: u64,
         request: Request,
         remove: bool,
         template: &Template,
+        room: Vec<(u32, Reply)>,
     ) -> Result<Vec<(u32, Reply)>, AllocError>
-        requires right { AreRight (B.contents bag.now) (is_held self.old.holds) next starts.old }
+        requires room { room.items ≡ [] }
+        requires right { AreRight (B.contents bag.now) (is_held self.old.holds) next hints.old }
         requires held { IsHeldAt self.old.holds request None }
         requires waiting { is_waiting request self.old.waits ≡ false }
         ensures sends { IfOk result (λ sends. (least : Option ℕ)
@@ -90,20 +95,20 @@ impl Soft {
             × (let t : Sends = record { sends = sends.items; soft = self.new }
             in t ≡ serve (B.contents bag.now) request remove template.now least self.old)) }
         ensures right { OnOk result (AreRight (B.contents bag.now) (is_held self.new.holds)
-            next starts.new) }
+            next hints.new) }
     {
-        match self.least_match(alloc, bag, starts, next, remove, template) {
+        match self.least_match(alloc, bag, hints, next, remove, template) {
             Some(id) if remove => {
-                let sends = with_tuple(alloc, bag, id, request, true)?;
+                let sends = with_tuple(alloc, bag, id, request, true, room)?;
                 self.holds.insert(id, request)?;
-                starts.hold(id, template);
+                hints.hold(id, template);
                 Ok(sends)
             }
-            Some(id) => with_tuple(alloc, bag, id, request, false),
+            Some(id) => with_tuple(alloc, bag, id, request, false, room),
             None => {
                 let template = template.try_clone(alloc)?;
                 self.waits.add(request, Asked { remove, template })?;
-                Ok(Vec::new(alloc))
+                Ok(room)
             }
         }
     }
@@ -113,45 +118,47 @@ impl Soft {
         &self,
         alloc: Global,
         bag: &B,
-        starts: &mut Starts,
+        hints: &mut SearchHints,
         next: u64,
         remove: bool,
         template: &Template,
     ) -> Option<u64>
-        requires { AreRight (B.contents bag.now) (is_held self.now.holds) next starts.old }
+        requires { AreRight (B.contents bag.now) (is_held self.now.holds) next hints.old }
         ensures least { IsLeast (B.contents bag.now) template.now
             (passed_over remove self.now.holds) result }
-        ensures right { AreRight (B.contents bag.now) (is_held self.now.holds) next starts.new }
+        ensures right { AreRight (B.contents bag.now) (is_held self.now.holds) next hints.new }
     {
         if remove {
-            starts.least_match(alloc, bag, template, &self.holds, next)
+            hints.least_match(alloc, bag, template, &self.holds, next)
         } else {
-            starts.read_match(alloc, bag, template, &BTreeSet::new(alloc), next)
+            hints.read_match(alloc, bag, template, &BTreeSet::new(alloc), next)
         }
     }
 }
 
 // The tuple under the id, if the bag has it: offered for a request that takes it away, or else the
-// answer to a read.
+// answer to a read. It is put into `room`, which has none yet.
 fn with_tuple<B: Bag>(
     alloc: Global,
     bag: &B,
     id: u64,
     request: Request,
     remove: bool,
+    room: Vec<(u32, Reply)>,
 ) -> Result<Vec<(u32, Reply)>, AllocError>
+    requires { room.items ≡ [] }
     ensures { IfOk result (λ sends. sends.items
         ≡ (if remove then offer_of (B.contents bag.now) id request
         else read_of (B.contents bag.now) id request)) }
 {
     let Request { client, ticket } = request;
     let Some(tuple) = bag.get(id) else {
-        return Ok(Vec::new(alloc));
+        return Ok(room);
     };
     let tuple = tuple.try_clone(alloc)?;
     if remove {
-        one_send(alloc, client, Reply::Offer { ticket, id, tuple })
+        one_send(room, client, Reply::Offer { ticket, id, tuple })
     } else {
-        one_send(alloc, client, Reply::Read { ticket, id, tuple })
+        one_send(room, client, Reply::Read { ticket, id, tuple })
     }
 }

@@ -11,21 +11,22 @@ ghost use Rattle.linda_store_state.specs.State.{IsState};
 ghost use Rattle.linda_store_state.specs.After.{IsAfter};
 ghost use Rattle.linda_store_state.specs.Proper.{IsAllowed};
 ghost use Rattle.linda_store_step.specs.Soft.{AreApart};
-ghost use Rattle.linda_bag.specs.Starts.{AreRight};
+ghost use Rattle.linda_bag.specs.SearchHints.{AreRight};
 ghost use Rattle.linda_store_step.specs.Looking.{is_held};
 ghost use Rattle.linda_store_step.specs.Answer as spec;
 ghost use Rattle.linda_store_step.specs.Answer.{on_out, on_leave, held_tuple, take_or_pass};
 
 use super::{Step, one_send};
 use crate::soft::Soft;
-use linda_bag::{Bag, Starts};
+use linda_bag::{Bag, SearchHints};
 use linda_hold::Request;
 use linda_store_state::{Deed, State};
 use linda_tuple::Tuple;
 use linda_wire::Reply;
 use std::alloc::{AllocError, Global};
 
-/// Puts the tuple under the next id, and answers those that wait for it.
+/// Puts the tuple under the next id, and answers those that wait for it. Here and below the replies
+/// are put into `room`, which has none yet.
 ///
 /// # Errors
 ///
@@ -37,8 +38,10 @@ pub(crate) fn put<B: Bag>(
     client: u32,
     n: u64,
     tuple: &Tuple,
+    room: Vec<(u32, Reply)>,
 ) -> Result<Step, AllocError>
     requires state { IsState state.old }
+    requires room { room.items ≡ [] }
     requires allowed { IsAllowed state.old (deeds.Out client n tuple.now) }
     requires apart { AreApart soft.old }
     ensures answer { IfOk result (λ s.
@@ -48,7 +51,7 @@ pub(crate) fn put<B: Bag>(
     ensures err { OnErr result (state.new ≡ state.old) }
 {
     let id = state.next;
-    let mut sends = one_send(alloc, client, Reply::Stored { n, id })?;
+    let mut sends = one_send(room, client, Reply::Stored { n, id })?;
     soft.dispatch(alloc, id, tuple, &mut sends)?;
     let noted = tuple.try_clone(alloc)?;
     let stored = tuple.try_clone(alloc)?;
@@ -76,8 +79,10 @@ pub(crate) fn accept<B: Bag>(
     n: u64,
     ticket: u64,
     id: u64,
+    room: Vec<(u32, Reply)>,
 ) -> Result<Step, AllocError>
-    requires { IsState state.old }
+    requires state { IsState state.old }
+    requires room { room.items ≡ [] }
     ensures answer { IfOk result (λ s.
         record { deed = s.deed; sends = s.sends.items; soft = soft.new }
         ≡ take_or_pass client n id (held_tuple state.old (request_of client ticket) id soft.old)
@@ -86,9 +91,10 @@ pub(crate) fn accept<B: Bag>(
     ensures err { OnErr result (state.new ≡ state.old) }
 {
     if !is_for(Request { client, ticket }, soft.holds.get(id)) {
-        return pass(state, alloc, client, n, id);
+        return pass(state, alloc, client, n, id, room);
     }
-    let mut sends = Vec::with_capacity(alloc, 1)?;
+    let mut sends = room;
+    sends.reserve(1)?;
     match state.take(alloc, client, n, id)? {
         Some(tuple) => {
             soft.holds.remove(id);
@@ -98,7 +104,7 @@ pub(crate) fn accept<B: Bag>(
                 sends,
             })
         }
-        None => pass(state, alloc, client, n, id),
+        None => pass(state, alloc, client, n, id, sends),
     }
 }
 
@@ -109,14 +115,16 @@ fn pass<B: Bag>(
     client: u32,
     n: u64,
     id: u64,
+    room: Vec<(u32, Reply)>,
 ) -> Result<Step, AllocError>
-    requires { IsState state.old }
+    requires state { IsState state.old }
+    requires room { room.items ≡ [] }
     ensures deed { IfOk result (λ s. s.deed ≡ Some (deeds.Pass client n id)) }
     ensures sends { IfOk result (λ s. s.sends.items ≡ (client, replies.Gone n) ∷ []) }
     ensures after { OnOk result (IsAfter state.old (deeds.Pass client n id ∷ []) state.new) }
     ensures err { OnErr result (state.new ≡ state.old) }
 {
-    let sends = one_send(alloc, client, Reply::Gone { n })?;
+    let sends = one_send(room, client, Reply::Gone { n })?;
     state.pass(client, n)?;
     Ok(Step {
         deed: Some(Deed::Pass { client, n, id }),
@@ -133,23 +141,25 @@ fn pass<B: Bag>(
 pub(crate) fn leave<B: Bag>(
     state: &mut State<B>,
     soft: &mut Soft,
-    starts: &mut Starts,
+    hints: &mut SearchHints,
     alloc: Global,
     client: u32,
     n: u64,
+    room: Vec<(u32, Reply)>,
 ) -> Result<Step, AllocError>
     requires state { IsState state.old }
+    requires room { room.items ≡ [] }
     requires apart { AreApart soft.old }
     ensures answer { IfOk result (λ s.
         record { deed = s.deed; sends = s.sends.items; soft = soft.new }
         ≡ on_leave state.old client n None soft.old) }
     ensures after { OnOk result (IsAfter state.old (deeds.Leave client n ∷ []) state.new) }
-    ensures right { (next : ℕ) → AreRight state.old.bag (is_held soft.old.holds) next starts.old
-        → OnOk result (AreRight state.old.bag (is_held soft.new.holds) next starts.new) }
+    ensures right { (next : ℕ) → AreRight state.old.bag (is_held soft.old.holds) next hints.old
+        → OnOk result (AreRight state.old.bag (is_held soft.new.holds) next hints.new) }
     ensures err { OnErr result (state.new ≡ state.old) }
 {
-    let mut sends = one_send(alloc, client, Reply::Left { n })?;
-    let mut freed = soft.close(alloc, &state.bag, starts, client)?;
+    let mut sends = one_send(room, client, Reply::Left { n })?;
+    let mut freed = soft.close(alloc, &state.bag, hints, client)?;
     sends.append(&mut freed)?;
     state.leave(client, n)?;
     Ok(Step {

@@ -1,8 +1,6 @@
 //! Real files: what was synced is there when the file is opened again, what is kept of it answers a
 //! read, and what the system refuses is a failure.
 
-ghost use Rattle.std.specs.Prelude.{length, ◌≡◌};
-
 use linda_disk::{Disk, DiskFault, FileDisk, MemDisk};
 use std::alloc::{Alloc, AllocError, Global};
 use std::fs::{self, File, Files, OpenOptions};

@@ -1,9 +1,9 @@
 //! A copy of the clients that is made in pieces before a snapshot in steps begins: the snapshot has
 //! what is done between them.
 //!
-//! A step of 40 bytes has two tuples of 22 bytes. A client has 21 bytes, and 13 if it has left; their
-//! count has 4 before them: so the first step with clients has three of them. A record of a put has
-//! 32 bytes.
+//! A step of 40 bytes has two tuples of 22 bytes. A client has 21 bytes, and 13 if it has left;
+//! their count has 4 before them: so the first step with clients has three of them. A record of a
+//! put has 32 bytes.
 
 use super::script::{Do, Told, empty_stand, step};
 use super::words::EMPTY;

@@ -3,8 +3,6 @@
 //! A put of ("a", number) is a deed of 27 bytes: its kind, the client, the number of the message,
 //! and a tuple of 14. A record has 5 more. A new bank has 33 bytes and a closed gate.
 
-ghost use Rattle.std.specs.Prelude.{◌≤◌, length};
-
 use crate::messages::put;
 use linda_bag::Bag;
 use linda_disk::{MemDisk, Torn};

@@ -1,6 +1,5 @@
 //! Two disks in memory and the server on them, step by step.
 
-ghost use Rattle.std.specs.Prelude.{◌≤◌, length};
 ghost use Rattle.linda_store_step.specs.declared.size.TheConstants.{MAX_BATCH};
 
 use super::words::{accept, put_both, take_any};
@@ -177,8 +176,8 @@ fn ask(alloc: Global, server: &mut Durable<MemDisk>, what: Do) -> Result<Told, A
         Do::Ask => Ok(send(alloc, server, 8, &take_any(alloc)?)),
         Do::Take(id) => take(alloc, server, id),
         Do::Copy(most) => Ok(Told::Copied(server.copy_clients(alloc, most))),
-        Do::Begin => Ok(of_nothing(server.begin_steps(alloc))),
-        Do::Step => Ok(of_progress(server.step(alloc, 40))),
+        Do::Begin => Ok(of_nothing(server.begin_snapshot(alloc))),
+        Do::Step => Ok(of_progress(server.continue_snapshot(alloc, 40))),
         Do::Leave(client, n) => Ok(send(alloc, server, client, &Message::Leave { n })),
         Do::Standing(client) => {
             let (last, left) = server.state().book.standing(client);

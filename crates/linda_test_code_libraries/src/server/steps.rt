@@ -118,12 +118,12 @@ fn goes_on(alloc: Global, server: &mut Durable<MemDisk>, step: u32) -> Result<()
 
 /// Takes a snapshot in steps; returns whether it came to its end.
 fn snapshot(alloc: Global, server: &mut Durable<MemDisk>) -> Result<bool, AllocError> {
-    if server.begin_steps(alloc).is_err() {
+    if server.begin_snapshot(alloc).is_err() {
         return Ok(false);
     }
     for step in 1..=12 {
         goes_on(alloc, server, step)?;
-        match server.step(alloc, 40) {
+        match server.continue_snapshot(alloc, 40) {
             Err(_) => return Ok(false),
             Ok(Progress::Done) => return Ok(step == 12),
             Ok(Progress::Going) => {}
@@ -280,19 +280,19 @@ fn a_stop_inside_a_snapshot_in_steps_leaves_the_state_of_now(
 
 /// Whether a snapshot that was begun goes on.
 fn goes(alloc: Global, server: &mut Durable<MemDisk>) -> bool {
-    matches!(server.step(alloc, 40), Ok(Progress::Going))
+    matches!(server.continue_snapshot(alloc, 40), Ok(Progress::Going))
 }
 
-/// A snapshot is begun, and given up by a whole one, and by `clear`; one that was not begun does not
-/// go on.
+/// A snapshot is begun, and given up by a whole one, and by `clear`; one that was not begun does
+/// not go on.
 #[test]
 fn a_snapshot_in_steps_is_given_up_for_a_whole_one(rt: HostRuntime) -> Result<(), AllocError> {
     let alloc = rt.alloc();
     let mut server = with_six(alloc, 1_000)?;
     let before = goes(alloc, &mut server);
-    let begun = server.begin_steps(alloc).is_ok() && goes(alloc, &mut server);
+    let begun = server.begin_snapshot(alloc).is_ok() && goes(alloc, &mut server);
     let whole = server.renew(alloc).is_ok() && !goes(alloc, &mut server);
-    let again = server.begin_steps(alloc).is_ok() && goes(alloc, &mut server);
+    let again = server.begin_snapshot(alloc).is_ok() && goes(alloc, &mut server);
     let cleared = server.clear().is_ok() && !goes(alloc, &mut server);
     assert_eq!(rt;
         (before, begun, whole, again, cleared),
@@ -302,9 +302,9 @@ fn a_snapshot_in_steps_is_given_up_for_a_whole_one(rt: HostRuntime) -> Result<()
     Ok(())
 }
 
-/// A server of this limit with ten tuples, each put by a client of its own. A put has 32 bytes among
-/// records, and 43 in a snapshot: 22 for its tuple and 21 for its client. So the bank in use has
-/// 34 + 10 * 32 = 354 bytes with the gate at its end, and the next one begins with
+/// A server of this limit with ten tuples, each put by a client of its own. A put has 32 bytes
+/// among records, and 43 in a snapshot: 22 for its tuple and 21 for its client. So the bank in use
+/// has 34 + 10 * 32 = 354 bytes with the gate at its end, and the next one begins with
 /// 34 + 10 * 43 = 464.
 fn with_ten(alloc: Global, limit: usize) -> Result<Durable<MemDisk>, AllocError> {
     let made = Durable::create(alloc, MemDisk::new(alloc), MemDisk::new(alloc), limit);
@@ -320,14 +320,14 @@ fn with_ten(alloc: Global, limit: usize) -> Result<Durable<MemDisk>, AllocError>
 /// A snapshot in steps, if two puts come meanwhile: whether it was begun, whether it is after each
 /// of them, and whether its bank is in use in the end.
 fn beside_two_puts(alloc: Global, server: &mut Durable<MemDisk>) -> Result<[bool; 4], AllocError> {
-    let begun = server.begin_steps(alloc).is_ok();
+    let begun = server.begin_snapshot(alloc).is_ok();
     serve(alloc, server, 11, &put(alloc, 1, 7)?)?;
-    let one = server.is_stepping();
+    let one = server.is_snapshot_begun();
     serve(alloc, server, 12, &put(alloc, 1, 7)?)?;
-    let two = server.is_stepping();
+    let two = server.is_snapshot_begun();
     let mut is_done = false;
     for _ in 0..40 {
-        is_done = is_done || matches!(server.step(alloc, 40), Ok(Progress::Done));
+        is_done = is_done || matches!(server.continue_snapshot(alloc, 40), Ok(Progress::Done));
     }
     Ok([begun, one, two, is_done])
 }

@@ -25,8 +25,9 @@ impl Write for Taking {
 /// Refused, as malformed at 18.
 const REFUSED: [u8; 14] = [0, 0, 0, 0xa, 0x17, 9, 0, 0, 0, 0, 0, 0, 0, 18];
 
-/// Out 1 of a tuple with a text for its tag and a byte that is no atom for its field, at 18.
-const BAD_FIELD: [u8; 19] = [0, 0, 0, 0xf, 2, 0, 0, 0, 0, 0, 0, 0, 1, 2, 0, 1, 0x61, 1, 9];
+/// Out 1 of a tuple with a text for its tag and two fields, of which the first is a byte that is no
+/// atom, at 18.
+const BAD_FIELD: [u8; 19] = [0, 0, 0, 0xf, 2, 0, 0, 0, 0, 0, 0, 0, 1, 2, 0, 1, 0x61, 2, 9];
 
 // The first allocation holds the stream's bytes, the second the text of the tag and the third the
 // row of fields, neither of which is needed to report the fault; the others hold the reply. So the

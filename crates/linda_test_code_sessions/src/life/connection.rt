@@ -255,8 +255,8 @@ fn save<D: Disk, L: Ledger, R: Wait>(
 ) -> Result<(), Wrong> {
     let is_done = match draw {
         0 => shared.snapshot(rt).is_ok(),
-        1 => shared.begin_steps(rt).is_ok(),
-        _ => shared.step(rt, STEP).is_ok(),
+        1 => shared.begin_snapshot(rt).is_ok(),
+        _ => shared.continue_snapshot(rt, STEP).is_ok(),
     };
     if is_done {
         Ok(())

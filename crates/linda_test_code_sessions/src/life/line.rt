@@ -5,15 +5,15 @@ use crate::groups::Posted;
 use linda_disk::Disk;
 use linda_net_session::{Phase, Session, Way};
 use linda_shared::{
-    Account, Ack, MOST_ASKED, MessageGroup, Sent, ServedGroup, Shared, hear_answer,
+    Account, Ack, Admission, MOST_ASKED, MessageGroup, Sent, ServedGroup, Shared, hear_answer,
 };
 use linda_wire::Message;
 use std::alloc::Global;
 use std::sync::Wait;
 use std::sync::ledger::Ledger;
 
-// The client is told what was posted. Says whether all is kept, and for it. No client has the number
-// 0.
+// The client hears what was posted. Says whether all is kept, and for it. No client has the
+// number 0.
 fn tell_all(session: &mut Session, client: u32, posted: Posted) -> bool {
     let Posted { sent, is_lost } = posted;
     let mut is_for_it = !is_lost;
@@ -144,16 +144,16 @@ fn parked<D: Disk, L: Ledger, R: Wait>(
 /// The server answers the Hello of a session so. Returns the account of a client that is welcome.
 pub(super) fn greeted<L: Ledger>(
     session: &mut Session,
-    answer: Result<(Account<L>, u64), (u8, u64)>,
+    answer: Admission<L>,
 ) -> Option<Account<L>> {
     match answer {
-        Ok((account, last)) => {
+        Admission::Welcome(account, last) => {
             if let Phase::Greeting = session.phase() {
                 session.welcome(last);
             }
             Some(account)
         }
-        Err((code, detail)) => {
+        Admission::Refused(code, detail) => {
             if let Phase::Greeting = session.phase() {
                 session.refuse(code, detail);
             }

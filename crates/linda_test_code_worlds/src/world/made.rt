@@ -1,6 +1,6 @@
 //! Worlds over one server that was never used, with clients 7, 8 and 9.
 
-ghost use Rattle.std.specs.Prelude.{◌≡◌, IfOk};
+ghost use Rattle.std.specs.Prelude.{IfOk};
 ghost use Rattle.linda_world_laws.specs.Reached.{IsUnused};
 
 use linda_disk::MemDisk;

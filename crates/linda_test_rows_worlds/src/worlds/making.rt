@@ -1,6 +1,6 @@
 //! Worlds of a row, as they are made.
 
-ghost use Rattle.std.specs.Prelude.{◌≡◌, ◌≤◌, All, IfOk, IfSome, length, map};
+ghost use Rattle.std.specs.Prelude.{◌≤◌, All, IfOk, IfSome, length, map};
 ghost use Rattle.linda_client.specs.declared.limits.TheConstants.{MAX_SERVERS};
 ghost use Rattle.linda_world_laws.specs.Reached.{IsUnused};
 

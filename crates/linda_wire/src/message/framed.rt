@@ -10,7 +10,7 @@ ghost use Rattle.linda_wire.specs.Frames.{spoken};
 ghost use Rattle.linda_wire.specs.declared.message.Message.TheVariants.{Hello, Out, Ask, Accept};
 ghost use Rattle.linda_wire.specs.declared.message.Message.TheVariants.{Cancel, Leave};
 
-use crate::framed::{Framed, push_numbered, push_pair, push_template, push_tuple, rest_of};
+use crate::framed::{FramePayload, push_numbered, push_placed, push_template, push_tuple, rest_of};
 use crate::kinds::{ACCEPT, ASK, CANCEL, HELLO, LEAVE, OUT};
 use crate::limits::FORM;
 use crate::message::Message;
@@ -21,7 +21,7 @@ use linda_codec::{
 use linda_tuple::{Template, Tuple};
 use std::alloc::{AllocError, Global};
 
-impl Framed for Message {
+impl FramePayload for Message {
     ghost use Rattle.linda_wire.specs.FrameLaws.{message_is, message_size};
     ghost use Rattle.linda_wire.specs.Frames.{message};
 
@@ -136,13 +136,13 @@ fn push_accept(out: &mut Vec<u8>, n: u64, ticket: u64, id: u64) -> Result<(), Al
         ≡ out.old.items ++ format.spell_message (Accept n ticket id)) }
     ensures front { take (length out.old.items) out.new.items ≡ out.old.items }
 {
-    push_numbered(out, ACCEPT, n)?;
-    push_pair(out, ticket, id)
+    push_placed(out, ACCEPT, n, ticket)?;
+    out.extend_from_slice(&id.to_be_bytes())
 }
 
 fn hello_from(body: &[u8]) -> Result<(Message, &[u8]), ReadFault>
     ensures { GivesAlways (λ x. (x.0, x.1.now)) result
-        (made_at format.hello_of format.hello body.now) }
+        (made_at (format.of_three Hello) format.hello body.now) }
 {
     let (version, rest) = read_u8(body)?;
     let (client, rest) = read_u32(rest)?;
@@ -156,7 +156,7 @@ fn hello_from(body: &[u8]) -> Result<(Message, &[u8]), ReadFault>
 }
 
 fn out_from(alloc: Global, body: &[u8]) -> Result<(Message, &[u8]), ReadFault>
-    ensures { Gives (λ x. (x.0, x.1.now)) result (made_at format.out_of format.out body.now) }
+    ensures { Gives (λ x. (x.0, x.1.now)) result (made_at (format.of_two Out) format.out body.now) }
 {
     let (n, rest) = read_u64(body)?;
     let (tuple, rest) = read_tuple(alloc, FORM, rest)?;
@@ -165,14 +165,15 @@ fn out_from(alloc: Global, body: &[u8]) -> Result<(Message, &[u8]), ReadFault>
 
 fn skip_out(body: &[u8]) -> Result<&[u8], ReadFault>
     ensures { GivesAlways (λ rest. rest.now) result
-        (left_by (made_at format.out_of format.out body.now)) }
+        (left_by (made_at (format.of_two Out) format.out body.now)) }
 {
     let (_n, rest) = read_u64(body)?;
     skip_tuple(FORM, rest)
 }
 
 fn ask_from(alloc: Global, body: &[u8]) -> Result<(Message, &[u8]), ReadFault>
-    ensures { Gives (λ x. (x.0, x.1.now)) result (made_at format.ask_of format.ask body.now) }
+    ensures { Gives (λ x. (x.0, x.1.now)) result
+        (made_at (format.of_three Ask) format.ask body.now) }
 {
     let (ticket, rest) = read_u64(body)?;
     let (remove, rest) = read_bool(rest)?;
@@ -187,7 +188,7 @@ fn ask_from(alloc: Global, body: &[u8]) -> Result<(Message, &[u8]), ReadFault>
 
 fn skip_ask(body: &[u8]) -> Result<&[u8], ReadFault>
     ensures { GivesAlways (λ rest. rest.now) result
-        (left_by (made_at format.ask_of format.ask body.now)) }
+        (left_by (made_at (format.of_three Ask) format.ask body.now)) }
 {
     let (_ticket, rest) = read_u64(body)?;
     let (_remove, rest) = read_bool(rest)?;
@@ -196,7 +197,7 @@ fn skip_ask(body: &[u8]) -> Result<&[u8], ReadFault>
 
 fn accept_from(body: &[u8]) -> Result<(Message, &[u8]), ReadFault>
     ensures { GivesAlways (λ x. (x.0, x.1.now)) result
-        (made_at format.accept_of format.accept body.now) }
+        (made_at (format.of_three Accept) format.accept body.now) }
 {
     let (n, rest) = read_u64(body)?;
     let (ticket, rest) = read_u64(rest)?;
@@ -205,14 +206,14 @@ fn accept_from(body: &[u8]) -> Result<(Message, &[u8]), ReadFault>
 }
 
 fn cancel_from(body: &[u8]) -> Result<(Message, &[u8]), ReadFault>
-    ensures { GivesAlways (λ x. (x.0, x.1.now)) result (made_at format.cancel_of number body.now) }
+    ensures { GivesAlways (λ x. (x.0, x.1.now)) result (made_at Cancel number body.now) }
 {
     let (ticket, rest) = read_u64(body)?;
     Ok((Message::Cancel { ticket }, rest))
 }
 
 fn leave_from(body: &[u8]) -> Result<(Message, &[u8]), ReadFault>
-    ensures { GivesAlways (λ x. (x.0, x.1.now)) result (made_at format.leave_of number body.now) }
+    ensures { GivesAlways (λ x. (x.0, x.1.now)) result (made_at Leave number body.now) }
 {
     let (n, rest) = read_u64(body)?;
     Ok((Message::Leave { n }, rest))

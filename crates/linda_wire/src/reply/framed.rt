@@ -1,6 +1,6 @@
 //! A reply in a frame: read, passed over and written.
 
-ghost use Rattle.std.specs.Prelude.{◌≡◌, ◌∷◌, ◌++◌, length, take, OnOk};
+ghost use Rattle.std.specs.Prelude.{◌≡◌, ℕ, ◌∷◌, ◌++◌, length, take, OnOk};
 ghost use Rattle.linda_tuple.specs.Tuple.{FitsIn};
 ghost use Rattle.linda_codec.specs.Steps.{Gives, GivesAlways, left_by};
 ghost use Rattle.linda_codec.specs.Formats.{made_at, number};
@@ -8,7 +8,7 @@ ghost use Rattle.linda_wire.specs.Frames as format;
 ghost use Rattle.linda_wire.specs.Frames.{spoken};
 ghost use Rattle.linda_wire.specs.declared.reply.Reply.TheVariants as replies;
 
-use crate::framed::{Framed, push_numbered, push_pair, push_tuple, rest_of};
+use crate::framed::{FramePayload, push_numbered, push_placed, push_tuple};
 use crate::kinds::{GONE, LEFT, OFFER, READ, REFUSED, STORED, TAKEN, WELCOME};
 use crate::limits::FORM;
 use crate::reply::Reply;
@@ -16,7 +16,7 @@ use linda_codec::{KIND_BYTES, ReadFault, read_tuple, read_u8, read_u64, skip_tup
 use linda_tuple::Tuple;
 use std::alloc::{AllocError, Global};
 
-impl Framed for Reply {
+impl FramePayload for Reply {
     ghost use Rattle.linda_wire.specs.FrameLaws.{reply_is, reply_size};
     ghost use Rattle.linda_wire.specs.Frames.{reply};
 
@@ -57,14 +57,38 @@ fn read_body(alloc: Global, kind: u8, body: &[u8]) -> Result<(Reply, &[u8]), Rea
     ensures { Gives (λ x. (x.0, x.1.now)) result (format.reply_body_at kind body.now) }
 {
     match kind {
-        WELCOME => welcome_from(body),
-        STORED => stored_from(body),
-        OFFER => offer_from(alloc, body),
-        READ => read_from(alloc, body),
-        TAKEN => taken_from(alloc, body),
-        GONE => gone_from(body),
-        REFUSED => refused_from(body),
-        LEFT => left_from(body),
+        WELCOME => {
+            let (last, rest) = read_u64(body)?;
+            Ok((Reply::Welcome { last }, rest))
+        }
+        STORED => {
+            let ((n, id), rest) = read_pair(body)?;
+            Ok((Reply::Stored { n, id }, rest))
+        }
+        OFFER => {
+            let (ticket, id, tuple, rest) = read_entry(alloc, body)?;
+            Ok((Reply::Offer { ticket, id, tuple }, rest))
+        }
+        READ => {
+            let (ticket, id, tuple, rest) = read_entry(alloc, body)?;
+            Ok((Reply::Read { ticket, id, tuple }, rest))
+        }
+        TAKEN => {
+            let (n, id, tuple, rest) = read_entry(alloc, body)?;
+            Ok((Reply::Taken { n, id, tuple }, rest))
+        }
+        GONE => {
+            let (n, rest) = read_u64(body)?;
+            Ok((Reply::Gone { n }, rest))
+        }
+        REFUSED => {
+            let ((code, detail), rest) = read_refusal(body)?;
+            Ok((Reply::Refused { code, detail }, rest))
+        }
+        LEFT => {
+            let (n, rest) = read_u64(body)?;
+            Ok((Reply::Left { n }, rest))
+        }
         _ => Err(ReadFault::BadKind(KIND_BYTES + body.len())),
     }
 }
@@ -74,76 +98,58 @@ fn skip_body(kind: u8, body: &[u8]) -> Result<&[u8], ReadFault>
     ensures { GivesAlways (λ rest. rest.now) result (left_by (format.reply_body_at kind body.now)) }
 {
     match kind {
-        WELCOME => rest_of(welcome_from(body)),
-        STORED => rest_of(stored_from(body)),
+        WELCOME => skip_number(body),
+        STORED => skip_pair(body),
         OFFER => skip_entry(body),
         READ => skip_entry(body),
         TAKEN => skip_entry(body),
-        GONE => rest_of(gone_from(body)),
-        REFUSED => rest_of(refused_from(body)),
-        LEFT => rest_of(left_from(body)),
+        GONE => skip_number(body),
+        REFUSED => skip_refusal(body),
+        LEFT => skip_number(body),
         _ => Err(ReadFault::BadKind(KIND_BYTES + body.len())),
     }
 }
 
-fn welcome_from(body: &[u8]) -> Result<(Reply, &[u8]), ReadFault>
-    ensures { GivesAlways (λ x. (x.0, x.1.now)) result (made_at format.welcome_of number body.now) }
+fn skip_number(body: &[u8]) -> Result<&[u8], ReadFault>
+    ensures { (make : ℕ → Reply) → GivesAlways (λ rest. rest.now) result
+        (left_by (made_at make number body.now)) }
 {
-    let (last, rest) = read_u64(body)?;
-    Ok((Reply::Welcome { last }, rest))
+    let (_number, rest) = read_u64(body)?;
+    Ok(rest)
 }
 
-fn stored_from(body: &[u8]) -> Result<(Reply, &[u8]), ReadFault>
-    ensures { GivesAlways (λ x. (x.0, x.1.now)) result
-        (made_at format.stored_of format.stored body.now) }
+// Two numbers, and the bytes after them.
+fn read_pair(body: &[u8]) -> Result<((u64, u64), &[u8]), ReadFault>
+    ensures { GivesAlways (λ x. (x.0, x.1.now)) result (format.stored.read body.now) }
 {
-    let (n, rest) = read_u64(body)?;
+    let (number, rest) = read_u64(body)?;
     let (id, rest) = read_u64(rest)?;
-    Ok((Reply::Stored { n, id }, rest))
+    Ok(((number, id), rest))
 }
 
-fn gone_from(body: &[u8]) -> Result<(Reply, &[u8]), ReadFault>
-    ensures { GivesAlways (λ x. (x.0, x.1.now)) result (made_at format.gone_of number body.now) }
+fn skip_pair(body: &[u8]) -> Result<&[u8], ReadFault>
+    ensures { (make : ℕ × ℕ → Reply) → GivesAlways (λ rest. rest.now) result
+        (left_by (made_at make format.stored body.now)) }
 {
-    let (n, rest) = read_u64(body)?;
-    Ok((Reply::Gone { n }, rest))
+    let (_pair, rest) = read_pair(body)?;
+    Ok(rest)
 }
 
-fn refused_from(body: &[u8]) -> Result<(Reply, &[u8]), ReadFault>
-    ensures { GivesAlways (λ x. (x.0, x.1.now)) result
-        (made_at format.refused_of format.refusal body.now) }
+// A code and its detail, and the bytes after them.
+fn read_refusal(body: &[u8]) -> Result<((u8, u64), &[u8]), ReadFault>
+    ensures { GivesAlways (λ x. (x.0, x.1.now)) result (format.refusal.read body.now) }
 {
     let (code, rest) = read_u8(body)?;
     let (detail, rest) = read_u64(rest)?;
-    Ok((Reply::Refused { code, detail }, rest))
+    Ok(((code, detail), rest))
 }
 
-fn left_from(body: &[u8]) -> Result<(Reply, &[u8]), ReadFault>
-    ensures { GivesAlways (λ x. (x.0, x.1.now)) result (made_at format.left_of number body.now) }
+fn skip_refusal(body: &[u8]) -> Result<&[u8], ReadFault>
+    ensures { (make : ℕ × ℕ → Reply) → GivesAlways (λ rest. rest.now) result
+        (left_by (made_at make format.refusal body.now)) }
 {
-    let (n, rest) = read_u64(body)?;
-    Ok((Reply::Left { n }, rest))
-}
-
-fn offer_from(alloc: Global, body: &[u8]) -> Result<(Reply, &[u8]), ReadFault>
-    ensures { Gives (λ x. (x.0, x.1.now)) result (made_at format.offer_of format.entry body.now) }
-{
-    let (ticket, id, tuple, rest) = read_entry(alloc, body)?;
-    Ok((Reply::Offer { ticket, id, tuple }, rest))
-}
-
-fn read_from(alloc: Global, body: &[u8]) -> Result<(Reply, &[u8]), ReadFault>
-    ensures { Gives (λ x. (x.0, x.1.now)) result (made_at format.read_of format.entry body.now) }
-{
-    let (ticket, id, tuple, rest) = read_entry(alloc, body)?;
-    Ok((Reply::Read { ticket, id, tuple }, rest))
-}
-
-fn taken_from(alloc: Global, body: &[u8]) -> Result<(Reply, &[u8]), ReadFault>
-    ensures { Gives (λ x. (x.0, x.1.now)) result (made_at format.taken_of format.entry body.now) }
-{
-    let (n, id, tuple, rest) = read_entry(alloc, body)?;
-    Ok((Reply::Taken { n, id, tuple }, rest))
+    let (_refusal, rest) = read_refusal(body)?;
+    Ok(rest)
 }
 
 // Two numbers and a tuple, and the bytes after them.
@@ -157,12 +163,8 @@ fn read_entry(alloc: Global, body: &[u8]) -> Result<(u64, u64, Tuple, &[u8]), Re
 }
 
 fn skip_entry(body: &[u8]) -> Result<&[u8], ReadFault>
-    ensures offer { GivesAlways (λ rest. rest.now) result
-        (left_by (made_at format.offer_of format.entry body.now)) }
-    ensures read { GivesAlways (λ rest. rest.now) result
-        (left_by (made_at format.read_of format.entry body.now)) }
-    ensures taken { GivesAlways (λ rest. rest.now) result
-        (left_by (made_at format.taken_of format.entry body.now)) }
+    ensures { (make : ℕ × (ℕ × Tuple) → Reply) → GivesAlways (λ rest. rest.now) result
+        (left_by (made_at make format.entry body.now)) }
 {
     let (_number, rest) = read_u64(body)?;
     let (_id, rest) = read_u64(rest)?;
@@ -177,16 +179,6 @@ fn push_refused(out: &mut Vec<u8>, code: u8, detail: u64) -> Result<(), AllocErr
     out.push(REFUSED)?;
     out.push(code)?;
     out.extend_from_slice(&detail.to_be_bytes())
-}
-
-// Appends a kind byte and two numbers.
-fn push_placed(out: &mut Vec<u8>, kind: u8, number: u64, id: u64) -> Result<(), AllocError>
-    ensures ok { OnOk result (out.new.items
-        ≡ out.old.items ++ (kind ∷ format.stored.spell (number, id))) }
-    ensures front { take (length out.old.items) out.new.items ≡ out.old.items }
-{
-    out.push(kind)?;
-    push_pair(out, number, id)
 }
 
 // Appends a kind byte, two numbers and a tuple.

@@ -21,7 +21,13 @@ returns-then-is_free-clause-least g c = λ k some less free.
     let Free = IsFreeMatch (g.S.Stored.rows c.args.tuples.now) c.args.template.now (g.P.IdSet.has c.args.passed.now) in
     elim (cases_lt p.0 i) [
       | inl before ↦ c.loop-row.invariant p.0 before (subst Free (sym p.2) free)
-      | inr from ↦ omega (arith, less, p.2, id_there rows i (0, tt) c.loop-row-test.true, falls_never (ids_of rows) c.requires i p.0 from (omega (arith, length_ids rows, p.1)))
+      | inr from ↦ omega (
+        arith,
+        less,
+        p.2,
+        id_there rows i (0, tt) c.loop-row-test.true,
+        falls_never (ids_of rows) c.requires i p.0 from (omega (arith, length_ids rows, p.1)),
+      )
     ]
 
 pub loop-row-preserved : goal.loop-row-preserved
@@ -32,7 +38,8 @@ loop-row-preserved g c = λ j less free.
     elim (cases_lt j i) [
       | inl before ↦ c.loop-row.invariant j before free
       | inr from ↦
-          let same : get_or (ids_of rows) j 0 ≡ (get_or rows i (0, tt)).0 = ap (λ k. get_or (ids_of rows) k 0) (omega (arith, less, from)) ∙ id_there rows i (0, tt) c.loop-row-test.true in
+          let same : get_or (ids_of rows) j 0 ≡ (get_or rows i (0, tt)).0 =
+          ap (λ k. get_or (ids_of rows) k 0) (omega (arith, less, from)) ∙ id_there rows i (0, tt) c.loop-row-test.true in
           true≢false (sym (c.is_free.ensures.1 (subst Free same free)) ∙ c.if-is_free.false)
     ]
 

@@ -13,4 +13,5 @@ on_ok_then (Err e) p then = tt
 pub returns : goal.returns
 returns c =
     on_ok_then c.refile.result c.refile.ensures.ok (λ change.
-    refiled_as atom_ord.ghosts.cmp IsOf (λ v. Some v) c.args.ids.now c.refile.new.shelves c.args.id None (option_copied c.args.value) None (place c.place_of.result) refl c.place_of.ensures change)
+    refiled_as atom_ord.ghosts.cmp IsOf (λ v. Some v) c.args.ids.now c.refile.new.id_indexes c.args.id None
+    (option_copied c.args.value) None (place c.place_of.result) refl c.place_of.ensures change)

@@ -1,6 +1,6 @@
 use Rattle.std.proofs.Common.{sym, ap, ◌∙◌, subst}
 use Rattle.std.specs.FinMap as map
-use Rattle.linda_maps.proofs.MapLaws.{get_empty, get_other}
+use Rattle.linda_map_laws.proofs.MapLaws.{get_empty, get_other}
 use Rattle.linda_bag.specs.Ids.{HasPair}
 use Rattle.linda_bag.proofs.SetLaws.{pair_has}
 use Rattle.linda_bag.proofs.ids.pair.Goals as goal
@@ -16,5 +16,6 @@ insert-requires-2 c =
 
 pub returns : goal.returns
 returns c =
-    let is = c.in_ok-new.ensures.ok ∙ c.in_ok-insert-2.ensures.ok ∙ ap (λ m. map.insert m c.args.other tt) (c.in_ok-insert.ensures.ok ∙ ap (λ m. map.insert m c.args.one tt) c.new-both.ensures) in
+    let is = c.in_ok-new.ensures.ok ∙ c.in_ok-insert-2.ensures.ok
+    ∙ ap (λ m. map.insert m c.args.other tt) (c.in_ok-insert.ensures.ok ∙ ap (λ m. map.insert m c.args.one tt) c.new-both.ensures) in
     subst (HasPair c.args.one c.args.other) (sym is) (pair_has c.args.one c.args.other)

@@ -1,9 +1,9 @@
 use Rattle.std.proofs.Common.{is_some, ap, ◌∙◌}
 use Rattle.std.specs.FinMap as map
 use Rattle.std.proofs.lemmas.Result.{on_ok_weaker, on_err_weaker}
-use Rattle.linda_maps.proofs.MapLaws.{get_same}
+use Rattle.linda_map_laws.proofs.MapLaws.{get_same}
 use Rattle.linda_bag.specs.Ids.{IsOf}
-use Rattle.linda_bag.proofs.FilingLaws.{kept_shelf, set_shelf}
+use Rattle.linda_bag.proofs.FilingLaws.{kept_id_index, set_id_index}
 use Rattle.linda_bag.proofs.IntLaws.{rewritten}
 use Rattle.linda_bag.proofs.ints.put_at.Goals as goal
 
@@ -14,12 +14,14 @@ pub returns-clause-ok : goal.returns-clause-ok
 returns-clause-ok g c =
     let is = c.replace.ensures.row ∙ ap (λ m. map.insert m c.args.code c.put-done.new.self) c.replace-ids.ensures.row in
     on_ok_weaker c.put-done.result
-    (λ put. rewritten c.args.sets.now c.replace.new.self c.args.code c.args.id c.replace-ids.result _ _ c.replace-ids.ensures.value _ c.put-done.new.self is (set_shelf IsOf _ _ _ _ _ put))
+    (λ put. rewritten c.args.sets.now c.replace.new.self c.args.code c.args.id c.replace-ids.result
+    _ _ c.replace-ids.ensures.value _ c.put-done.new.self is (set_id_index IsOf _ _ _ _ _ put))
     c.put-done.ensures.ok
 
 pub returns-clause-err : goal.returns-clause-err
 returns-clause-err g c =
     let is = c.replace.ensures.row ∙ ap (λ m. map.insert m c.args.code c.put-done.new.self) c.replace-ids.ensures.row in
     on_err_weaker c.put-done.result
-    (λ kept. rewritten c.args.sets.now c.replace.new.self c.args.code c.args.id c.replace-ids.result _ _ c.replace-ids.ensures.value _ c.put-done.new.self is (kept_shelf IsOf _ _ _ _ kept))
+    (λ kept. rewritten c.args.sets.now c.replace.new.self c.args.code c.args.id c.replace-ids.result
+    _ _ c.replace-ids.ensures.value _ c.put-done.new.self is (kept_id_index IsOf _ _ _ _ kept))
     c.put-done.ensures.err

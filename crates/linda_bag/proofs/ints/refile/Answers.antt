@@ -28,7 +28,8 @@ returns-in_err-file g c =
     let differ = apart_from _ _ c.cmp.ensures c.in_default-cmp.not-Equal in
     record {
       ok = IfOk-from_err c.from_residual.result _ c.from_residual.ensures.0;
-      err = rw (c.in-Some.is) (MatchResult-from_err c.from_residual.result _ _ c.from_residual.ensures.0 (λ _. kept_elsewhere int_cmp_total _ _ _ differ c.in_err-file.ensures.err));
+      err = rw (c.in-Some.is) (MatchResult-from_err c.from_residual.result _ _ c.from_residual.ensures.0
+          (λ _. kept_elsewhere int_cmp_total _ _ _ differ c.in_err-file.ensures.err));
     }
 
 pub returns : goal.returns

@@ -10,7 +10,8 @@ returns-in_default g c =
 pub returns-then-is_only : goal.returns-then-is_only
 returns-then-is_only g c =
     under_int c.args.int.now c.code_of-code.result c.code_of-code.ensures _ _
-    (only_taken c.args.sets.now c.remove.new.self c.code_of-code.result c.args.id c.in-Some.ids.now (Some c.args.row.now) c.in-Some.ensures (c.is_only.ensures c.if-is_only.true) c.remove.ensures.removed)
+    (only_taken c.args.sets.now c.remove.new.self c.code_of-code.result c.args.id c.in-Some.ids.now
+    (Some c.args.row.now) c.in-Some.ensures (c.is_only.ensures c.if-is_only.true) c.remove.ensures.removed)
 
 pub take_at-requires : goal.take_at-requires
 take_at-requires g c = ap is_some (sym c.in-Some.ensures)

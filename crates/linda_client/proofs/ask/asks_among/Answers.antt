@@ -5,4 +5,5 @@ use Rattle.linda_client.proofs.ask.asks_among.Goals as goal
 
 pub loop-number-preserved : goal.loop-number-preserved
 loop-number-preserved c =
-    made_next (λ b. ask_of b.0 b.1) kind_of c.loop-number.number c.args.bases.now c.index-bases-number.result _ _ _ c.loop-number-test.true c.index-bases-number.is c.in_ok-push_ask.ensures c.loop-number.invariant
+    made_next (λ b. ask_of b.0 b.1) kind_of c.loop-number.number c.args.bases.now c.index-bases-number.result
+    _ _ _ c.loop-number-test.true c.index-bases-number.is c.in_ok-push_ask.ensures c.loop-number.invariant

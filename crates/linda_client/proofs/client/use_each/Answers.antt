@@ -15,7 +15,8 @@ one_more xs all i low h = (
       ∙ append_assoc (take i xs) ((get_or xs i 0 + 1) ∷ []) (map (λ n. n + 1) (drop (i + 1) xs))
       ∙ ap (λ l. take i xs ++ map (λ n. n + 1) l) (sym here)
       ∙ h.0,
-  All-rest (λ n. n < NUMBER_LIMIT) (get_or xs i 0) (drop (i + 1) (set xs i (get_or xs i 0 + 1))) (drop i xs) (here ∙ ap (λ l. get_or xs i 0 ∷ l) (sym later)) h.1,
+  All-rest (λ n. n < NUMBER_LIMIT) (get_or xs i 0) (drop (i + 1) (set xs i (get_or xs i 0 + 1)))
+      (drop i xs) (here ∙ ap (λ l. get_or xs i 0 ∷ l) (sym later)) h.1,
 )
   where
     later : drop (i + 1) (set xs i (get_or xs i 0 + 1)) ≡ drop (i + 1) xs

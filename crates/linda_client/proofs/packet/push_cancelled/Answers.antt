@@ -7,7 +7,8 @@ use Rattle.linda_client.proofs.packet.push_cancelled.Goals as goal
 pub loop-server-preserved : goal.loop-server-preserved
 loop-server-preserved c = elim c.if-not-is_spared.branch [
   | then-not-is_spared+in_ok-push w ↦
-      one_more c.args.packets.now.items c.loop-server.packets.items _ (cancels_of c.loop-server.server c.args.spared c.args.ticket) _ _ (ap (λ v. v.items) w.packets-is ∙ w.in_ok-push.ensures.items) c.loop-server.invariant
+      one_more c.args.packets.now.items c.loop-server.packets.items _ (cancels_of c.loop-server.server c.args.spared c.args.ticket) _ _
+      (ap (λ v. v.items) w.packets-is ∙ w.in_ok-push.ensures.items) c.loop-server.invariant
       (cancelled_more c.loop-server.server c.args.spared c.args.ticket (sym w.if-not-is_spared.ensures))
   | else-not-is_spared w ↦
       ap (λ v. v.items) w.packets-is ∙ c.loop-server.invariant

@@ -6,4 +6,5 @@ use Rattle.linda_codec.proofs.reading.read_template.Goals as goal
 pub returns-in_err-skip_template-in-Err-clause-value : goal.returns-in_err-skip_template-in-Err-clause-value
 returns-in_err-skip_template-in-Err-clause-value c =
     let p = err_from_is_err_and c.from_residual.result c.from_residual.ensures.1 in
-    rw (p.1, p.2) (λ other. is_fault ((format.template c.args.form).read c.args.bytes.now) c.in_err-skip_template-in-Err.field-0.0 c.in_err-skip_template-in-Err.ensures.1)
+    rw (p.1, p.2) (λ other. is_fault ((format.template c.args.form).read c.args.bytes.now)
+    c.in_err-skip_template-in-Err.field-0.0 c.in_err-skip_template-in-Err.ensures.1)

@@ -13,10 +13,14 @@ returns-in_err-rest g c =
 pub returns-in_err-count : goal.returns-in_err-count
 returns-in_err-count g c =
     let p = err_from_is_err_and c.from_residual-in_err-count.result c.from_residual-in_err-count.ensures.1 in
-    rw (p.1, p.2)
-    (c.in_err-count.ensures.0, count_fault c.args.form (g.V.Spelled.format c.args.form) c.args.bytes.now c.in_ok-rest.rest.now c.in_err-count.field-0.0 c.in_ok-rest.ensures c.in_err-count.ensures.1)
+    rw (p.1, p.2) (
+      c.in_err-count.ensures.0,
+      count_fault c.args.form (g.V.Spelled.format c.args.form) c.args.bytes.now c.in_ok-rest.rest.now
+          c.in_err-count.field-0.0 c.in_ok-rest.ensures c.in_err-count.ensures.1,
+    )
 
 pub returns : goal.returns
 returns g c =
     subst (λ l. GivesAlways (λ rest. rest.now) c.skip_list.result l)
-    (sym (left_tagged c.args.form (g.V.Spelled.format c.args.form) c.args.bytes.now c.in_ok-rest.rest.now (c.in_ok-count.count, c.in_ok-count.rest.now) c.in_ok-rest.ensures c.in_ok-count.ensures)) c.skip_list.ensures
+    (sym (left_tagged c.args.form (g.V.Spelled.format c.args.form) c.args.bytes.now c.in_ok-rest.rest.now
+    (c.in_ok-count.count, c.in_ok-count.rest.now) c.in_ok-rest.ensures c.in_ok-count.ensures)) c.skip_list.ensures

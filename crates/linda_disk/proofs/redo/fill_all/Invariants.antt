@@ -1,6 +1,6 @@
 -- What is left of the calls leads to where all of them do.
 use Rattle.std.proofs.Common.{◌≡◌, drop}
-use Rattle.linda_disk.specs.History.{fill_all}
+use Rattle.linda_disk.specs.DiskHistory.{fill_all}
 use Rattle.linda_disk.proofs.redo.fill_all.Given as goal
 
 abbrev pub invariant-loop-call : goal.invariant-loop-call

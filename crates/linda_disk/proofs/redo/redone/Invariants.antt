@@ -1,6 +1,6 @@
 -- The calls so far are done.
 use Rattle.std.proofs.Common.{◌≡◌, take, reverse}
-use Rattle.linda_disk.specs.History.{content_from}
+use Rattle.linda_disk.specs.DiskHistory.{content_from}
 use Rattle.linda_disk.proofs.redo.redone.Given as goal
 
 abbrev pub invariant-loop-call : goal.invariant-loop-call

@@ -1,6 +1,6 @@
 -- The calls that were passed over are no syncs.
 use Rattle.std.proofs.Common.{◌≡◌, ◌≤◌, ℕ, List, length, take, drop, reverse}
-use Rattle.linda_disk.specs.History.{synced_from, fill_all, filled_from}
+use Rattle.linda_disk.specs.DiskHistory.{synced_from, fill_all, filled_from}
 use Rattle.linda_disk.proofs.redo.settled_len.Given as goal
 
 abbrev pub invariant-loop-len : goal.invariant-loop-len

@@ -6,4 +6,5 @@ use Rattle.linda_event.proofs.base.+push_bases.Given as goal
 
 abbrev pub invariant-loop-member : goal.invariant-loop-member
 invariant-loop-member l =
-    map kind_of l.found.items ++ bases_in (rest_nodes l.member-index l.member-items) ≡ map kind_of l.initial.found.items ++ bases_in (rest_nodes 0 l.member-items)
+    map kind_of l.found.items ++ bases_in (rest_nodes l.member-index l.member-items)
+    ≡ map kind_of l.initial.found.items ++ bases_in (rest_nodes 0 l.member-items)

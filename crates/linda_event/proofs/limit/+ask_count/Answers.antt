@@ -8,7 +8,8 @@ use Rattle.linda_event.proofs.limit.+ask_count.Goals as goal
 pub loop-member-preserved : goal.loop-member-preserved
 loop-member-preserved t c =
     record {
-      sum = sum_more _ _ _ _ _ _ _ _ (asks_more _ _ _ c.loop-member-test.true c.member-item.is) c.ask_count.ensures c.saturating_add-count.ensures c.loop-member.invariant.sum;
+      sum = sum_more _ _ _ _ _ _ _ _ (asks_more _ _ _ c.loop-member-test.true c.member-item.is)
+          c.ask_count.ensures c.saturating_add-count.ensures c.loop-member.invariant.sum;
       fits = sum_fits _ _ _ _ c.saturating_add-count.ensures;
     }
 

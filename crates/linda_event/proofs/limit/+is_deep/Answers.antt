@@ -16,7 +16,8 @@ loop-member-preserved t c =
 
 pub returns-after-loop-member : goal.returns-after-loop-member
 returns-after-loop-member t c =
-    rw (leaves_Choose _ _ _ c.in-Choose.is c.deref-member-items.ensures.value, ← c.loop-member.invariant) (any_end _ _ (leaves_end _ _ c.loop-member-test.false))
+    rw (leaves_Choose _ _ _ c.in-Choose.is c.deref-member-items.ensures.value, ← c.loop-member.invariant)
+    (any_end _ _ (leaves_end _ _ c.loop-member-test.false))
 
 pub returns-in-Wrap : goal.returns-in-Wrap
 returns-in-Wrap t c =

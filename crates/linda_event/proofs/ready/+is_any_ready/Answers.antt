@@ -9,7 +9,8 @@ returns-then-is_any_ready t c =
     (ready_here _ _ _ _ _ c.loop-member-test.true c.member-item.is c.is_any_ready.ensures c.if-is_any_ready.true)
 
 pub loop-member-preserved : goal.loop-member-preserved
-loop-member-preserved t c = ready_after _ _ _ _ _ c.loop-member-test.true c.member-item.is c.is_any_ready.ensures c.if-is_any_ready.false ∙ c.loop-member.invariant
+loop-member-preserved t c = ready_after _ _ _ _ _ c.loop-member-test.true c.member-item.is c.is_any_ready.ensures c.if-is_any_ready.false
+    ∙ c.loop-member.invariant
 
 pub returns-after-loop-member : goal.returns-after-loop-member
 returns-after-loop-member t c =

@@ -11,7 +11,8 @@ returns-then-count-eq0 t c = sym (field_none c.args.count c.args.wanted c.args.b
 -- src/head.rt:155:1
 pub returns : goal.returns
 returns t c =
-    let later = field_later c.args.count c.args.wanted c.args.bytes.now (search (rules, c.if-count-eq0.false)) (search rules) (search (rules, c.if-bytes-wanted.false)) in
+    let later = field_later c.args.count c.args.wanted c.args.bytes.now (search (rules, c.if-count-eq0.false))
+    (search rules) (search (rules, c.if-bytes-wanted.false)) in
     let less = c.args.count - 1 in
     c.field.ensures ∙ ap (λ (bytes : List ℕ). field less c.args.wanted bytes) (take_rest c.args.bytes.now (3 + c.two-end.result))
     ∙ ap (λ (n : ℕ). field less c.args.wanted (drop (3 + n) c.args.bytes.now)) c.two-end.ensures.is ∙ sym later

@@ -1,11 +1,11 @@
 use Rattle.std.proofs.Common.{◌∙◌, List, ℕ, ap, ap₂}
-use Rattle.linda_disk.specs.History.{History, view_of}
+use Rattle.linda_disk.specs.DiskHistory.{DiskHistory, view_of}
 use Rattle.linda_disk.specs.MemDisk.{view}
 use Rattle.linda_snap.specs.Choice.{chosen}
 use Rattle.linda_inspect.proofs.WholeLaws.{alone}
 use Rattle.linda_inspect.proofs.whole.open_alone.Goals as goal
 
-abbrev seen_of : History → List ℕ
+abbrev seen_of : DiskHistory → List ℕ
 seen_of h = (view_of h).seen
 
 pub returns-in-Ok-clause-stands : goal.returns-in-Ok-clause-stands

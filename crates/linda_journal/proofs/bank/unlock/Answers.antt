@@ -11,15 +11,18 @@ pub returns-in-Err-clause-runs : goal.returns-in-Err-clause-runs
 returns-in-Err-clause-runs g c =
     let w = c.args.whole in
     broken_by g.D.Disk Device c.in-Err.fault Device c.in-Err.fault w.disk c.open_gate.new.disk c.in-Err.ensures.runs ((λ is. is), (λ is. is))
-    (λ honest opens body whole. unlocking written w.generation body w.end (g.D.Disk.view w.disk) (g.D.Disk.view c.open_gate.new.disk) whole (opens [] (behind_gate written w.generation body) whole.ready))
+    (λ honest opens body whole. unlocking written w.generation body w.end (g.D.Disk.view w.disk)
+    (g.D.Disk.view c.open_gate.new.disk) whole (opens [] (behind_gate written w.generation body) whole.ready))
 
 pub returns-in-Ok-clause-runs : goal.returns-in-Ok-clause-runs
 returns-in-Ok-clause-runs g c =
     let w = c.args.whole in
     done_by g.D.Disk w.disk c.open_gate.new.disk c.in-Ok.ensures.runs
-    (λ honest opens body whole. unlocking written w.generation body w.end (g.D.Disk.view w.disk) (g.D.Disk.view c.open_gate.new.disk) whole (opens [] (behind_gate written w.generation body) whole.ready)) (λ honest two. two)
+    (λ honest opens body whole. unlocking written w.generation body w.end (g.D.Disk.view w.disk)
+    (g.D.Disk.view c.open_gate.new.disk) whole (opens [] (behind_gate written w.generation body) whole.ready)) (λ honest two. two)
 
 pub returns-in-Ok-clause-done : goal.returns-in-Ok-clause-done
 returns-in-Ok-clause-done g c body honest whole =
     let w = c.args.whole in
-    unlocked written w.generation body w.end (g.D.Disk.view w.disk) (g.D.Disk.view c.open_gate.new.disk) whole (c.in-Ok.ensures.opened [] (behind_gate written w.generation body) honest whole.ready)
+    unlocked written w.generation body w.end (g.D.Disk.view w.disk) (g.D.Disk.view c.open_gate.new.disk) whole
+    (c.in-Ok.ensures.opened [] (behind_gate written w.generation body) honest whole.ready)

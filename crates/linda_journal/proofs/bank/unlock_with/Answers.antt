@@ -12,13 +12,15 @@ pub returns-in-Err-clause-runs : goal.returns-in-Err-clause-runs
 returns-in-Err-clause-runs g c =
     broken_by g.D.Disk Device c.in-Err.fault Device c.in-Err.fault c.args.disk c.open_gate.new.disk c.in-Err.ensures.runs ((λ is. is), (λ is. is))
     (λ honest opens body rs whole.
-    unlocking_with written c.args.generation body rs c.args.end (g.D.Disk.view c.args.disk) whole (g.D.Disk.view c.open_gate.new.disk) (opens [] (behind_gate written c.args.generation body ++ spell_records written rs) whole.ready))
+    unlocking_with written c.args.generation body rs c.args.end (g.D.Disk.view c.args.disk) whole (g.D.Disk.view c.open_gate.new.disk)
+    (opens [] (behind_gate written c.args.generation body ++ spell_records written rs) whole.ready))
 
 pub returns-in-Ok-clause-runs : goal.returns-in-Ok-clause-runs
 returns-in-Ok-clause-runs g c =
     done_by g.D.Disk c.args.disk c.open_gate.new.disk c.in-Ok.ensures.runs
     (λ honest opens body rs whole.
-    unlocking_with written c.args.generation body rs c.args.end (g.D.Disk.view c.args.disk) whole (g.D.Disk.view c.open_gate.new.disk) (opens [] (behind_gate written c.args.generation body ++ spell_records written rs) whole.ready))
+    unlocking_with written c.args.generation body rs c.args.end (g.D.Disk.view c.args.disk) whole (g.D.Disk.view c.open_gate.new.disk)
+    (opens [] (behind_gate written c.args.generation body ++ spell_records written rs) whole.ready))
     (λ honest two. two)
 
 pub returns-in-Ok-clause-done : goal.returns-in-Ok-clause-done

@@ -17,4 +17,5 @@ returns-clause-runs g c =
 pub returns-clause-filled : goal.returns-clause-filled
 returns-clause-filled g c front honest filled =
     let writes = c.write_synced.ensures.writes honest in
-    on_both _ _ _ c.write_synced.result writes.seen writes.durable (step_filled front c.args.at c.args.bytes.now (g.D.Disk.view c.args.disk.now) (g.D.Disk.view c.write_synced.new.disk) filled)
+    on_both _ _ _ c.write_synced.result writes.seen writes.durable
+    (step_filled front c.args.at c.args.bytes.now (g.D.Disk.view c.args.disk.now) (g.D.Disk.view c.write_synced.new.disk) filled)

@@ -3,7 +3,7 @@ use Rattle.linda_disk.specs.declared.fault.DiskFault.TheVariants.{Device}
 use Rattle.linda_disk.specs.Runs.{anything, takes}
 use Rattle.linda_disk.proofs.RunsLaws.{runs_by}
 use Rattle.linda_journal.specs.Gate.{lays}
-use Rattle.linda_journal.proofs.GateLaws.{write_first, laid_now}
+use Rattle.linda_journal.proofs.GateLaws.{write_first}
 use Rattle.linda_journal.proofs.gate.lay_gate.Goals as goal
 
 pub returns-clause-runs : goal.returns-clause-runs

@@ -1,8 +1,8 @@
 -- One write of the gate.
-use Rattle.std.proofs.Common.{◌≡◌, ◌∷◌, [], length, ap, arith}
+use Rattle.std.proofs.Common.{◌∷◌, [], length, ap, arith}
 use Rattle.linda_journal.specs.declared.kinds.TheConstants.{OPEN}
 use Rattle.linda_store_state.proofs.DoneLaws.{on_ok}
-use Rattle.linda_disk.specs.HistoryLaws.{length-overlay}
+use Rattle.linda_disk.specs.DiskHistoryLaws.{length-overlay}
 use Rattle.linda_disk.specs.declared.fault.DiskFault.TheVariants.{Device}
 use Rattle.linda_disk.specs.Runs.{anything, takes}
 use Rattle.linda_disk.proofs.RunsLaws.{runs_by, on_both}
@@ -20,10 +20,12 @@ returns-clause-runs g c =
 pub returns-clause-opened : goal.returns-clause-opened
 returns-clause-opened g c front body honest ready =
     let writes = c.write_synced.ensures.writes honest in
-    on_both _ _ _ c.write_synced.result writes.seen writes.durable (shut_now front body c.args.gate (g.D.Disk.view c.args.disk.now) (g.D.Disk.view c.write_synced.new.disk) ready)
+    on_both _ _ _ c.write_synced.result writes.seen writes.durable
+    (shut_now front body c.args.gate (g.D.Disk.view c.args.disk.now) (g.D.Disk.view c.write_synced.new.disk) ready)
 
 pub returns-clause-long : goal.returns-clause-long
 returns-clause-long g c honest =
     let old = g.D.Disk.view c.args.disk.now in
     let within = c.requires honest in
-    on_ok _ _ c.write_synced.result (λ seen. let all = ap length seen in let long = length-overlay c.args.gate (OPEN ∷ []) old.seen (omega (arith, within)) in omega (arith, all, long, within)) (c.write_synced.ensures.writes honest).seen
+    on_ok _ _ c.write_synced.result (λ seen. let all = ap length seen in let long =
+    length-overlay c.args.gate (OPEN ∷ []) old.seen (omega (arith, within)) in omega (arith, all, long, within)) (c.write_synced.ensures.writes honest).seen

@@ -1,5 +1,5 @@
 -- The body is written, and then the gate opens.
-use Rattle.std.proofs.Common.{inl, ◌+◌, arith}
+use Rattle.std.proofs.Common.{inl, arith}
 use Rattle.std.proofs.lemmas.Result.{err_from_is_err_and}
 use Rattle.linda_store_state.proofs.DoneLaws.{on_ok}
 use Rattle.linda_disk.specs.declared.fault.DiskFault.TheVariants.{Device}
@@ -16,17 +16,21 @@ returns-in_err-stage-clause-runs g c =
     let fault = c.in_err-stage.field-0.0 in
     rw (p.1, p.2)
     (broken_by g.D.Disk Device fault Device fault c.args.disk.now c.stage.new.disk c.in_err-stage.ensures.runs ((λ is. is), (λ is. is))
-    (λ honest stays front body is shut. weaker (g.D.Disk.view c.args.disk.now) (g.D.Disk.view c.stage.new.disk) (ClosesAfter front) (IsClosedOrOpened front body) (stays front shut) (λ image closes. inl closes)))
+    (λ honest stays front body is shut. weaker (g.D.Disk.view c.args.disk.now) (g.D.Disk.view c.stage.new.disk)
+    (ClosesAfter front) (IsClosedOrOpened front body) (stays front shut) (λ image closes. inl closes)))
 
 pub returns-clause-runs : goal.returns-clause-runs
 returns-clause-runs g c =
     let view = g.D.Disk.view in
-    runs_on g.D.Disk (opens c.args.gate) (puts c.args.gate c.args.bytes.now) (takes 2) (takes 4) Device c.args.disk.now c.stage.new.disk c.open_gate.result c.open_gate.new.disk c.in_ok-stage.ensures.runs c.open_gate.ensures.runs
-    (λ honest still stays opens front body is shut. putting front body (view c.args.disk.now) (view c.stage.new.disk) (view c.open_gate.new.disk) (stays front shut) (opens front body (c.in_ok-stage.ensures.ready front body is honest shut)))
+    runs_on g.D.Disk (opens c.args.gate) (puts c.args.gate c.args.bytes.now) (takes 2) (takes 4) Device c.args.disk.now
+    c.stage.new.disk c.open_gate.result c.open_gate.new.disk c.in_ok-stage.ensures.runs c.open_gate.ensures.runs
+    (λ honest still stays opens front body is shut. putting front body (view c.args.disk.now) (view c.stage.new.disk)
+    (view c.open_gate.new.disk) (stays front shut) (opens front body (c.in_ok-stage.ensures.ready front body is honest shut)))
     (λ honest two two_more. omega (arith, two, two_more))
 
 pub returns-clause-done : goal.returns-clause-done
-returns-clause-done g c front body is honest shut = c.open_gate.ensures.opened front body (c.in_ok-stage.ensures.runs.honest.0 honest) (c.in_ok-stage.ensures.ready front body is honest shut)
+returns-clause-done g c front body is honest shut =
+    c.open_gate.ensures.opened front body (c.in_ok-stage.ensures.runs.honest.0 honest) (c.in_ok-stage.ensures.ready front body is honest shut)
 
 pub returns-clause-long : goal.returns-clause-long
 returns-clause-long g c honest =

@@ -11,7 +11,8 @@ loop-behind-preserved c =
     let rest = c.loop-behind.rest.now in
     let found = rw c.in-Some-2.is at c.in_ok-read_record.ensures.found in
     subst (λ l. IsReadUpTo c.args.form (drop c.args.at whole) c.args.at l c.in-Some-2.after.now) (sym c.in_ok-push-in-Some-2.ensures.items)
-    (one_record_more c.args.form (drop c.args.at whole) c.args.at rs rest c.in-Some.behind.now (record { gate = length whole - length rest; deeds = c.in-Some-2.deeds }) c.in-Some-2.after.now c.loop-behind.invariant
+    (one_record_more c.args.form (drop c.args.at whole) c.args.at rs rest c.in-Some.behind.now
+    (record { gate = length whole - length rest; deeds = c.in-Some-2.deeds }) c.in-Some-2.after.now c.loop-behind.invariant
     c.in-Some.ensures.opened found.0 found.1 found.2 (offset_is c.args.form whole c.args.at rs rest c.requires c.loop-behind.invariant))
 
 pub returns-in-None-clause-fault : goal.returns-in-None-clause-fault
@@ -26,4 +27,6 @@ returns-in-None-clause-fault c =
     )
 
 pub returns-clause-found : goal.returns-clause-found
-returns-clause-found c = ends_here c.args.form (drop c.args.at c.args.bytes.now) c.args.at c.loop-behind.records.items c.loop-behind.rest.now c.loop-behind.invariant c.in_default.ensures.shut
+returns-clause-found c =
+    ends_here c.args.form (drop c.args.at c.args.bytes.now) c.args.at c.loop-behind.records.items
+    c.loop-behind.rest.now c.loop-behind.invariant c.in_default.ensures.shut

@@ -1,5 +1,5 @@
 -- The payload of a record is short enough for the number before it.
-use Rattle.std.proofs.Common.{◌≡◌, ◌+◌, length, length-append, ap, ◌∙◌, [], ◌∷◌, arith}
+use Rattle.std.proofs.Common.{length, length-append, ap, ◌∙◌, [], ◌∷◌, arith}
 use Rattle.linda_journal.specs.Records.{payload}
 use Rattle.linda_journal.proofs.SizeLaws.{payload_short}
 use Rattle.linda_journal.proofs.record.push_record.Goals as goal

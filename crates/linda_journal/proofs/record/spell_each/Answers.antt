@@ -17,8 +17,10 @@ loop-rest-preserved c =
     let long : length batch ≡ n = c.split_at.ensures.front_len in
     let left = some_left (length rest) c.is_empty.result c.is_empty.ensures c.loop-rest-test.true in
     let some : 0 < length batch = omega (arith, long, c.first_of.ensures.some left) in
-    let good = next_good c.args.form c.args.deeds.now c.loop-rest.out.items rest batch n c.loop-rest.invariant c.split_at.ensures.front some (omega (arith, long, c.first_of.ensures.few)) in
-    one_more_spelled c.args.form c.args.deeds.now c.loop-rest.out.items rest batch after n c.push_record.new.out.items c.loop-rest.invariant c.split_at.ensures.front c.split_at.ensures.back good
+    let good = next_good c.args.form c.args.deeds.now c.loop-rest.out.items rest batch n c.loop-rest.invariant
+    c.split_at.ensures.front some (omega (arith, long, c.first_of.ensures.few)) in
+    one_more_spelled c.args.form c.args.deeds.now c.loop-rest.out.items rest batch after n
+    c.push_record.new.out.items c.loop-rest.invariant c.split_at.ensures.front c.split_at.ensures.back good
     (λ fewer. let all = c.first_of.ensures.all (omega (arith, long, fewer)) in omega (arith, long, all)) c.in_ok-push_record.ensures
 
 pub returns : goal.returns

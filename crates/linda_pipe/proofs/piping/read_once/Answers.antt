@@ -22,5 +22,6 @@ returns-clause-turns g c = λ first reads first_left first_written p.
     (λ none. c.in-Ok.ensures.bytes.1 (c.in-Ok.ensures.bound.1 ∙ ap length none) (omega (arith, c.read.auto.buf))) p.underway in
     rw c.in_ok-send_replies.ensures.same
     (send_done first_left _ (g.R.Read.remaining c.read.new.self) first_written _ _ _ c.args.exchange.now c.take_read-outcome.new.self
-    c.send_replies.new.self.replies c.take_read-outcome.result p c.in_ok-send_replies.ensures.empty c.in-Ok.ensures.bytes.0 c.take_read-outcome.ensures.some read
+    c.send_replies.new.self.replies c.take_read-outcome.result p c.in_ok-send_replies.ensures.empty
+    c.in-Ok.ensures.bytes.0 c.take_read-outcome.ensures.some read
     c.in_ok-send_replies.ensures.sent)

@@ -23,7 +23,8 @@ pub returns-then-not-branch : goal.returns-then-not-branch
 returns-then-not-branch g c = λ first u.
     let h = c.in_ok-read_once.ensures.turns first _ _ _ (c.loop-turn.invariant.piping first u) in
     subst
-    (λ (b : Bool). TurnsTo g.N.Node.shown first (c.loop-turn._turn + 1) (g.R.Read.remaining c.args.reader.now) (g.R.Read.remaining c.read_once.new.reader) (g.W.Write.contents c.args.writer.now)
+    (λ (b : Bool). TurnsTo g.N.Node.shown first (c.loop-turn._turn + 1) (g.R.Read.remaining c.args.reader.now)
+    (g.R.Read.remaining c.read_once.new.reader) (g.W.Write.contents c.args.writer.now)
     (g.W.Write.contents c.read_once.new.writer) c.read_once.new.exchange (Ok b))
     c.if-not-branch.true h
 
@@ -33,7 +34,8 @@ loop-turn-preserved g c = record {
   piping = λ first u.
       let h = c.in_ok-read_once.ensures.turns first _ _ _ (c.loop-turn.invariant.piping first u) in
       subst
-      (λ (b : Bool). TurnsTo g.N.Node.shown first (c.loop-turn._turn + 1) (g.R.Read.remaining c.args.reader.now) (g.R.Read.remaining c.read_once.new.reader) (g.W.Write.contents c.args.writer.now)
+      (λ (b : Bool). TurnsTo g.N.Node.shown first (c.loop-turn._turn + 1) (g.R.Read.remaining c.args.reader.now)
+      (g.R.Read.remaining c.read_once.new.reader) (g.W.Write.contents c.args.writer.now)
       (g.W.Write.contents c.read_once.new.writer) c.read_once.new.exchange (Ok b))
       c.if-not-branch.false h;
 }

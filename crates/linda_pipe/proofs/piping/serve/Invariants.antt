@@ -9,5 +9,6 @@ abbrev pub invariant-loop-turn : goal.invariant-loop-turn
 invariant-loop-turn g l = record {
   count : l.exchange.lines ≤ l._turn * (BUFFER + 1);
   piping : (first : Node) → IsUnderway g.N.Node.shown first [] [] l.initial.exchange
-      → IsPiping g.N.Node.shown first l._turn (g.R.Read.remaining l.initial.reader) (g.R.Read.remaining l.reader) (g.W.Write.contents l.initial.writer) (g.W.Write.contents l.writer) l.exchange;
+      → IsPiping g.N.Node.shown first l._turn (g.R.Read.remaining l.initial.reader) (g.R.Read.remaining l.reader)
+      (g.W.Write.contents l.initial.writer) (g.W.Write.contents l.writer) l.exchange;
 }

@@ -26,8 +26,11 @@ returns-clause-rows g c =
     let b = c.index_mut-block.result.now in
     let is = block_at blocks c.place_of-place.result b place.within c.index_mut-block.ensures.value in
     let there = ap is_some (sym (located blocks c.args.id c.place_of-place.result c.requires.rising place)) ∙ c.requires.there in
-    let low : c.replace.new.self.0 ≤ c.args.id = omega (arith, c.replace.ensures.from, ap (λ x. x.0) is, block_begins blocks c.place_of-place.result c.args.id c.requires.rising place.within there) in
-    (block_written blocks c.args.id c.place_of-place.result (Some c.args.row) c.replace.new.self c.requires.rising place (with_row blocks c.place_of-place.result c.args.id c.args.row b c.replace.new.self place.within c.index_mut-block.ensures.value c.replace.ensures.rows (omega (arith, c.replace.ensures.from)) (λ _. c.replace.ensures.from) low)).0
+    let low : c.replace.new.self.0 ≤ c.args.id =
+    omega (arith, c.replace.ensures.from, ap (λ x. x.0) is, block_begins blocks c.place_of-place.result c.args.id c.requires.rising place.within there) in
+    (block_written blocks c.args.id c.place_of-place.result (Some c.args.row) c.replace.new.self c.requires.rising place
+    (with_row blocks c.place_of-place.result c.args.id c.args.row b c.replace.new.self place.within c.index_mut-block.ensures.value
+    c.replace.ensures.rows (omega (arith, c.replace.ensures.from)) (λ _. c.replace.ensures.from) low)).0
 
 pub returns-clause-rising : goal.returns-clause-rising
 returns-clause-rising g c =
@@ -36,5 +39,8 @@ returns-clause-rising g c =
     let b = c.index_mut-block.result.now in
     let is = block_at blocks c.place_of-place.result b place.within c.index_mut-block.ensures.value in
     let there = ap is_some (sym (located blocks c.args.id c.place_of-place.result c.requires.rising place)) ∙ c.requires.there in
-    let low : c.replace.new.self.0 ≤ c.args.id = omega (arith, c.replace.ensures.from, ap (λ x. x.0) is, block_begins blocks c.place_of-place.result c.args.id c.requires.rising place.within there) in
-    (block_written blocks c.args.id c.place_of-place.result (Some c.args.row) c.replace.new.self c.requires.rising place (with_row blocks c.place_of-place.result c.args.id c.args.row b c.replace.new.self place.within c.index_mut-block.ensures.value c.replace.ensures.rows (omega (arith, c.replace.ensures.from)) (λ _. c.replace.ensures.from) low)).1
+    let low : c.replace.new.self.0 ≤ c.args.id =
+    omega (arith, c.replace.ensures.from, ap (λ x. x.0) is, block_begins blocks c.place_of-place.result c.args.id c.requires.rising place.within there) in
+    (block_written blocks c.args.id c.place_of-place.result (Some c.args.row) c.replace.new.self c.requires.rising place
+    (with_row blocks c.place_of-place.result c.args.id c.args.row b c.replace.new.self place.within c.index_mut-block.ensures.value
+    c.replace.ensures.rows (omega (arith, c.replace.ensures.from)) (λ _. c.replace.ensures.from) low)).1

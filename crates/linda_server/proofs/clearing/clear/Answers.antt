@@ -14,7 +14,8 @@ returns-clause-runs g c st =
     let honest = honest_of g.D.Disk shuts (TakesCalls 2) Device pair.other told new c.emptied-told.ensures.runs in
     let cause = cause_of g.D.Disk shuts (TakesCalls 2) Device pair.other told new c.emptied-told.ensures.runs in
     record {
-      any_moment = λ begun. changed_by g.met.D.Disk.timed c.args.disks.now pair c.lend-bank.ensures.lent st new (moment_of g.D.Disk shuts (TakesCalls 2) Device pair.other told new c.emptied-told.ensures.runs);
+      any_moment = λ begun. changed_by g.met.D.Disk.timed c.args.disks.now pair c.lend-bank.ensures.lent st new
+          (moment_of g.D.Disk shuts (TakesCalls 2) Device pair.other told new c.emptied-told.ensures.runs);
       kept = search rules;
       there = search rules;
       ready = search rules;

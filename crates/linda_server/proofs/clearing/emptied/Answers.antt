@@ -1,5 +1,5 @@
 -- The gate is closed, and then what is after it is cut off.
-use Rattle.std.proofs.Common.{inr, refl, sym, subst, arith}
+use Rattle.std.proofs.Common.{inr, refl, sym, subst}
 use Rattle.linda_disk.specs.Runs.{IsDone, leaves, takes}
 use Rattle.linda_disk.specs.declared.fault.DiskFault.TheVariants.{Device}
 use Rattle.linda_disk.proofs.RunLaws.{joined}

@@ -41,9 +41,11 @@ returns-in-Err-clause-cause g c =
     let ready = subst (λ d. is_usable d ≡ true) c.in-InUse.is c.requires.ready in
     let suit = subst (λ d. All (SuitsForm (form_in_use d)) deeds) c.in-InUse.is c.requires.suit in
     let room =
-    subst (λ d. 0 < length deeds → end_in_use d + room_for (length deeds) (length (payload (form_in_use d) deeds)) ≤ limit_in_use d) c.in-InUse.is c.requires.room
+    subst (λ d. 0 < length deeds
+    → end_in_use d + room_for (length deeds) (length (payload (form_in_use d) deeds)) ≤ limit_in_use d) c.in-InUse.is c.requires.room
     (some_of deeds c.is_empty.result c.is_empty.ensures c.if-is_empty.false) in
     let both = ap (λ d. failures_of d) c.in-InUse.is in
     failure_told c.in-Err.fault c.told.result pair.bank.form deeds pair.bank.end pair.bank.limit pair.bank.is_spent
     (g.D.Disk.failures pair.bank.disk) (g.D.Disk.failures c.append_all.new.self.disk) (g.D.Disk.failures pair.other) (failures_of c.args.disks.now)
-    ready suit room both c.in-Err.ensures.full.0 c.in-Err.ensures.spent.0 c.in-Err.ensures.known.0 c.in-Err.ensures.known.1 c.told.ensures.disk c.told.ensures.others c.in-Err.ensures.cause
+    ready suit room both c.in-Err.ensures.full.0 c.in-Err.ensures.spent.0 c.in-Err.ensures.known.0
+    c.in-Err.ensures.known.1 c.told.ensures.disk c.told.ensures.others c.in-Err.ensures.cause

@@ -15,7 +15,8 @@ returns-clause-runs g c =
     let honest = honest_of g.D.Disk shuts anything faults.Disk pair.other told new c.start_on-told.ensures.runs in
     let cause = cause_of g.D.Disk shuts anything faults.Disk pair.other told new c.start_on-told.ensures.runs in
     record {
-      any_moment = λ begun. changed_by g.met.D.Disk.timed c.args.disks.now pair c.lend-bank.ensures.lent c.args.state.now new (moment_of g.D.Disk shuts anything faults.Disk pair.other told new c.start_on-told.ensures.runs);
+      any_moment = λ begun. changed_by g.met.D.Disk.timed c.args.disks.now pair c.lend-bank.ensures.lent c.args.state.now new
+          (moment_of g.D.Disk shuts anything faults.Disk pair.other told new c.start_on-told.ensures.runs);
       kept = search rules;
       there = search rules;
       ready = search rules;

@@ -11,7 +11,8 @@ pub returns-in-Err-clause-runs : goal.returns-in-Err-clause-runs
 returns-in-Err-clause-runs g c st front =
     let f = c.resume.result in
     record {
-      any_moment = written_by g.met.D.Disk.timed c.args.disks.now c.lend-bank.result c.lend-bank.ensures.lent st front c.args.at f c.resume.ensures.0 c.resume.ensures.1 c.in-Err.other c.in-Err.ensures.runs.any_moment;
+      any_moment = written_by g.met.D.Disk.timed c.args.disks.now c.lend-bank.result c.lend-bank.ensures.lent st
+          front c.args.at f c.resume.ensures.0 c.resume.ensures.1 c.in-Err.other c.in-Err.ensures.runs.any_moment;
       kept = search rules;
       there = search rules;
       ready = search rules;
@@ -27,8 +28,10 @@ returns-in-Ok-clause-runs g c st front =
     let f = c.resume.result in
     record {
       any_moment = λ filled are up.
-          subst (λ d. PairsSince (both_of c.args.disks.now) (sides pair.is_right (view pair.bank.disk) (view d)) (λ left right. Stands left right st)) (sym c.into_disk.ensures)
-          (written_by g.met.D.Disk.timed c.args.disks.now pair c.lend-bank.ensures.lent st front c.args.at f c.resume.ensures.0 c.resume.ensures.1 c.in-Ok.filling.disk c.in-Ok.ensures.runs.any_moment filled are up);
+          subst (λ d. PairsSince (both_of c.args.disks.now) (sides pair.is_right (view pair.bank.disk) (view d)) (λ left right. Stands left right st))
+          (sym c.into_disk.ensures)
+          (written_by g.met.D.Disk.timed c.args.disks.now pair c.lend-bank.ensures.lent st front c.args.at f
+          c.resume.ensures.0 c.resume.ensures.1 c.in-Ok.filling.disk c.in-Ok.ensures.runs.any_moment filled are up);
       kept = search rules;
       there = search rules;
       ready = search rules;

@@ -18,7 +18,8 @@ loop-place-preserved g c =
     let room = l.invariant.4 in
     let its = c.in_ok-addressed.ensures in
     let client = (arc_value c.args.mailbox.now).client in (
-      message_added (λ (m : Message × Address g.row.L.Denot). m.0) c.args.messages.now l.place c.index-messages-place.result l.all.items new x c.loop-place-test.true
+      message_added (λ (m : Message × Address g.row.L.Denot). m.0) c.args.messages.now l.place
+          c.index-messages-place.result l.all.items new x c.loop-place-test.true
           c.index-messages-place.is its.message pushed.items l.invariant.0,
       place_added (λ (m : Message × Address g.row.L.Denot). m.1.place) l.place l.all.items new x its.to.1 pushed.items l.invariant.1,
       all_added (λ (m : Message × Address g.row.L.Denot). m.1.client ≡ client) l.all.items new x its.to.0 pushed.items l.invariant.2,

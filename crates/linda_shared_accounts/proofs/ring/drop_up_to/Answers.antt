@@ -14,5 +14,6 @@ loop-receipts-preserved c =
     let old = c.has_old.ensures.old c.loop-receipts-test.true in
     let left = c.truncate_front.ensures in
     let many = c.len-rest.ensures in
-    let both = one_less c.args.floor (c.len-rest.result - 1) c.args.receipts.now.items rs c.truncate_front.new.self.items c.loop-receipts.invariant.1 c.loop-receipts.invariant.2 old.0 old.1 (omega (arith, many)) (ap (λ (b : Buffer Receipt). b.items) left) in
+    let both = one_less c.args.floor (c.len-rest.result - 1) c.args.receipts.now.items rs c.truncate_front.new.self.items
+    c.loop-receipts.invariant.1 c.loop-receipts.invariant.2 old.0 old.1 (omega (arith, many)) (ap (λ (b : Buffer Receipt). b.items) left) in
     (ap (λ (b : Buffer Receipt). b.capacity) left ∙ c.loop-receipts.invariant.0, both.0, both.1)

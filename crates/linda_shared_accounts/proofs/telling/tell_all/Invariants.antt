@@ -4,7 +4,7 @@ use Rattle.linda_shared_accounts.specs.Telling.{told_by}
 use Rattle.linda_shared_accounts.proofs.telling.tell_all.Given as goal
 
 -- What is told, and what is still to be told, is all.
-abbrev pub invariant-loop-portion : goal.invariant-loop-portion
-invariant-loop-portion l =
-    l.told.items ++ told_by (drop l.portion-index l.portions) (into_iter_items l.deeds) l.rest
-    ≡ told_by l.portions (into_iter_items l.fn.deeds) l.sends
+abbrev pub invariant-loop-count : goal.invariant-loop-count
+invariant-loop-count l =
+    l.told.items ++ told_by (drop l.count-index l.counts) (into_iter_items l.deeds) l.rest
+    ≡ told_by l.counts (into_iter_items l.fn.deeds) l.sends

@@ -9,7 +9,9 @@ use Rattle.linda_shared_listing.specs.Shapes.{is_matched}
 use Rattle.linda_shared_listing.proofs.ShapeLaws.{free, free_matched, not_matched}
 use Rattle.linda_shared_listing.proofs.found.next_match.Goals as goal
 
-next_is : (bag : FinMap nat_cmp Tuple) (shape : Template) (from : ℕ) (found : Option ℕ) → IfSome found (free bag shape) → IfSome found (λ id. from ≤ id) → IfSome found (λ id. (k : ℕ) → from ≤ k → k < id → free bag shape k → ⊥) → IfNone found ((k : ℕ) → from ≤ k → free bag shape k → ⊥) → IsNext (is_matched bag (shape ∷ [])) from found
+next_is : (bag : FinMap nat_cmp Tuple) (shape : Template) (from : ℕ) (found : Option ℕ) → IfSome found (free bag shape) → IfSome found (λ id. from ≤ id)
+    → IfSome found (λ id. (k : ℕ) → from ≤ k → k < id → free bag shape k → ⊥)
+    → IfNone found ((k : ℕ) → from ≤ k → free bag shape k → ⊥) → IsNext (is_matched bag (shape ∷ [])) from found
 next_is bag shape from None is above least none = λ k le. not_matched bag shape k (none k le)
 next_is bag shape from (Some id) is above least none = record {
   above = above;

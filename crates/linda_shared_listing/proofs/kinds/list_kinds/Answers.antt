@@ -20,9 +20,11 @@ loop-preserved c =
 pub returns-in-Some-next_kind : goal.returns-in-Some-next_kind
 returns-in-Some-next_kind c =
     let page : KindPage = record { rows = c.loop.rows; is_whole = false } in
-    part_of_all c.args.bag.now (head_in c.args.after) (head_in c.loop.last) (row_in c.in-Some-next_kind.field-0) c.loop.counter c.args.limit page c.loop.invariant
+    part_of_all c.args.bag.now (head_in c.args.after) (head_in c.loop.last)
+    (row_in c.in-Some-next_kind.field-0) c.loop.counter c.args.limit page c.loop.invariant
     (omega (arith, c.loop-test.false, c.loop.auto.counter-end, c.min-most.ensures))
-    (omega (arith, c.loop.auto.counter-end, c.min-most.ensures)) (omega (arith, c.loop.auto.counter-end, c.min-most.ensures)) refl c.in-Some-next_kind.ensures.found
+    (omega (arith, c.loop.auto.counter-end, c.min-most.ensures))
+    (omega (arith, c.loop.auto.counter-end, c.min-most.ensures)) refl c.in-Some-next_kind.ensures.found
 
 pub returns-in-None : goal.returns-in-None
 returns-in-None c =

@@ -13,8 +13,10 @@ pub returns : goal.returns
 returns g c owned =
     let client = c.client-client.result in
     let updates = c.in_ok-before.ensures.updates in
-    owned_with (λ (m : Arc (Mailbox g.row.L.Denot) Global). (arc_value m).client) (λ q. tree.get nat_cmp c.args.boxes.now q) (λ q. tree.get nat_cmp c.insert.new.self q)
-    client c.args.mailbox updates.1 (sym (c.client-client.ensures ∙ ap (λ (m : Mailbox g.row.L.Denot). m.client) c.deref.ensures)) (λ q differs. updates.2 q (is_other client q differs)) owned
+    owned_with (λ (m : Arc (Mailbox g.row.L.Denot) Global). (arc_value m).client)
+    (λ q. tree.get nat_cmp c.args.boxes.now q) (λ q. tree.get nat_cmp c.insert.new.self q)
+    client c.args.mailbox updates.1 (sym (c.client-client.ensures ∙ ap (λ (m : Mailbox g.row.L.Denot). m.client) c.deref.ensures))
+    (λ q differs. updates.2 q (is_other client q differs)) owned
 
 pub returns-in_err-before : goal.returns-in_err-before
 returns-in_err-before g c owned q m is =

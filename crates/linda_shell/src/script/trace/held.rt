@@ -31,7 +31,7 @@ impl Held {
         server: u32,
         holds: &Holds,
     ) -> Result<(), AllocError> {
-        for id in self.lost(alloc, holds)? {
+        for id in self.released_ids(alloc, holds)? {
             if let Some(request) = self.by_id.remove(&id) {
                 push_hold(lines, "release", server, id, request)?;
             }
@@ -46,7 +46,7 @@ impl Held {
     }
 
     // The ids that are not held any more for whom they were held, rising.
-    fn lost(&self, alloc: Global, holds: &Holds) -> Result<Vec<u64>, AllocError> {
+    fn released_ids(&self, alloc: Global, holds: &Holds) -> Result<Vec<u64>, AllocError> {
         let mut lost = Vec::new(alloc);
         for (id, request) in &self.by_id {
             if holds.get(*id) != Some(*request) {

@@ -11,7 +11,8 @@ pub returns-in-Ok-clause-only : goal.returns-in-Ok-clause-only
 returns-in-Ok-clause-only c = λ a alone. let same = alone_only _ _ c.in-Ok.ensures.value a alone in cc
 
 pub returns-in-Err-clause-only : goal.returns-in-Err-clause-only
-returns-in-Err-clause-only c = λ a alone not_memory. absurd (alone_no_fault _ _ c.in-Err.fault c.placed.result c.in-Err.ensures.value c.placed.ensures.value a alone not_memory)
+returns-in-Err-clause-only c =
+    λ a alone not_memory. absurd (alone_no_fault _ _ c.in-Err.fault c.placed.result c.in-Err.ensures.value c.placed.ensures.value a alone not_memory)
 
 pub returns-in-Err-clause-memory : goal.returns-in-Err-clause-memory
 returns-in-Err-clause-memory c = λ e.

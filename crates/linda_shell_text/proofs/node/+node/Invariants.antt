@@ -22,4 +22,5 @@ decreases-build_choice l = 3 * l.room + 2
 -- What was read so far and what is still read are what there is to read.
 abbrev pub invariant-build_members-loop : goal.invariant-build_members-loop
 invariant-build_members-loop l =
-    with_front (map tree_of l.members.items) (some_members_at (event_at l.room) (length l.initial.rest - l.counter) l.rest) ≡ members_at (event_at l.room) l.bytes
+    with_front (map tree_of l.members.items) (some_members_at (event_at l.room) (length l.initial.rest - l.counter) l.rest)
+    ≡ members_at (event_at l.room) l.bytes

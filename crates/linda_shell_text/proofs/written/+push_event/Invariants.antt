@@ -8,4 +8,5 @@ use Rattle.linda_shell_text.proofs.written.+push_event.Given as goal
 -- What was written of the members so far, and what is still to be written.
 abbrev pub invariant-loop-number : goal.invariant-loop-number
 invariant-loop-number l =
-    string_bytes l.out ++ written_members (l.number == 0) (rest_of l.number l.member-items) ≡ string_bytes l.initial.out ++ written_members true (rest_of 0 l.member-items)
+    string_bytes l.out ++ written_members (l.number == 0) (rest_of l.number l.member-items)
+    ≡ string_bytes l.initial.out ++ written_members true (rest_of 0 l.member-items)

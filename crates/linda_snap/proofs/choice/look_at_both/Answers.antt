@@ -23,4 +23,5 @@ returns-in_err-two-clause-cause g c =
     let old = count c.args.right.now in
     let new = count c.look_at-2.new.disk in
     rw (p.1, p.2)
-    (right_told choices.Disk (fault_of_device fault) (count c.args.left.now) (count c.look_at.new.disk) old new c.in_ok-one.ensures.cause.ok (device_told fault old new c.in_err-two.ensures.cause))
+    (right_told choices.Disk (fault_of_device fault) (count c.args.left.now)
+    (count c.look_at.new.disk) old new c.in_ok-one.ensures.cause.ok (device_told fault old new c.in_err-two.ensures.cause))

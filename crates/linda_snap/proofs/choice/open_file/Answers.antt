@@ -9,13 +9,16 @@ use Rattle.linda_snap.proofs.choice.open_file.Goals as goal
 
 pub returns-in-Ok-recover-clause-found : goal.returns-in-Ok-recover-clause-found
 returns-in-Ok-recover-clause-found g c honest =
-    stored_there c.in-Ok.bank.form c.in-Ok.bank.generation c.in-Ok.bank.end c.in-Ok.body.items c.in-Ok.records.items (g.D.Disk.view c.in-Ok.bank.disk) c.in-Ok-recover.state (c.in-Ok.ensures.found honest)
+    stored_there c.in-Ok.bank.form c.in-Ok.bank.generation c.in-Ok.bank.end c.in-Ok.body.items c.in-Ok.records.items
+    (g.D.Disk.view c.in-Ok.bank.disk) c.in-Ok-recover.state (c.in-Ok.ensures.found honest)
     (subst (λ f. IsRecovered f c.in-Ok.body.items c.in-Ok.records.items c.in-Ok-recover.state) c.form.ensures c.in-Ok-recover.ensures.found)
 
 pub returns-in-Ok-recover-clause-counted : goal.returns-in-Ok-recover-clause-counted
 returns-in-Ok-recover-clause-counted g c honest =
-    counted_there c.in-Ok.bank.form c.in-Ok.bank.generation c.in-Ok.bank.end c.in-Ok.body.items c.in-Ok.records.items c.in-Ok.bank.records (g.D.Disk.view c.in-Ok.bank.disk) c.in-Ok-recover.state (c.in-Ok.ensures.found honest)
-    (subst (λ f. IsRecovered f c.in-Ok.body.items c.in-Ok.records.items c.in-Ok-recover.state) c.form.ensures c.in-Ok-recover.ensures.found) c.in-Ok.ensures.new.0
+    counted_there c.in-Ok.bank.form c.in-Ok.bank.generation c.in-Ok.bank.end c.in-Ok.body.items c.in-Ok.records.items c.in-Ok.bank.records
+    (g.D.Disk.view c.in-Ok.bank.disk) c.in-Ok-recover.state (c.in-Ok.ensures.found honest)
+    (subst (λ f. IsRecovered f c.in-Ok.body.items c.in-Ok.records.items c.in-Ok-recover.state) c.form.ensures c.in-Ok-recover.ensures.found)
+    c.in-Ok.ensures.new.0
 
 pub returns-in-Err-clause-fault : goal.returns-in-Err-clause-fault
 returns-in-Err-clause-fault g c honest other = fault_of_bank (g.D.Disk.view c.args.disk).seen c.in-Err.fault (c.in-Err.ensures.fault honest other)
@@ -23,7 +26,8 @@ returns-in-Err-clause-fault g c honest other = fault_of_bank (g.D.Disk.view c.ar
 pub returns-in-Err-recover-clause-fault : goal.returns-in-Err-recover-clause-fault
 returns-in-Err-recover-clause-fault g c honest other =
     fault_there c.in-Ok.bank.form (g.D.Disk.view c.args.disk).seen c.in-Ok.bank.generation c.in-Ok.body.items c.in-Ok.records.items c.in-Err-recover.fault
-    (subst (λ file. IsBank c.in-Ok.bank.form file c.in-Ok.bank.generation c.in-Ok.body.items (deeds_of c.in-Ok.records.items)) (c.in-Ok.ensures.seen honest) (c.in-Ok.ensures.found honest).file)
+    (subst (λ file. IsBank c.in-Ok.bank.form file c.in-Ok.bank.generation c.in-Ok.body.items (deeds_of c.in-Ok.records.items))
+    (c.in-Ok.ensures.seen honest) (c.in-Ok.ensures.found honest).file)
     (subst (λ f. IsUnrecovered f c.in-Ok.body.items c.in-Ok.records.items c.in-Err-recover.fault) c.form.ensures c.in-Err-recover.ensures.fault)
 
 pub returns-in-Err-recover-clause-cause : goal.returns-in-Err-recover-clause-cause

@@ -14,11 +14,15 @@ loop-client-init c = none_copied c.args.book.now c.new-copy.result c.new-copy.en
 pub loop-client-smaller : goal.loop-client-smaller
 loop-client-smaller c =
     fewer (kept written) c.args.book.now (first_after c.loop-client.last) (suc c.in-Some.client) (c.in-Some.client, (c.in-Some.entry.0, c.in-Some.entry.1.now))
-    (first_is c.args.book.now (first_after c.loop-client.last) c.in-Some.client (c.in-Some.entry.0, c.in-Some.entry.1.now) c.in-Some.ensures.found c.in-Some.ensures.above c.in-Some.ensures.least)
+    (first_is c.args.book.now (first_after c.loop-client.last) c.in-Some.client (
+      c.in-Some.entry.0,
+      c.in-Some.entry.1.now,
+    ) c.in-Some.ensures.found c.in-Some.ensures.above c.in-Some.ensures.least)
 
 pub loop-client-preserved : goal.loop-client-preserved
 loop-client-preserved c =
-    one_copied c.args.book.now c.loop-client.copy c.keep.new.self (first_after c.loop-client.last) c.in-Some.client (suc c.in-Some.client) (c.in-Some.entry.0, c.in-Some.entry.1.now)
+    one_copied c.args.book.now c.loop-client.copy c.keep.new.self (first_after c.loop-client.last) c.in-Some.client
+    (suc c.in-Some.client) (c.in-Some.entry.0, c.in-Some.entry.1.now)
     c.loop-client.invariant c.in-Some.ensures.found c.in-Some.ensures.above c.in-Some.ensures.least
     (c.in_ok-keep.ensures.ok ∙ ap (λ r. insert c.loop-client.copy c.in-Some.client (c.in-Some.entry.0, r)) c.in_ok-reply.ensures.ok) refl
 

@@ -7,4 +7,7 @@ returns-in_default-clause-none c = none_is c.args.book.now (first_after c.args.l
 
 pub returns-clause-found : goal.returns-clause-found
 returns-clause-found c =
-    first_is c.args.book.now (first_after c.args.last) c.in-Some.client (c.in-Some.entry.0, c.in-Some.entry.1.now) c.in-Some.ensures.found c.in-Some.ensures.above c.in-Some.ensures.least
+    first_is c.args.book.now (first_after c.args.last) c.in-Some.client (
+      c.in-Some.entry.0,
+      c.in-Some.entry.1.now,
+    ) c.in-Some.ensures.found c.in-Some.ensures.above c.in-Some.ensures.least

@@ -15,4 +15,5 @@ returns-clause-found g c =
     let same = ap (λ (s : State). s.bag) c.state.view_is in
     let next : suc c.in-Some.id ≡ c.in-Some.id + 1 = omega arith in
     subst (λ n. entries_from c.args.from c.args.state.now.bag ≡ (c.in-Some.id, c.in-Some.tuple.now) ∷ entries_from n c.args.state.now.bag) next
-    (first_is c.args.state.now.bag c.args.from c.in-Some.id c.in-Some.tuple.now (ap (λ m. get m c.in-Some.id) (sym same) ∙ c.in-Some.ensures.found) c.in-Some.ensures.above (λ k low high. ap (λ m. get m k) (sym same) ∙ c.in-Some.ensures.least k low high))
+    (first_is c.args.state.now.bag c.args.from c.in-Some.id c.in-Some.tuple.now (ap (λ m. get m c.in-Some.id) (sym same)
+    ∙ c.in-Some.ensures.found) c.in-Some.ensures.above (λ k low high. ap (λ m. get m k) (sym same) ∙ c.in-Some.ensures.least k low high))

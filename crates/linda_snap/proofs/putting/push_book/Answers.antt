@@ -11,4 +11,5 @@ push_count-requires c = subst (λ n. n < 2 ^ 32) (sym (c.len.ensures ∙ len-ent
 
 pub loop-client-init : goal.loop-client-init
 loop-client-init c =
-    none_put (format.kept written) c.args.book.now c.args.out.now.items c.push_count.new.out.items (short_number.spell c.len.result) (ap short_number.spell (c.len.ensures ∙ len-entries c.args.book.now)) c.in_ok-push_count.ensures
+    none_put (format.kept written) c.args.book.now c.args.out.now.items c.push_count.new.out.items (short_number.spell c.len.result)
+    (ap short_number.spell (c.len.ensures ∙ len-entries c.args.book.now)) c.in_ok-push_count.ensures

@@ -15,4 +15,5 @@ push_count-requires g c =
 pub loop-id-init : goal.loop-id-init
 loop-id-init g c =
     let count = c.len.ensures ∙ ap (λ (s : State). len s.bag) c.state.view_is ∙ len-entries c.args.state.now.bag in
-    none_put (format.placed written) c.args.state.now.bag c.args.out.now.items c.push_count.new.out.items (short_number.spell c.len.result) (ap short_number.spell count) c.in_ok-push_count.ensures
+    none_put (format.placed written) c.args.state.now.bag c.args.out.now.items c.push_count.new.out.items
+    (short_number.spell c.len.result) (ap short_number.spell count) c.in_ok-push_count.ensures

@@ -3,7 +3,7 @@ use Rattle.std.specs.FinMap.{len}
 use Rattle.std.proofs.lemmas.Option.{IfSome_then}
 use Rattle.linda_store_state.specs.State.{State}
 use Rattle.linda_bag.specs.Bytes.{bytes_of}
-use Rattle.linda_bag.proofs.StartLaws.{IfNone_any, IfNone_then}
+use Rattle.linda_bag.proofs.HintLaws.{IfNone_any, IfNone_then}
 use Rattle.linda_snap.proofs.PuttingLaws.{all_placed}
 use Rattle.linda_snap.proofs.putting.room_after_tuples.Goals as goal
 

@@ -33,12 +33,15 @@ returns-in-Err-unlock-clause-runs g c =
     let new = c.in-Err-unlock.other in
     let all = pieces (length c.args.bytes.now) in
     let filled : IsDone g.D.Disk (renews c.args.generation c.args.bytes.now) (TakesCalls (all + 1)) old w.disk =
-    done_on g.D.Disk old mid w.disk c.in-Ok.ensures.runs c.in-Ok-fill.ensures.runs (λ honest one shuts none body short is. filling c.args.generation body (view old) (view mid) (view w.disk) shuts none)
+    done_on g.D.Disk old mid w.disk c.in-Ok.ensures.runs c.in-Ok-fill.ensures.runs
+    (λ honest one shuts none body short is. filling c.args.generation body (view old) (view mid) (view w.disk) shuts none)
     (λ honest shut filled. then_calls 0 (all + 1) (all + 1) (view old) (view mid) (view w.disk) shut filled (omega arith)) in
     broken_on g.D.Disk Device c.in-Err-unlock.fault old w.disk new filled c.in-Err-unlock.ensures.runs
     (λ honest two renews unlocks body short is.
-    let whole = subst (λ n. IsWhole written n body w.end (view w.disk)) (sym c.in-Ok-fill.ensures.new.0) (c.in-Ok-fill.ensures.whole body short is (c.in-Ok.ensures.runs.honest.0 honest)) in
-    opening c.args.generation body (view old) (view w.disk) (view new) (renews body short is) (subst (λ n. LeavesOnly (view w.disk) (view new) (IsNoneOrNew written n body)) c.in-Ok-fill.ensures.new.0 (unlocks body whole)))
+    let whole = subst (λ n. IsWhole written n body w.end (view w.disk)) (sym c.in-Ok-fill.ensures.new.0)
+    (c.in-Ok-fill.ensures.whole body short is (c.in-Ok.ensures.runs.honest.0 honest)) in
+    opening c.args.generation body (view old) (view w.disk) (view new) (renews body short is)
+    (subst (λ n. LeavesOnly (view w.disk) (view new) (IsNoneOrNew written n body)) c.in-Ok-fill.ensures.new.0 (unlocks body whole)))
 
 pub returns-in-Ok-unlock-clause-runs : goal.returns-in-Ok-unlock-clause-runs
 returns-in-Ok-unlock-clause-runs g c =
@@ -49,17 +52,22 @@ returns-in-Ok-unlock-clause-runs g c =
     let new = c.in-Ok-unlock.bank.disk in
     let all = pieces (length c.args.bytes.now) in
     let filled : IsDone g.D.Disk (renews c.args.generation c.args.bytes.now) (TakesCalls (all + 1)) old w.disk =
-    done_on g.D.Disk old mid w.disk c.in-Ok.ensures.runs c.in-Ok-fill.ensures.runs (λ honest one shuts none body short is. filling c.args.generation body (view old) (view mid) (view w.disk) shuts none)
+    done_on g.D.Disk old mid w.disk c.in-Ok.ensures.runs c.in-Ok-fill.ensures.runs
+    (λ honest one shuts none body short is. filling c.args.generation body (view old) (view mid) (view w.disk) shuts none)
     (λ honest shut filled. then_calls 0 (all + 1) (all + 1) (view old) (view mid) (view w.disk) shut filled (omega arith)) in
     done_on g.D.Disk old w.disk new filled c.in-Ok-unlock.ensures.runs
     (λ honest two renews unlocks body short is.
-    let whole = subst (λ n. IsWhole written n body w.end (view w.disk)) (sym c.in-Ok-fill.ensures.new.0) (c.in-Ok-fill.ensures.whole body short is (c.in-Ok.ensures.runs.honest.0 honest)) in
-    opening c.args.generation body (view old) (view w.disk) (view new) (renews body short is) (subst (λ n. LeavesOnly (view w.disk) (view new) (IsNoneOrNew written n body)) c.in-Ok-fill.ensures.new.0 (unlocks body whole)))
+    let whole = subst (λ n. IsWhole written n body w.end (view w.disk)) (sym c.in-Ok-fill.ensures.new.0)
+    (c.in-Ok-fill.ensures.whole body short is (c.in-Ok.ensures.runs.honest.0 honest)) in
+    opening c.args.generation body (view old) (view w.disk) (view new) (renews body short is)
+    (subst (λ n. LeavesOnly (view w.disk) (view new) (IsNoneOrNew written n body)) c.in-Ok-fill.ensures.new.0 (unlocks body whole)))
     (λ honest filled two. then_calls (all + 1) 2 (3 + all) (view old) (view w.disk) (view new) filled two (omega arith))
 
 pub returns-in-Ok-unlock-clause-done : goal.returns-in-Ok-unlock-clause-done
 returns-in-Ok-unlock-clause-done g c body short is honest =
     let w = c.in-Ok-fill.whole in
     let one = c.in-Ok.ensures.runs.honest.0 honest in
-    let whole = subst (λ n. IsWhole written n body w.end (g.D.Disk.view w.disk)) (sym c.in-Ok-fill.ensures.new.0) (c.in-Ok-fill.ensures.whole body short is one) in
-    subst (λ n. IsSettled written n body [] c.in-Ok-unlock.bank.end (g.D.Disk.view c.in-Ok-unlock.bank.disk)) c.in-Ok-fill.ensures.new.0 (c.in-Ok-unlock.ensures.done body (c.in-Ok-fill.ensures.runs.honest.0 one) whole)
+    let whole = subst (λ n. IsWhole written n body w.end (g.D.Disk.view w.disk)) (sym c.in-Ok-fill.ensures.new.0)
+    (c.in-Ok-fill.ensures.whole body short is one) in
+    subst (λ n. IsSettled written n body [] c.in-Ok-unlock.bank.end (g.D.Disk.view c.in-Ok-unlock.bank.disk)) c.in-Ok-fill.ensures.new.0
+    (c.in-Ok-unlock.ensures.done body (c.in-Ok-fill.ensures.runs.honest.0 one) whole)

@@ -18,20 +18,26 @@ use Rattle.linda_snap.proofs.renewal.switch.Goals as goal
 pub returns-in_default-clause-runs : goal.returns-in_default-clause-runs
 returns-in_default-clause-runs g c =
     let now = c.args.current in
-    untouched g.D.Disk (switches (g.D.Disk.honest now.disk) now.form now.generation now.end (g.D.Disk.view now.disk) c.args.state.now) faults.Disk faults.BankFull c.args.other (λ is. cc)
-    (λ honest used up. stays_so now.form now.generation now.end (g.D.Disk.view now.disk) (g.D.Disk.view c.args.other) c.args.state.now up (g.met.D.Disk.timed c.args.other honest))
+    untouched g.D.Disk (switches (g.D.Disk.honest now.disk) now.form now.generation now.end (g.D.Disk.view now.disk) c.args.state.now)
+    faults.Disk faults.BankFull c.args.other (λ is. cc)
+    (λ honest used up. stays_so now.form now.generation now.end (g.D.Disk.view now.disk)
+    (g.D.Disk.view c.args.other) c.args.state.now up (g.met.D.Disk.timed c.args.other honest))
 
 pub returns-in_default-checked_add-clause-runs : goal.returns-in_default-checked_add-clause-runs
 returns-in_default-checked_add-clause-runs g c =
     let now = c.args.current in
-    untouched g.D.Disk (switches (g.D.Disk.honest now.disk) now.form now.generation now.end (g.D.Disk.view now.disk) c.args.state.now) faults.Disk faults.GenerationsSpent c.args.other (λ is. cc)
-    (λ honest used up. stays_so now.form now.generation now.end (g.D.Disk.view now.disk) (g.D.Disk.view c.args.other) c.args.state.now up (g.met.D.Disk.timed c.args.other honest))
+    untouched g.D.Disk (switches (g.D.Disk.honest now.disk) now.form now.generation now.end (g.D.Disk.view now.disk) c.args.state.now)
+    faults.Disk faults.GenerationsSpent c.args.other (λ is. cc)
+    (λ honest used up. stays_so now.form now.generation now.end (g.D.Disk.view now.disk)
+    (g.D.Disk.view c.args.other) c.args.state.now up (g.met.D.Disk.timed c.args.other honest))
 
 pub returns-in_default-spell_bank-clause-runs : goal.returns-in_default-spell_bank-clause-runs
 returns-in_default-spell_bank-clause-runs g c =
     let now = c.args.current in
-    untouched g.D.Disk (switches (g.D.Disk.honest now.disk) now.form now.generation now.end (g.D.Disk.view now.disk) c.args.state.now) faults.Disk faults.Memory c.args.other (λ is. cc)
-    (λ honest used up. stays_so now.form now.generation now.end (g.D.Disk.view now.disk) (g.D.Disk.view c.args.other) c.args.state.now up (g.met.D.Disk.timed c.args.other honest))
+    untouched g.D.Disk (switches (g.D.Disk.honest now.disk) now.form now.generation now.end (g.D.Disk.view now.disk) c.args.state.now)
+    faults.Disk faults.Memory c.args.other (λ is. cc)
+    (λ honest used up. stays_so now.form now.generation now.end (g.D.Disk.view now.disk)
+    (g.D.Disk.view c.args.other) c.args.state.now up (g.met.D.Disk.timed c.args.other honest))
 
 pub returns-in-Ok-renew-clause-runs : goal.returns-in-Ok-renew-clause-runs
 returns-in-Ok-renew-clause-runs g c =
@@ -58,7 +64,8 @@ returns-clause-runs g c =
     let new = g.D.Disk.view c.in-Err.other in
     let next : c.in-Some-checked_add.generation ≡ now.generation + 1 = grind (arith, c.in-Some-checked_add.ensures, c.generation.ensures) in
     let bytes = c.deref.ensures.value ∙ c.in-Ok.ensures.bytes in
-    broken_by g.D.Disk Device c.in-Err.fault faults.Disk c.from.result c.args.other c.in-Err.other c.in-Err.ensures.runs (switch_failed c.in-Err.fault c.from.result c.from.ensures)
+    broken_by g.D.Disk Device c.in-Err.fault faults.Disk c.from.result c.args.other c.in-Err.other c.in-Err.ensures.runs
+    (switch_failed c.in-Err.fault c.from.result c.from.ensures)
     (λ honest renews used up.
     let room = c.in-Some.ensures.fits in
     let short : length (spell_state written st) < 2 ^ 32 = omega (arith, room, c.limit-limit.ensures, c.requires.short) in
@@ -73,8 +80,10 @@ returns-in-Ok-renew-clause-done g c used honest up =
     let short : length (spell_state written st) < 2 ^ 32 = omega (arith, room, c.limit-limit.ensures, c.requires.short) in
     let bytes = c.deref.ensures.value ∙ c.in-Ok.ensures.bytes in
     let bank = c.in-Ok-renew.bank in
-    let up_next = switched c.args.current.form c.args.current.generation c.args.current.end (g.D.Disk.view c.args.current.disk) (g.D.Disk.view c.args.other) st up bank.end (g.D.Disk.view bank.disk) c.requires.ranges c.in-Ok.ensures.fits
-    (subst (λ n. IsSettled written n (spell_state written st) [] bank.end (g.D.Disk.view bank.disk)) next (c.in-Ok-renew.ensures.done (spell_state written st) short bytes honest)) in
+    let up_next = switched c.args.current.form c.args.current.generation c.args.current.end (g.D.Disk.view c.args.current.disk)
+    (g.D.Disk.view c.args.other) st up bank.end (g.D.Disk.view bank.disk) c.requires.ranges c.in-Ok.ensures.fits
+    (subst (λ n. IsSettled written n (spell_state written st) [] bank.end (g.D.Disk.view bank.disk)) next
+    (c.in-Ok-renew.ensures.done (spell_state written st) short bytes honest)) in
     let same : bank.generation ≡ c.args.current.generation + 1 = c.in-Ok-renew.ensures.new.1 ∙ next in
     subst (λ f. IsUp f bank.generation bank.end (g.D.Disk.view bank.disk) (g.D.Disk.view c.into_disk.result) st) (sym c.in-Ok-renew.ensures.new.0)
     (subst (λ n. IsUp written n bank.end (g.D.Disk.view bank.disk) (g.D.Disk.view c.into_disk.result) st) (sym same)
@@ -89,7 +98,8 @@ returns-in-Ok-renew-clause-stored g c honest =
     let bank = c.in-Ok-renew.bank in
     subst (λ f. IsStored f bank.generation bank.end (g.D.Disk.view bank.disk) st) (sym c.in-Ok-renew.ensures.new.0)
     (new_stored written bank.generation bank.end (g.D.Disk.view bank.disk) st c.requires.ranges c.in-Ok.ensures.fits
-    (subst (λ n. IsSettled written n (spell_state written st) [] bank.end (g.D.Disk.view bank.disk)) (sym c.in-Ok-renew.ensures.new.1) (c.in-Ok-renew.ensures.done (spell_state written st) short bytes (c.in-Ok-renew.ensures.runs.honest.1 honest))))
+    (subst (λ n. IsSettled written n (spell_state written st) [] bank.end (g.D.Disk.view bank.disk)) (sym c.in-Ok-renew.ensures.new.1)
+    (c.in-Ok-renew.ensures.done (spell_state written st) short bytes (c.in-Ok-renew.ensures.runs.honest.1 honest))))
 
 pub returns-clause-refused : goal.returns-clause-refused
 returns-clause-refused g c = (

@@ -9,11 +9,14 @@ loop-record-init g c = (none_done c.args.state.now c.requires, c.requires, c.int
 pub returns-then-not-branch-clause-fault : goal.returns-then-not-branch-clause-fault
 returns-then-not-branch-clause-fault g c =
     improper_here c.args.state.now c.loop-record.state c.args.records.items c.loop-record.yielded c.in-Some.record c.next.new.self.rest.items
-    (ap (λ l. c.loop-record.yielded ++ l) (sym c.in-Some.ensures.steps.0) ∙ c.loop-record.invariant.2) c.requires c.loop-record.invariant.0 (c.in_ok-redo_all.ensures.refused c.if-not-branch.true)
+    (ap (λ l. c.loop-record.yielded ++ l) (sym c.in-Some.ensures.steps.0) ∙ c.loop-record.invariant.2)
+    c.requires c.loop-record.invariant.0 (c.in_ok-redo_all.ensures.refused c.if-not-branch.true)
 
 pub loop-record-preserved : goal.loop-record-preserved
 loop-record-preserved g c = (
-  one_record_redone c.args.state.now c.loop-record.state c.redo_all.new.state c.loop-record.yielded c.in-Some.record c.requires c.loop-record.invariant.0 (c.in_ok-redo_all.ensures.done c.if-not-branch.false),
+  one_record_redone c.args.state.now c.loop-record.state c.redo_all.new.state c.loop-record.yielded
+      c.in-Some.record c.requires c.loop-record.invariant.0 (c.in_ok-redo_all.ensures.done c.if-not-branch.false),
   c.in_ok-redo_all.ensures.ranges,
-  append_assoc c.loop-record.yielded (c.in-Some.record ∷ []) c.next.new.self.rest.items ∙ ap (λ l. c.loop-record.yielded ++ l) (sym c.in-Some.ensures.steps.0) ∙ c.loop-record.invariant.2,
+  append_assoc c.loop-record.yielded (c.in-Some.record ∷ []) c.next.new.self.rest.items
+      ∙ ap (λ l. c.loop-record.yielded ++ l) (sym c.in-Some.ensures.steps.0) ∙ c.loop-record.invariant.2,
 )

@@ -12,4 +12,5 @@ returns c =
     let page = c.args.page.now in
     then_pushed c.push_rows_to_end.result c.args.out.now.items mid new
     (json_begun page.next (codes ",\n\"tuples\":[")) (json_rows_to_end page.rows.items)
-    c.in_ok-push_begin.ensures (subst (λ rows. OnOk c.push_rows_to_end.result (new ≡ mid ++ json_rows_to_end rows)) c.deref.ensures.value c.push_rows_to_end.ensures)
+    c.in_ok-push_begin.ensures
+    (subst (λ rows. OnOk c.push_rows_to_end.result (new ≡ mid ++ json_rows_to_end rows)) c.deref.ensures.value c.push_rows_to_end.ensures)

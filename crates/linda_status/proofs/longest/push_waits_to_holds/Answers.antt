@@ -1,5 +1,5 @@
 -- The begin of the object is written, and then the waits.
-use Rattle.std.proofs.Common.{◌++◌, codes}
+use Rattle.std.proofs.Common.{codes}
 use Rattle.linda_status.specs.Longest.{json_waits_to_end, json_waits_to_holds}
 use Rattle.linda_status.proofs.ListedLaws.{then_pushed}
 use Rattle.linda_status.proofs.longest.push_waits_to_holds.Goals as goal

@@ -1,7 +1,7 @@
 -- What was inserted is removed again.
 use Rattle.std.proofs.Common.{ap, ◌∙◌}
 use Rattle.std.specs.FinMap.{remove}
-use Rattle.linda_maps.proofs.MapLaws.{undone}
+use Rattle.linda_map_laws.proofs.MapLaws.{undone}
 use Rattle.linda_store_state.proofs.state.keep_tuple.Goals as goal
 
 pub returns-in-Err-clause-bag_err : goal.returns-in-Err-clause-bag_err

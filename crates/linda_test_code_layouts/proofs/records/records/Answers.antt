@@ -19,8 +19,10 @@ returns-clause-journal_before c =
 
 pub returns-clause-append : goal.returns-clause-append
 returns-clause-append c =
-    only_append Two _ refl (two_deeds Two (deed.Pass client number id) (deed.Leave later_client later_number) (lit< tt, (lit< tt, lit< tt)) (tt, (lit< tt, lit< tt)))
+    only_append Two _ refl (two_deeds Two (deed.Pass client number id) (deed.Leave later_client later_number)
+    (lit< tt, (lit< tt, lit< tt)) (tt, (lit< tt, lit< tt)))
 
 pub returns-clause-append_before : goal.returns-clause-append_before
 returns-clause-append_before c =
-    only_append One _ refl (two_deeds One (deed.Pass client number id) (deed.Take later_client later_number later_id) (lit< tt, (lit< tt, lit< tt)) (lit< tt, (lit< tt, lit< tt)))
+    only_append One _ refl (two_deeds One (deed.Pass client number id) (deed.Take later_client later_number later_id)
+    (lit< tt, (lit< tt, lit< tt)) (lit< tt, (lit< tt, lit< tt)))

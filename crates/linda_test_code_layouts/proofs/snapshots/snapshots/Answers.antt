@@ -20,8 +20,16 @@ row_fits One = record { count = lit≤ tt; tag = (lit≤ tt, is_utf8-from_IsUtf8
 row_fits Two = record { count = lit≤ tt; tag = (lit≤ tt, is_utf8-from_IsUtf8 _ (IsUtf8-from_ascii (codes "a") (search rules))); fields = fields_fit Two }
 
 tag_fits : (form : Form) → FitsIn form tag_only
-tag_fits One = record { count = lit≤ tt; tag = (lit≤ tt, is_utf8-from_IsUtf8 _ (IsUtf8-from_ascii (codes "b") (search rules))); fields = All-nil (IsSoundIn One) }
-tag_fits Two = record { count = lit≤ tt; tag = (lit≤ tt, is_utf8-from_IsUtf8 _ (IsUtf8-from_ascii (codes "b") (search rules))); fields = All-nil (IsSoundIn Two) }
+tag_fits One = record {
+  count = lit≤ tt;
+  tag = (lit≤ tt, is_utf8-from_IsUtf8 _ (IsUtf8-from_ascii (codes "b") (search rules)));
+  fields = All-nil (IsSoundIn One);
+}
+tag_fits Two = record {
+  count = lit≤ tt;
+  tag = (lit≤ tt, is_utf8-from_IsUtf8 _ (IsUtf8-from_ascii (codes "b") (search rules)));
+  fields = All-nil (IsSoundIn Two);
+}
 
 tuples_fit : (form : Form) → (listed (placed form)).Fits tuples
 tuples_fit form =
@@ -31,7 +39,8 @@ tuples_fit form =
 pub returns-clause-snapshot : goal.returns-clause-snapshot
 returns-clause-snapshot c =
     let Fits = (kept Two).Fits in
-    let all : All Fits clients = All-cons Fits _ (_ ∷ _ ∷ []) (lit< tt, (lit< tt, lit< tt)) (All-cons Fits _ (_ ∷ []) (lit< tt, (lit< tt, tt)) (All-cons Fits _ [] (lit< tt, (lit< tt, tt)) (All-nil Fits))) in
+    let all : All Fits clients = All-cons Fits _ (_ ∷ _ ∷ []) (lit< tt, (lit< tt, lit< tt))
+    (All-cons Fits _ (_ ∷ []) (lit< tt, (lit< tt, tt)) (All-cons Fits _ [] (lit< tt, (lit< tt, tt)) (All-nil Fits))) in
     only_snapshot Two next_id tuples clients record {
       rising = tt;
       clients_rising = tt;

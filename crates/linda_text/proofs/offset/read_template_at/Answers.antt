@@ -16,14 +16,19 @@ returns-in-Ok-clause-found c =
 
 pub returns-in-Ok-clause-only : goal.returns-in-Ok-clause-only
 returns-in-Ok-clause-only c = λ a rest is.
-    let same = is_only template_is c.args.text.now c.tail.result.now c.args.at (c.in-Ok.template, c.in-Ok.rest.now) c.tail.ensures c.in-Ok.ensures.value a rest is.0 tt is.1 in
+    let same = is_only template_is c.args.text.now c.tail.result.now c.args.at (
+      c.in-Ok.template,
+      c.in-Ok.rest.now,
+    ) c.tail.ensures c.in-Ok.ensures.value a rest is.0 tt is.1 in
     cc
 
 pub returns-in-Err-clause-only : goal.returns-in-Err-clause-only
 returns-in-Err-clause-only c = λ a rest is not_memory.
-    absurd (no_fault template_is c.args.text.now c.tail.result.now c.args.at _ c.in-Err.fault c.placed.result c.tail.ensures c.in-Err.ensures.value c.placed.ensures.value a rest is.0 tt is.1 not_memory)
+    absurd (no_fault template_is c.args.text.now c.tail.result.now c.args.at _ c.in-Err.fault c.placed.result
+    c.tail.ensures c.in-Err.ensures.value c.placed.ensures.value a rest is.0 tt is.1 not_memory)
 
 pub returns-in-Err-clause-memory : goal.returns-in-Err-clause-memory
 returns-in-Err-clause-memory c = λ e.
     let told : c.placed.result ≡ Memory = cc in
-    stands_there template_is c.args.text.now c.tail.result.now c.args.at c.tail.ensures (c.in-Err.ensures.memory (ap (λ fault. Err fault) (c.placed.ensures.memory told)))
+    stands_there template_is c.args.text.now c.tail.result.now c.args.at c.tail.ensures
+    (c.in-Err.ensures.memory (ap (λ fault. Err fault) (c.placed.ensures.memory told)))

@@ -8,7 +8,8 @@ pub returns-in_err-said : goal.returns-in_err-said
 returns-in_err-said c =
     let p = err_from_is_err_and c.from_residual-in_err-said.result c.from_residual-in_err-said.ensures.1 in
     rw (p.1, p.2)
-    (λ _. fails c.loop-content.content.items c.loop-content.rest.now c.in_err-said.field-0.0 (content_at false c.args.bytes.now) c.in_err-said.ensures.value.1 c.loop-content.invariant)
+    (λ _. fails c.loop-content.content.items c.loop-content.rest.now c.in_err-said.field-0.0
+    (content_at false c.args.bytes.now) c.in_err-said.ensures.value.1 c.loop-content.invariant)
 
 pub returns-in_default : goal.returns-in_default
 returns-in_default c =

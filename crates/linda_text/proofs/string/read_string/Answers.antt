@@ -12,11 +12,13 @@ returns-in_err-said-clause-value c =
 -- What was judged is UTF-8.
 pub unreachable-requires : goal.unreachable-requires
 unreachable-requires c =
-    let read = is_read c.args.bytes.now c.in_ok-said.said.items c.in_ok-said.rest.now c.in_ok-count.field-0-1.now c.in_ok-count.count c.in_ok-count.ensures c.in_ok-said.ensures in
+    let read = is_read c.args.bytes.now c.in_ok-said.said.items c.in_ok-said.rest.now c.in_ok-count.field-0-1.now
+    c.in_ok-count.count c.in_ok-count.ensures c.in_ok-said.ensures in
     let made_one : IsOk c.from_utf8.result = c.from_utf8.ensures.succeeds read.1 in
     search (rules, made_one, c.in_default.is)
 
 pub returns-clause-value : goal.returns-clause-value
 returns-clause-value c =
-    let read = is_read c.args.bytes.now c.in_ok-said.said.items c.in_ok-said.rest.now c.in_ok-count.field-0-1.now c.in_ok-count.count c.in_ok-count.ensures c.in_ok-said.ensures in
+    let read = is_read c.args.bytes.now c.in_ok-said.said.items c.in_ok-said.rest.now c.in_ok-count.field-0-1.now
+    c.in_ok-count.count c.in_ok-count.ensures c.in_ok-said.ensures in
     rw (c.new.ensures, c.in-Ok.ensures.ok) read.0

@@ -5,7 +5,8 @@ use Rattle.linda_wire.specs.Frames.{length_field, frame}
 use Rattle.linda_wire.proofs.framed.set_length.Goals as goal
 
 -- A length written over the bytes before a payload makes its frame.
-framed : (bytes field : List ℕ) (start : ℕ) → field ≡ length_field (length bytes - (start + LENGTH_BYTES)) → take start bytes ++ (field ++ drop (start + LENGTH_BYTES - start) (drop start bytes)) ≡ take start bytes ++ frame (drop (start + LENGTH_BYTES) bytes)
+framed : (bytes field : List ℕ) (start : ℕ) → field ≡ length_field (length bytes - (start + LENGTH_BYTES))
+    → take start bytes ++ (field ++ drop (start + LENGTH_BYTES - start) (drop start bytes)) ≡ take start bytes ++ frame (drop (start + LENGTH_BYTES) bytes)
 framed bytes field start e =
     let four : start + LENGTH_BYTES - start ≡ LENGTH_BYTES = omega arith in
     let rest : drop (start + LENGTH_BYTES - start) (drop start bytes) ≡ drop (start + LENGTH_BYTES) bytes = rw four (drop-drop LENGTH_BYTES start bytes) in

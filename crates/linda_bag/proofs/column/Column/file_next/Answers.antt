@@ -17,6 +17,8 @@ returns g c = λ right.
     filed_next (g.B.Bag.contents c.args.bag.now) c.args.next c.args.self.now
     (record { kind = c.args.self.now.kind; position = c.args.self.now.position; upto = c.in-Some.id + 1; ids = c.put.new.ids })
     c.in-Some.id (option_copied c.field_under-value.result) (contains nat_cmp c.new.result) refl refl refl
-    (if_some _ c.least_match_from-found.result.id c.in-Some.id c.least_match_from-found.ensures.above c.in-Some.is) (let over = c.if-id-next.false in omega arith)
+    (if_some _ c.least_match_from-found.result.id c.in-Some.id c.least_match_from-found.ensures.above c.in-Some.is)
+    (let over = c.if-id-next.false in omega arith)
     (λ k. ap (λ keys. contains nat_cmp (record { keys = keys }) k) c.new.ensures.empty)
-    (if_some _ c.least_match_from-found.result.id c.in-Some.id c.least_match_from-found.ensures.least c.in-Some.is) c.field_under-value.ensures c.in_ok-put.ensures right
+    (if_some _ c.least_match_from-found.result.id c.in-Some.id c.least_match_from-found.ensures.least c.in-Some.is)
+    c.field_under-value.ensures c.in_ok-put.ensures right

@@ -4,7 +4,7 @@ use Rattle.std.proofs.lemmas.Bool.{cases_lt}
 use Rattle.std.proofs.lemmas.Option.{IfSome_then}
 use Rattle.linda_bag.specs.FreeMatch.{IsFreeMatch}
 use Rattle.linda_bag.specs.Ids.{has_any}
-use Rattle.linda_bag.proofs.StartLaws.{IfNone_then}
+use Rattle.linda_bag.proofs.HintLaws.{IfNone_then}
 use Rattle.linda_bag.proofs.ColumnLaws.{is_filed, found_below, none_below}
 use Rattle.linda_bag.proofs.column.Column.least_match_from.Goals as goal
 

@@ -1,6 +1,6 @@
 use Rattle.std.proofs.Common.{sym, ap, subst, ◌∙◌}
 use Rattle.std.specs.FinMap.{get}
-use Rattle.linda_maps.proofs.MapLaws.{get_empty}
+use Rattle.linda_map_laws.proofs.MapLaws.{get_empty}
 use Rattle.linda_bag.specs.Bytes.{bytes_of}
 use Rattle.linda_bag.proofs.BytesLaws.{no_bytes}
 use Rattle.linda_bag.proofs.PlaceLaws.{HasIndex}

@@ -2,7 +2,7 @@ use Rattle.std.proofs.Common.{ap}
 use Rattle.std.specs.FinMap.{get}
 use Rattle.std.proofs.lemmas.Option.{IfSome_then}
 use Rattle.linda_bag.proofs.FreeMatchLaws.{among_found}
-use Rattle.linda_bag.proofs.StartLaws.{IfNone_then}
+use Rattle.linda_bag.proofs.HintLaws.{IfNone_then}
 use Rattle.linda_bag.proofs.index_bag.IndexBagBag.least_match_from.Goals as goal
 
 pub returns-clause-least : goal.returns-clause-least

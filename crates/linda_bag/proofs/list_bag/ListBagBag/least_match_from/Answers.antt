@@ -26,7 +26,8 @@ pub loop-id-preserved-then-id-from : goal.loop-id-preserved-then-id-from
 loop-id-preserved-then-id-from g c =
     let entry : ℕ × Tuple = (c.in-Some.id.now, c.in-Some.tuple.now) in
     let stored = first_stored _ _ _ entry _ c.loop-id.invariant c.in-Some.ensures.steps in
-    fewer_left _ _ _ entry _ c.loop-id.invariant c.in-Some.ensures.steps (λ wanted. not_free _ _ _ entry _ stored c.is_free_match.ensures c.if-is_free_match.false wanted.1)
+    fewer_left _ _ _ entry _ c.loop-id.invariant c.in-Some.ensures.steps
+    (λ wanted. not_free _ _ _ entry _ stored c.is_free_match.ensures c.if-is_free_match.false wanted.1)
 
 pub loop-id-preserved : goal.loop-id-preserved
 loop-id-preserved g c =

@@ -1,5 +1,5 @@
 use Rattle.std.proofs.Common.{◌+◌, sym, ap, ◌∙◌}
-use Rattle.linda_maps.proofs.MapLaws.{same_entries}
+use Rattle.linda_map_laws.proofs.MapLaws.{same_entries}
 use Rattle.linda_bag.proofs.BytesLaws.{bytes_in}
 use Rattle.linda_bag.proofs.list_bag.ListBagBag.room_after.Goals as goal
 

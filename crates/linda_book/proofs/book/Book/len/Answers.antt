@@ -1,7 +1,7 @@
 -- The map has as many entries as the tree.
 use Rattle.std.proofs.Common.{ap, sym, ◌∙◌}
 use Rattle.std.specs.FinMap.{len}
-use Rattle.linda_maps.proofs.MapLaws.{len_entries}
+use Rattle.linda_map_laws.proofs.MapLaws.{len_entries}
 use Rattle.linda_book.proofs.book.Book.len.Goals as goal
 
 pub returns : goal.returns

@@ -8,7 +8,8 @@ pub returns-in-Some-clause-last : goal.returns-in-Some-clause-last
 returns-in-Some-clause-last c = ap number_in (c.in-Some.ensures.value ∙ sym (viewed c.self.inside.entries c.args.self.now c.self.view_is c.args.client))
 
 pub returns-in-Some-clause-left : goal.returns-in-Some-clause-left
-returns-in-Some-clause-left c = c.is_left.ensures ∙ ap left_in (c.in-Some.ensures.value ∙ sym (viewed c.self.inside.entries c.args.self.now c.self.view_is c.args.client))
+returns-in-Some-clause-left c = c.is_left.ensures
+    ∙ ap left_in (c.in-Some.ensures.value ∙ sym (viewed c.self.inside.entries c.args.self.now c.self.view_is c.args.client))
 
 pub returns-in-None-clause-last : goal.returns-in-None-clause-last
 returns-in-None-clause-last c = ap number_in (c.in-None.ensures.value ∙ sym (viewed c.self.inside.entries c.args.self.now c.self.view_is c.args.client))

@@ -1,6 +1,6 @@
 -- What is known after a cut.
 use Rattle.std.proofs.Common.{rules, ap, ◌∙◌, length-take}
-use Rattle.linda_disk.specs.History.{content, fits}
+use Rattle.linda_disk.specs.DiskHistory.{content, fits}
 use Rattle.linda_disk.specs.Known.{history}
 use Rattle.linda_disk.proofs.KnownLaws.{first_cut}
 use Rattle.linda_disk.proofs.known.Known.cut.Goals as goal

@@ -1,7 +1,7 @@
 -- What is known after a write.
 use Rattle.std.proofs.Common.{rules}
-use Rattle.linda_disk.specs.History.{content}
-use Rattle.linda_disk.specs.HistoryLaws.{length-overlay}
+use Rattle.linda_disk.specs.DiskHistory.{content}
+use Rattle.linda_disk.specs.DiskHistoryLaws.{length-overlay}
 use Rattle.linda_disk.specs.Known.{history}
 use Rattle.linda_disk.proofs.KnownLaws.{first_written}
 use Rattle.linda_disk.proofs.known.Known.write.Goals as goal

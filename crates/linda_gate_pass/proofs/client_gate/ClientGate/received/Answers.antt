@@ -15,6 +15,7 @@ returns-in-Some-clause-front c = λ up.
     let up_pass : c.in-Some.pass.fault ≡ None = rw c.in-Some.is at up_inside in
     let front = later_front (take i.len i.head.items) (passing.came c.in-Some.pass) c.args.bytes.now c.received.new.self.passed
     (c.received.ensures.front up_pass) in
-    subst (λ (g : Gating). (rest : List ℕ) × (came g ++ c.args.bytes.now ≡ take i.len i.head.items ++ (flat_map message_frame c.received.new.self.passed ++ rest)))
+    subst (λ (g : Gating). (rest : List ℕ)
+    × (came g ++ c.args.bytes.now ≡ take i.len i.head.items ++ (flat_map message_frame c.received.new.self.passed ++ rest)))
     c.self.view_is
     (rw c.in-Some.is front)

@@ -1,5 +1,5 @@
 use Rattle.std.proofs.Common.{◌≡◌, drop}
-use Rattle.linda_hold.specs.Firsts.{value_from}
+use Rattle.linda_hold.specs.FirstValue.{value_from}
 use Rattle.linda_hold.proofs.asked.Asked.value.Given as goal
 
 -- The first value of those that are left, if none was before, is the first of all.

@@ -1,7 +1,7 @@
 use Rattle.std.proofs.Common.{◌≡◌, ℕ, None, sym, ap, subst, ◌∙◌}
 use Rattle.std.specs.FinMap as map
-use Rattle.linda_maps.proofs.MapLaws.{get_empty}
-use Rattle.linda_hold.specs.Named.{HasNames}
+use Rattle.linda_map_laws.proofs.MapLaws.{get_empty}
+use Rattle.linda_hold.specs.TicketIndex.{HasNames}
 use Rattle.linda_hold.proofs.holds.Holds.new.Goals as goal
 
 pub invariant_of-result : goal.invariant_of-result

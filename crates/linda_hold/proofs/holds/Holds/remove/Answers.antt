@@ -2,7 +2,7 @@ use Rattle.std.proofs.Common.{sym, ap, subst, ◌∙◌}
 use Rattle.std.specs.FinMap as map
 use Rattle.linda_bag.proofs.FilingLaws.{same_row}
 use Rattle.linda_bag.proofs.KeptLaws.{as_after}
-use Rattle.linda_hold.specs.Named.{HasNames}
+use Rattle.linda_hold.specs.TicketIndex.{HasNames}
 use Rattle.linda_hold.proofs.NamingLaws.{names_gone}
 use Rattle.linda_hold.proofs.RowLaws.{row_gone}
 use Rattle.linda_hold.proofs.holds.Holds.remove.Goals as goal
@@ -11,16 +11,17 @@ pub invariant_of-self : goal.invariant_of-self
 invariant_of-self c =
     let old = c.self.inside.by_id in
     let new = c.remove.new.self in
-    as_after (HasNames c.self.inside.names) (HasNames c.remove-in-Some.new.self) (map.get old) _ (map.get new) _ _
+    as_after (HasNames c.self.inside.ticket_index) (HasNames c.remove-in-Some.new.self) (map.get old) _ (map.get new) _ _
     (sym c.remove.ensures.value ∙ c.in-Some.is) (row_gone old new c.args.id c.remove.ensures.removed)
-    (names_gone c.self.inside.names c.remove-in-Some.new.self c.remove-in-Some.ensures.used c.args.id _ c.remove-in-Some.ensures.gone) c.self.invariant
+    (names_gone c.self.inside.ticket_index c.remove-in-Some.new.self c.remove-in-Some.ensures.used c.args.id _ c.remove-in-Some.ensures.gone) c.self.invariant
 
 pub invariant_of-self-in_default : goal.invariant_of-self-in_default
 invariant_of-self-in_default c =
     let old = c.self.inside.by_id in
     let new = c.remove.new.self in
-    subst (HasNames c.self.inside.names)
-    (λ j. λ q. sym (row_gone old new c.args.id c.remove.ensures.removed q ∙ same_row (map.get old) c.args.id _ (sym c.remove.ensures.value ∙ c.in_default.is) q) j)
+    subst (HasNames c.self.inside.ticket_index)
+    (λ j. λ q. sym (row_gone old new c.args.id c.remove.ensures.removed q
+    ∙ same_row (map.get old) c.args.id _ (sym c.remove.ensures.value ∙ c.in_default.is) q) j)
     c.self.invariant
 
 pub returns-in-Some : goal.returns-in-Some

@@ -3,7 +3,7 @@ use Rattle.linda_tuple.specs.declared.atom.Atom.{Atom}
 use Rattle.linda_bag.specs.Candidates.{first_among}
 use Rattle.linda_bag.specs.Filing.{row_at, placed}
 use Rattle.linda_hold.specs.Arrivals.{IsNext}
-use Rattle.linda_hold.specs.Firsts.{later_of}
+use Rattle.linda_hold.specs.FirstValue.{later_of}
 use Rattle.linda_hold.specs.Group.{is_reached}
 use Rattle.linda_hold.specs.Positions.{early_at, is_met_below}
 use Rattle.linda_hold.proofs.NextLaws.{next_as}
@@ -25,7 +25,8 @@ pub loop-position-preserved : goal.loop-position-preserved
 loop-position-preserved c = λ asked known.
     let fields = c.args.fields.now in
     let k = c.loop-position.position in
-    next_as (λ q. is_met_below k fields (asked q) || is_reached (slice_get fields k) (row_at nat_cmp k (placed later_of (asked q)))) (λ q. is_met_below (k + 1) fields (asked q)) _ _ (λ q. met_more k fields (asked q))
+    next_as (λ q. is_met_below k fields (asked q) || is_reached (slice_get fields k) (row_at nat_cmp k (placed later_of (asked q))))
+    (λ q. is_met_below (k + 1) fields (asked q)) _ _ (λ q. met_more k fields (asked q))
     (c.sooner-next.ensures (λ q. is_met_below k fields (asked q)) (λ q. is_reached (slice_get fields k) (row_at nat_cmp k (placed later_of (asked q)))) _
     (c.loop-position.invariant asked known)
     (subst (λ f. IsNext (λ q. is_reached f (row_at nat_cmp k (placed later_of (asked q)))) c.args.from c.next_at-later.result) c.field_at.ensures

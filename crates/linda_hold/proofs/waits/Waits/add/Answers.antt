@@ -23,14 +23,17 @@ invariant_of-self-in-Ok c =
     let old = c.self.inside.by_arrival.entries in
     let new = c.insert.new.self.entries in
     let k = c.self.inside.next in (
-      subst (λ next. AreBelow next (wait_at new)) (sym c.in_ok-next.ensures.ok) (below_next old new k (c.args.request, c.args.asked) c.self.invariant.0 c.in-Ok.ensures.updates.0),
+      subst (λ next. AreBelow next (wait_at new)) (sym c.in_ok-next.ensures.ok)
+          (below_next old new k (c.args.request, c.args.asked) c.self.invariant.0 c.in-Ok.ensures.updates.0),
       as_after (HasWaits c.self.inside.index) (HasWaits c.put.new.self) (wait_at old) k (wait_at new) _ _
-          (none_above k (wait_at old) c.self.invariant.0) (as_rows (wait_at old) (wait_at new) k _ c.in-Ok.ensures.updates.0) c.in_ok-put.ensures.ok c.self.invariant.1,
+          (none_above k (wait_at old) c.self.invariant.0)
+          (as_rows (wait_at old) (wait_at new) k _ c.in-Ok.ensures.updates.0) c.in_ok-put.ensures.ok c.self.invariant.1,
     )
 
 pub returns-in-Ok-clause-ok : goal.returns-in-Ok-clause-ok
 returns-in-Ok-clause-ok c =
-    added c.self.inside.by_arrival.entries c.insert.new.self.entries c.self.inside.next (c.args.request, c.args.asked) c.self.invariant.0 c.in-Ok.ensures.updates.0
+    added c.self.inside.by_arrival.entries c.insert.new.self.entries c.self.inside.next
+    (c.args.request, c.args.asked) c.self.invariant.0 c.in-Ok.ensures.updates.0
     ∙ ap (λ waits. waits ++ (c.args.request, c.args.asked) ∷ []) c.self.view_is
 
 pub invariant_of-self-in-Err : goal.invariant_of-self-in-Err

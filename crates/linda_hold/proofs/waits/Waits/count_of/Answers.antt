@@ -8,6 +8,7 @@ use Rattle.linda_hold.proofs.waits.Waits.count_of.Goals as goal
 
 pub returns : goal.returns
 returns c =
-    own_count (in_order c.self.inside.by_arrival.entries) (ordered c.self.inside.by_arrival.entries) (wait_at c.self.inside.by_arrival.entries) (found c.self.inside.by_arrival.entries) c.args.client c.count_of.result
+    own_count (in_order c.self.inside.by_arrival.entries) (ordered c.self.inside.by_arrival.entries)
+    (wait_at c.self.inside.by_arrival.entries) (found c.self.inside.by_arrival.entries) c.args.client c.count_of.result
     (c.count_of.ensures (requests_of (wait_at c.self.inside.by_arrival.entries)) c.self.invariant.1.0)
     ∙ ap (λ waits. length (waits_of c.args.client waits)) c.self.view_is

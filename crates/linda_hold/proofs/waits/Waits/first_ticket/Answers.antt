@@ -1,6 +1,6 @@
 use Rattle.std.proofs.Common.{sym, ap, ◌∙◌}
 use Rattle.std.proofs.lemmas.Option.{IfSome_then}
-use Rattle.linda_bag.proofs.StartLaws.{IfNone_then}
+use Rattle.linda_bag.proofs.HintLaws.{IfNone_then}
 use Rattle.linda_hold.specs.Request.{request_of}
 use Rattle.linda_hold.specs.Waits.{is_waiting, waits_of}
 use Rattle.linda_hold.proofs.EntryLaws.{waits_where_found, none_of_client}

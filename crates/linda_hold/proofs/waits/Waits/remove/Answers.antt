@@ -8,24 +8,30 @@ use Rattle.linda_hold.proofs.waits.Waits.remove.Goals as goal
 
 pub invariant_of-self : goal.invariant_of-self
 invariant_of-self c = (
-  below_still c.self.inside.by_arrival.entries c.take_out.new.by_arrival.entries c.in-Some.number c.self.inside.next c.self.invariant.0 c.take_out.ensures.others,
-  as_after (HasWaits c.self.inside.index) (HasWaits c.remove.new.self) (wait_at c.self.inside.by_arrival.entries) c.in-Some.number (wait_at c.take_out.new.by_arrival.entries) _ _
+  below_still c.self.inside.by_arrival.entries c.take_out.new.by_arrival.entries c.in-Some.number
+      c.self.inside.next c.self.invariant.0 c.take_out.ensures.others,
+  as_after (HasWaits c.self.inside.index) (HasWaits c.remove.new.self)
+      (wait_at c.self.inside.by_arrival.entries) c.in-Some.number (wait_at c.take_out.new.by_arrival.entries) _ _
       (sym c.take_out.ensures.value ∙ c.in-Some-take_out.is)
-      (as_rows (wait_at c.self.inside.by_arrival.entries) (wait_at c.take_out.new.by_arrival.entries) c.in-Some.number _ c.take_out.ensures.others) c.remove.ensures c.self.invariant.1,
+      (as_rows (wait_at c.self.inside.by_arrival.entries) (wait_at c.take_out.new.by_arrival.entries) c.in-Some.number _ c.take_out.ensures.others)
+      c.remove.ensures c.self.invariant.1,
 )
 
 pub returns-in-Some-take_out : goal.returns-in-Some-take_out
 returns-in-Some-take_out c =
-    taken c.self.inside.by_arrival.entries c.take_out.new.by_arrival.entries c.in-Some.number c.args.request c.self.invariant.1.0.0 (sym c.in-Some.ensures) c.take_out.ensures.others
+    taken c.self.inside.by_arrival.entries c.take_out.new.by_arrival.entries c.in-Some.number
+    c.args.request c.self.invariant.1.0.0 (sym c.in-Some.ensures) c.take_out.ensures.others
     ∙ ap (without c.args.request) c.self.view_is
 
 pub invariant_of-self-in_default-take_out : goal.invariant_of-self-in_default-take_out
 invariant_of-self-in_default-take_out c =
-    absurd (entry_found c.self.inside.by_arrival.entries c.self.invariant.1.0.0 c.args.request c.in-Some.number (sym c.in-Some.ensures) (sym c.take_out.ensures.value ∙ c.in_default-take_out.is))
+    absurd (entry_found c.self.inside.by_arrival.entries c.self.invariant.1.0.0 c.args.request c.in-Some.number
+    (sym c.in-Some.ensures) (sym c.take_out.ensures.value ∙ c.in_default-take_out.is))
 
 pub returns-in_default-take_out : goal.returns-in_default-take_out
 returns-in_default-take_out c =
-    absurd (entry_found c.self.inside.by_arrival.entries c.self.invariant.1.0.0 c.args.request c.in-Some.number (sym c.in-Some.ensures) (sym c.take_out.ensures.value ∙ c.in_default-take_out.is))
+    absurd (entry_found c.self.inside.by_arrival.entries c.self.invariant.1.0.0 c.args.request c.in-Some.number
+    (sym c.in-Some.ensures) (sym c.take_out.ensures.value ∙ c.in_default-take_out.is))
 
 pub returns-in_default : goal.returns-in_default
 returns-in_default c =

@@ -18,5 +18,6 @@ pub returns-clause-left : goal.returns-clause-left
 returns-clause-left c =
     let items = c.deref-request-items.result.now in
     c.loop-request.invariant
-    ∙ ap (λ requests. without_all requests c.args.self.now) (take_all c.loop-request.request-index items c.loop-request-test.false ∙ c.deref-request-items.ensures.value ∙ c.in_ok-found.ensures.readers)
+    ∙ ap (λ requests. without_all requests c.args.self.now) (take_all c.loop-request.request-index items c.loop-request-test.false
+    ∙ c.deref-request-items.ensures.value ∙ c.in_ok-found.ensures.readers)
     ∙ without_passing (is_reader c.args.tuple.now) c.args.self.now c.in_ok-found.ensures.distinct

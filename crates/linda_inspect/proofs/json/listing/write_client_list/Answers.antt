@@ -10,5 +10,7 @@ returns g c =
     let asked : c.args.is_asked ≡ true = search rules in
     let begun = sent_twice _ _ _ _ _ c.in_ok-write_bytes.ensures c.in_ok-write_clients.ensures in
     let all = sent_twice _ _ _ _ _ begun c.in_ok-write_bytes-2.ensures in
-    let seen = subst (λ (s : State). Appends (g.W.Write.contents c.args.writer.now) (g.W.Write.contents c.write_bytes-2.new.writer) (json_client_list true s)) c.state.view_is all in
-    subst (λ b. Appends (g.W.Write.contents c.args.writer.now) (g.W.Write.contents c.write_bytes-2.new.writer) (json_client_list b c.args.state.now)) (sym asked) seen
+    let seen = subst (λ (s : State). Appends (g.W.Write.contents c.args.writer.now)
+    (g.W.Write.contents c.write_bytes-2.new.writer) (json_client_list true s)) c.state.view_is all in
+    subst (λ b. Appends (g.W.Write.contents c.args.writer.now) (g.W.Write.contents c.write_bytes-2.new.writer) (json_client_list b c.args.state.now))
+    (sym asked) seen

@@ -9,4 +9,5 @@ returns g c =
     let asked : c.args.is_asked ≡ true = search rules in
     let begun = sent_twice _ _ _ _ _ c.in_ok-write_bytes.ensures c.in_ok-write_tuples.ensures in
     let all = sent_twice _ _ _ _ _ begun c.in_ok-write_bytes-2.ensures in
-    subst (λ b. Appends (g.W.Write.contents c.args.writer.now) (g.W.Write.contents c.write_bytes-2.new.writer) (json_tuple_list b c.args.state.now)) (sym asked) all
+    subst (λ b. Appends (g.W.Write.contents c.args.writer.now) (g.W.Write.contents c.write_bytes-2.new.writer) (json_tuple_list b c.args.state.now))
+    (sym asked) all

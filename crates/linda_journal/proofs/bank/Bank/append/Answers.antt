@@ -17,10 +17,12 @@ returns g c =
     let long = one_long old.form ds some few in
     record {
       any_moment = λ body records honest settled.
-          weaker (g.D.Disk.view old.disk) (g.D.Disk.view new.disk) (IsOldOrAll old.form old.generation body records ds) (IsOldOrMore old.form old.generation body records ds)
+          weaker (g.D.Disk.view old.disk) (g.D.Disk.view new.disk) (IsOldOrAll old.form old.generation body records ds)
+          (IsOldOrMore old.form old.generation body records ds)
           (all.any_moment body records honest settled) (old_or_one old.form old.generation body records ds some few);
       done = λ body records honest settled.
-          on_ok c.append_all.result _ _ (settled_with_one new.form new.generation body records ds some few new.end (g.D.Disk.view new.disk)) (all.done body records honest settled);
+          on_ok c.append_all.result _ _ (settled_with_one new.form new.generation body records ds some few new.end (g.D.Disk.view new.disk))
+          (all.done body records honest settled);
       place = on_ok c.append_all.result _ _ (λ e. e ∙ ap (λ n. old.end + n) long) all.place;
       count = on_ok c.append_all.result _ _ (λ e. e ∙ ap (λ n. old.records + n) (one_count (length ds) some few)) all.count;
       ready = all.ready;

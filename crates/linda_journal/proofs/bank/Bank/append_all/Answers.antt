@@ -28,7 +28,8 @@ returns-in_err-bytes g c =
           let fits = c.in-Some.ensures.suit in
           let room = c.if-not-has_room.ensures.yes (search rules) in (
             λ is. absurd (no_memory_fills_none c.from_residual.result (p.1 ∙ ap (λ y. Err y) p.2) is),
-            λ full. absurd (is_admitted (All (SuitsForm s.form) ds) s.limit s.end c.in-Some.len (bytes_for (length ds) (length (payload s.form ds))) fits c.in-Some.ensures.exact room full.1),
+            λ full. absurd (is_admitted (All (SuitsForm s.form) ds) s.limit s.end c.in-Some.len
+                (bytes_for (length ds) (length (payload s.form ds))) fits c.in-Some.ensures.exact room full.1),
           );
       unfilled = search rules;
       spent = search rules;
@@ -56,8 +57,10 @@ returns-in_err-put g c =
           let spelled = c.in_ok-bytes.ensures in
           let front = whole bank.form bank.generation body records in
           let old = g.D.Disk.view bank.disk in
-          putting_all bank.form bank.generation body records c.args.deeds.now spelled.records spelled.are spelled.behind spelled.starts bank.end old settled spelled.good (g.D.Disk.view c.put.new.disk)
-          (c.in_err-put.ensures.runs.any_moment honest front spelled.behind (c.behind_gate.ensures ∙ ap (drop 1) (c.deref.ensures.value ∙ spelled.bytes_are)) (shut_of bank.form bank.generation body records bank.end old settled));
+          putting_all bank.form bank.generation body records c.args.deeds.now spelled.records spelled.are
+          spelled.behind spelled.starts bank.end old settled spelled.good (g.D.Disk.view c.put.new.disk)
+          (c.in_err-put.ensures.runs.any_moment honest front spelled.behind (c.behind_gate.ensures
+          ∙ ap (drop 1) (c.deref.ensures.value ∙ spelled.bytes_are)) (shut_of bank.form bank.generation body records bank.end old settled));
       done = search rules;
       place = search rules;
       count = search rules;
@@ -69,14 +72,16 @@ returns-in_err-put g c =
           let fits = c.in-Some.ensures.suit in
           let room = c.if-not-has_room.ensures.yes (search rules) in (
             λ is. absurd (device_fills_none c.from_residual-in_err-put.result fault (p.1 ∙ ap (λ y. Err y) p.2) is),
-            λ full. absurd (is_admitted (All (SuitsForm bank.form) ds) bank.limit bank.end c.in-Some.len (bytes_for (length ds) (length (payload bank.form ds))) fits c.in-Some.ensures.exact room full.1),
+            λ full. absurd (is_admitted (All (SuitsForm bank.form) ds) bank.limit bank.end c.in-Some.len
+                (bytes_for (length ds) (length (payload bank.form ds))) fits c.in-Some.ensures.exact room full.1),
           );
       unfilled = search rules;
       spent = search rules;
       unspent = search rules;
       cause =
           let count = g.D.Disk.failures in
-          rw (p.1, p.2) (renamed banks.Disk (fault_of_disk fault) Device fault (count bank.disk) (count c.put.new.disk) (disk_failed fault) c.in_err-put.ensures.runs.cause);
+          rw (p.1, p.2) (renamed banks.Disk (fault_of_disk fault) Device fault (count bank.disk)
+          (count c.put.new.disk) (disk_failed fault) c.in_err-put.ensures.runs.cause);
       steady = search rules;
       clock = search rules;
       off = search rules;
@@ -95,12 +100,16 @@ returns g c =
     let parts = c.behind_gate.ensures ∙ ap (drop 1) (c.deref.ensures.value ∙ spelled.bytes_are) in
     record {
       any_moment = λ body records honest settled.
-          putting_all bank.form bank.generation body records c.args.deeds.now spelled.records spelled.are spelled.behind spelled.starts bank.end old settled spelled.good new
-          (c.in_ok-put.ensures.runs.any_moment honest (whole bank.form bank.generation body records) spelled.behind parts (shut_of bank.form bank.generation body records bank.end old settled));
+          putting_all bank.form bank.generation body records c.args.deeds.now spelled.records spelled.are
+          spelled.behind spelled.starts bank.end old settled spelled.good new
+          (c.in_ok-put.ensures.runs.any_moment honest (whole bank.form bank.generation body records) spelled.behind parts
+          (shut_of bank.form bank.generation body records bank.end old settled));
       done = λ body records honest settled.
-          settled_with bank.form bank.generation body records c.args.deeds.now spelled.records spelled.are spelled.behind spelled.starts bank.end old settled spelled.good new _
+          settled_with bank.form bank.generation body records c.args.deeds.now spelled.records
+          spelled.are spelled.behind spelled.starts bank.end old settled spelled.good new _
           (ap (λ n. bank.end + n) (c.in-Some.ensures.exact ∙ sym (records_long bank.form c.args.deeds.now spelled.records spelled.are)))
-          (c.in_ok-put.ensures.done (whole bank.form bank.generation body records) spelled.behind parts honest (shut_of bank.form bank.generation body records bank.end old settled));
+          (c.in_ok-put.ensures.done (whole bank.form bank.generation body records) spelled.behind parts honest
+          (shut_of bank.form bank.generation body records bank.end old settled));
       place = search rules;
       count = search rules;
       ready = search rules;
@@ -125,7 +134,8 @@ pub invariant_of-self-2-clause-inside : goal.invariant_of-self-2-clause-inside
 invariant_of-self-2-clause-inside g c ready honest =
     let bank = c.args.self.now in
     let was = c.in_ok-put.ensures.runs.honest.1 honest in
-    let long = bytes_long bank.form c.args.deeds.now c.in_ok-bytes.bytes.items c.behind_gate.result.now c.in_ok-bytes.ensures (c.behind_gate.ensures ∙ ap (drop 1) c.deref.ensures.value) in
+    let long = bytes_long bank.form c.args.deeds.now c.in_ok-bytes.bytes.items c.behind_gate.result.now c.in_ok-bytes.ensures
+    (c.behind_gate.ensures ∙ ap (drop 1) c.deref.ensures.value) in
     omega (arith, long, c.in_ok-put.ensures.long was, c.in-Some.ensures.exact)
 
 pub invariant_of-self-2-clause-counted : goal.invariant_of-self-2-clause-counted

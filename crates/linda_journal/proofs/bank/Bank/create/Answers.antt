@@ -14,7 +14,8 @@ returns-in-Err-clause-runs g c =
     let body = c.args.body.now in
     broken_by g.D.Disk banks.Disk c.in-Err.fault banks.Disk c.in-Err.fault c.args.disk c.inscribe.new.disk c.in-Err.ensures.runs ((λ is. is), (λ is. is))
     (λ honest inscribes durable empty.
-    making written generation body (g.D.Disk.view c.args.disk) (g.D.Disk.view c.inscribe.new.disk) c.requires.low (omega (arith, c.ranges.generation.fits)) c.requires.short
+    making written generation body (g.D.Disk.view c.args.disk) (g.D.Disk.view c.inscribe.new.disk) c.requires.low
+    (omega (arith, c.ranges.generation.fits)) c.requires.short
     (inscribes (behind_gate written generation body) (c.deref.ensures.value ∙ c.in-Ok.ensures) durable empty))
 
 pub returns-clause-runs : goal.returns-clause-runs
@@ -23,7 +24,8 @@ returns-clause-runs g c =
     let body = c.args.body.now in
     done_by g.D.Disk c.args.disk c.inscribe.new.disk c.in-Ok-inscribe.ensures.runs
     (λ honest inscribes durable empty.
-    making written generation body (g.D.Disk.view c.args.disk) (g.D.Disk.view c.inscribe.new.disk) c.requires.low (omega (arith, c.ranges.generation.fits)) c.requires.short
+    making written generation body (g.D.Disk.view c.args.disk) (g.D.Disk.view c.inscribe.new.disk) c.requires.low
+    (omega (arith, c.ranges.generation.fits)) c.requires.short
     (inscribes (behind_gate written generation body) (c.deref.ensures.value ∙ c.in-Ok.ensures) durable empty))
     (λ honest six. six)
 

@@ -31,8 +31,12 @@ returns-in-Ok g c = record {
   honest = search rules;
   only = λ form generation body records honest bank.
       let o = c.in-Ok.contents in
-      let there = subst (λ file. IsBank o.form file o.generation o.body.items (deeds_of o.journal.records.items)) (c.in-Ok.ensures.seen honest) (c.in-Ok.ensures.found honest).file in
-      (one_bank (g.D.Disk.view c.args.disk).seen o.form form o.generation generation o.body.items body (deeds_of o.journal.records.items) records there bank, tt);
+      let there = subst (λ file. IsBank o.form file o.generation o.body.items (deeds_of o.journal.records.items))
+      (c.in-Ok.ensures.seen honest) (c.in-Ok.ensures.found honest).file in (
+        one_bank (g.D.Disk.view c.args.disk).seen o.form form o.generation generation o.body.items body
+            (deeds_of o.journal.records.items) records there bank,
+        tt,
+      );
   cause = search rules;
   steady = search rules;
   clock = search rules;

@@ -31,6 +31,7 @@ returns c =
       front = subst (λ (s : Session). message_front s.unread ≡ Whole c.in-Some.message c.front_of.new.feed) c.self.view_is front;
       goes = subst (λ (s : Session). c.place-route.result.0 ≡ (placed c.args.room c.in-Some.message s).0) c.self.view_is (ap (λ (p : Route × Phase). p.0) goes);
       away = sym c.is_keep.ensures ∙ c.if-is_keep.false;
-      leads = subst (λ (s : Session). Leads c.place-route.result.0 (took c.in-Some.message c.front_of.new.feed (placed c.args.room c.in-Some.message s) s) c.lead.new.self)
+      leads = subst (λ (s : Session). Leads c.place-route.result.0
+          (took c.in-Some.message c.front_of.new.feed (placed c.args.room c.in-Some.message s) s) c.lead.new.self)
           c.self.view_is (subst (λ (s : Session). Leads c.place-route.result.0 s c.lead.new.self) is c.lead.ensures);
     }

@@ -9,7 +9,8 @@ pub returns-in_err-take_end-clause-leads : goal.returns-in_err-take_end-clause-l
 returns-in_err-take_end-clause-leads g c = λ first read sent u.
     let p = err_from_is_err_and c.from_residual.result c.from_residual.ensures.1 in
     rw (p.1, p.2)
-    (over_line read c.loop-end.invariant.front c.in-Some.end.now c.in-Some.later.now c.loop-end.rest.now c.args.text.now _ _ c.loop-end.invariant.spelled c.in-Some.ensures.1
+    (over_line read c.loop-end.invariant.front c.in-Some.end.now c.in-Some.later.now c.loop-end.rest.now
+    c.args.text.now _ _ c.loop-end.invariant.spelled c.in-Some.ensures.1
     (c.in_err-take_end.ensures.leads first _ sent (c.loop-end.invariant.leads first read sent u)))
 
 pub returns-then-not-branch-clause-leads : goal.returns-then-not-branch-clause-leads
@@ -27,7 +28,8 @@ loop-end-preserved g c =
       spelled = line_found front c.in-Some.end.now c.in-Some.later.now c.loop-end.rest.now c.args.text.now c.loop-end.invariant.spelled c.in-Some.ensures.1;
       leads = λ first read sent u.
           subst (λ t. IsUnderway g.N.Node.shown first t sent c.take_end.new.self) (read_line read front c.in-Some.end.now)
-          (subst (λ goes_on. LeadsTo g.N.Node.shown first (ended ((read ++ front) ++ c.in-Some.end.now)) sent c.take_end.new.self (Ok goes_on)) c.if-not-branch.false
+          (subst (λ goes_on. LeadsTo g.N.Node.shown first (ended ((read ++ front) ++ c.in-Some.end.now)) sent c.take_end.new.self (Ok goes_on))
+          c.if-not-branch.false
           (c.in_ok-take_end.ensures.leads first _ sent (c.loop-end.invariant.leads first read sent u)));
       count = omega (arith, c.in_ok-take_end.ensures.count, ap length c.in-Some.ensures.1, length-append {A = ℕ});
     }

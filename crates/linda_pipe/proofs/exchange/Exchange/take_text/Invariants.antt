@@ -8,7 +8,8 @@ abbrev pub invariant-loop-end : goal.invariant-loop-end
 invariant-loop-end g l = record {
   front : List ℕ;
   spelled : l.text ≡ front ++ l.rest;
-  leads : (first : Node) (read sent : List ℕ) → IsUnderway g.N.Node.shown first read sent l.initial.self → IsUnderway g.N.Node.shown first (read ++ front) sent l.self;
+  leads : (first : Node) (read sent : List ℕ) → IsUnderway g.N.Node.shown first read sent l.initial.self
+      → IsUnderway g.N.Node.shown first (read ++ front) sent l.self;
   count : l.self.lines + length l.rest ≤ l.initial.self.lines + length l.text;
 }
 

@@ -1,4 +1,4 @@
-use Rattle.std.proofs.Common.{◌≡◌, ◌<◌, ◌==◌, if◌then◌else◌, length, Some, IsSome, is_some, subst, sym, ap, ◌∙◌, get_or}
+use Rattle.std.proofs.Common.{◌≡◌, ◌<◌, ◌==◌, if◌then◌else◌, Some, IsSome, is_some, subst, sym, ap, ◌∙◌}
 use Rattle.linda_rising.specs.Rows.{at, ids_of, IsPlace, Rises}
 use Rattle.linda_rising.proofs.RowLaws.{there_within, ids_set, sets_write, row_there, id_there}
 use Rattle.linda_rising.proofs.block.Block.replace.Goals as goal

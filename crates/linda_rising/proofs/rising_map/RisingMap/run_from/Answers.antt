@@ -8,8 +8,11 @@ use Rattle.linda_rising.proofs.rising_map.RisingMap.run_from.Goals as goal
 
 pub returns-clause-run : goal.returns-clause-run
 returns-clause-run g c =
-    IfSome_then c.run_from.result c.run_from.ensures.run (λ run begins. begins_as _ _ c.args.id run.rows.now run.next (λ q. sym (get_at (all_rows c.self.inside.blocks.items) q) ∙ ap (λ m. map.get m q) c.self.view_is) begins)
+    IfSome_then c.run_from.result c.run_from.ensures.run
+    (λ run begins. begins_as _ _ c.args.id run.rows.now run.next
+    (λ q. sym (get_at (all_rows c.self.inside.blocks.items) q) ∙ ap (λ m. map.get m q) c.self.view_is) begins)
 
 pub returns-clause-none : goal.returns-clause-none
 returns-clause-none g c =
-    IfNone_then c.run_from.result c.run_from.ensures.none (λ none q le. ap (λ m. map.get m q) (sym c.self.view_is) ∙ get_at (all_rows c.self.inside.blocks.items) q ∙ none q le)
+    IfNone_then c.run_from.result c.run_from.ensures.none (λ none q le. ap (λ m. map.get m q) (sym c.self.view_is)
+    ∙ get_at (all_rows c.self.inside.blocks.items) q ∙ none q le)

@@ -12,4 +12,5 @@ invariant_of-self-clause-fallen g c _ are =
     let s = c.args.self.now in
     let same = c.of.ensures ∙ c.state.ensures.state in
     subst (λ st. PairsNow (both_of s.disks) (IsWithOrWithout st s.lost.items)) (sym same)
-    (stands_with g.met.D.Disk.timed s.disks s.store.state s.lost.items (s.none_lost c.requires) (subst IsState c.state.ensures.state c.state.ensures.ranges) are (s.kept c.requires))
+    (stands_with g.met.D.Disk.timed s.disks s.store.state s.lost.items (s.none_lost c.requires)
+    (subst IsState c.state.ensures.state c.state.ensures.ranges) are (s.kept c.requires))

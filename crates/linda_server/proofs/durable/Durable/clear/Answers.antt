@@ -12,17 +12,22 @@ clear-requires-clause-durable g c =
     other_durable g.met.D.Disk.timed s.disks s.store.state (s.kept c.if-self.false)
 
 pub invariant_of-self-clause-kept : goal.invariant_of-self-clause-kept
-invariant_of-self-clause-kept g c _ = runs_kept g.met.D.Disk.timed Device (Unit {0}) c.args.self.now.store.state ∣ tt ∣₁ c.args.self.now refl c.if-self.false _ c.clear.new.disks (c.in-Ok.ensures.runs c.args.self.now.store.state)
+invariant_of-self-clause-kept g c _ = runs_kept g.met.D.Disk.timed Device (Unit {0}) c.args.self.now.store.state ∣
+    tt ∣₁ c.args.self.now refl c.if-self.false _ c.clear.new.disks (c.in-Ok.ensures.runs c.args.self.now.store.state)
 
 pub invariant_of-self-in-Err-clause-fallen : goal.invariant_of-self-in-Err-clause-fallen
 invariant_of-self-in-Err-clause-fallen g c _ are =
-    fell g.met.D.Disk.timed Device (Unit {0}) c.args.self.now.store.state ∣ tt ∣₁ c.args.self.now refl c.if-self.false c.in-Err.fault c.clear.new.disks _ (c.in-Err.ensures.runs c.args.self.now.store.state) (c.of.ensures ∙ c.state.ensures.state) (subst IsState c.state.ensures.state c.state.ensures.ranges) are
+    fell g.met.D.Disk.timed Device (Unit {0}) c.args.self.now.store.state ∣ tt ∣₁ c.args.self.now refl c.if-self.false c.in-Err.fault c.clear.new.disks _
+    (c.in-Err.ensures.runs c.args.self.now.store.state) (c.of.ensures ∙ c.state.ensures.state)
+    (subst IsState c.state.ensures.state c.state.ensures.ranges) are
 
 pub returns-in-Ok-clause-rewrites : goal.returns-in-Ok-clause-rewrites
-returns-in-Ok-clause-rewrites g c = rewrites_done g.met.D.Disk.timed Device (Unit {0}) c.args.self.now.store.state ∣ tt ∣₁ c.args.self.now refl c.if-self.false _ tt _ (c.in-Ok.ensures.runs c.args.self.now.store.state) refl refl c.if-self.false
+returns-in-Ok-clause-rewrites g c = rewrites_done g.met.D.Disk.timed Device (Unit {0}) c.args.self.now.store.state ∣ tt ∣₁
+    c.args.self.now refl c.if-self.false _ tt _ (c.in-Ok.ensures.runs c.args.self.now.store.state) refl refl c.if-self.false
 
 pub returns-in-Err-clause-rewrites : goal.returns-in-Err-clause-rewrites
 returns-in-Err-clause-rewrites g c =
     let s = c.args.self.now in
-    rewrites_fault g.met.D.Disk.timed Device (Unit {0}) s.store.state ∣ tt ∣₁ s refl c.if-self.false c.in-Err.fault c.of_disk.result _ (c.in-Err.ensures.runs c.args.self.now.store.state) refl refl
+    rewrites_fault g.met.D.Disk.timed Device (Unit {0}) s.store.state ∣ tt ∣₁ s refl c.if-self.false
+    c.in-Err.fault c.of_disk.result _ (c.in-Err.ensures.runs c.args.self.now.store.state) refl refl
     (λ down. (c.of.ensures ∙ c.state.ensures.state, s.none_lost c.if-self.false))

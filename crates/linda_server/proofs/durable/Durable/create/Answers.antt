@@ -17,20 +17,23 @@ pub returns-in-Err-clause-any_moment : goal.returns-in-Err-clause-any_moment
 returns-in-Err-clause-any_moment g c hl hr vl vr =
     let view = g.D.Disk.view in (
       tt,
-      nothing_made (view c.args.left) (view c.expect_empty.new.left) (view c.args.right) (view c.expect_empty.new.right) (c.expect_empty.ensures.left hl vl).0 (c.expect_empty.ensures.right hr vr).0,
+      nothing_made (view c.args.left) (view c.expect_empty.new.left) (view c.args.right)
+          (view c.expect_empty.new.right) (c.expect_empty.ensures.left hl vl).0 (c.expect_empty.ensures.right hr vr).0,
     )
 
 pub returns-in_default-spell_empty-clause-any_moment : goal.returns-in_default-spell_empty-clause-any_moment
 returns-in_default-spell_empty-clause-any_moment g c hl hr vl vr =
     let view = g.D.Disk.view in (
       tt,
-      nothing_made (view c.args.left) (view c.expect_empty.new.left) (view c.args.right) (view c.expect_empty.new.right) (c.expect_empty.ensures.left hl vl).0 (c.expect_empty.ensures.right hr vr).0,
+      nothing_made (view c.args.left) (view c.expect_empty.new.left) (view c.args.right)
+          (view c.expect_empty.new.right) (c.expect_empty.ensures.left hl vl).0 (c.expect_empty.ensures.right hr vr).0,
     )
 
 pub returns-in_default-spell_empty-clause-cause : goal.returns-in_default-spell_empty-clause-cause
 returns-in_default-spell_empty-clause-cause g c =
     let count = g.D.Disk.failures in
-    none_told Disk Memory (count c.args.left) (count c.expect_empty.new.left) (count c.args.right) (count c.expect_empty.new.right) memory_fails_none c.in_default.ensures.steady.0 c.in_default.ensures.steady.1
+    none_told Disk Memory (count c.args.left) (count c.expect_empty.new.left) (count c.args.right)
+    (count c.expect_empty.new.right) memory_fails_none c.in_default.ensures.steady.0 c.in_default.ensures.steady.1
 
 pub returns-in-Err-lay_gate-clause-any_moment : goal.returns-in-Err-lay_gate-clause-any_moment
 returns-in-Err-lay_gate-clause-any_moment g c hl hr vl vr =
@@ -42,7 +45,8 @@ returns-in-Err-lay_gate-clause-any_moment g c hl hr vl vr =
       tt,
       gate_made (view c.args.left) (view c.expect_empty.new.left) (view c.args.right) (view c.lay_gate.new.disk) left.0
           (then_gate (view c.args.right) (view c.expect_empty.new.right) (view c.lay_gate.new.disk) right.0
-          (c.in-Err-lay_gate.ensures.runs.any_moment right_so (void_durable (view c.expect_empty.new.right) timed_right right.1) (void_seen (view c.expect_empty.new.right) timed_right right.1))),
+          (c.in-Err-lay_gate.ensures.runs.any_moment right_so (void_durable (view c.expect_empty.new.right) timed_right right.1)
+          (void_seen (view c.expect_empty.new.right) timed_right right.1))),
     )
 
 pub returns-in-Err-lay_gate-clause-cause : goal.returns-in-Err-lay_gate-clause-cause
@@ -51,7 +55,8 @@ returns-in-Err-lay_gate-clause-cause g c =
     let told = c.of_device.result in
     right_told Disk told (count c.args.left) (count c.expect_empty.new.left) (count c.args.right) (count c.expect_empty.new.right) (count c.lay_gate.new.disk)
     c.in_default.ensures.steady.0 c.in_default.ensures.steady.1
-    (renamed Disk told Device c.in-Err-lay_gate.fault (count c.expect_empty.new.right) (count c.lay_gate.new.disk) c.of_device.ensures.device c.in-Err-lay_gate.ensures.runs.cause)
+    (renamed Disk told Device c.in-Err-lay_gate.fault (count c.expect_empty.new.right)
+    (count c.lay_gate.new.disk) c.of_device.ensures.device c.in-Err-lay_gate.ensures.runs.cause)
 
 pub returns-in-Err-create-clause-any_moment : goal.returns-in-Err-create-clause-any_moment
 returns-in-Err-create-clause-any_moment g c hl hr vl vr =
@@ -66,9 +71,11 @@ returns-in-Err-create-clause-any_moment g c hl hr vl vr =
       tt,
       bank_made (view c.args.left) (view c.in-Err-create.left) (view c.args.right) (view c.lay_gate.new.disk) c.in-Ok.ensures.fits
           (then_bank (view c.args.left) (view c.expect_empty.new.left) (view c.in-Err-create.left) c.deref.result.now same left.0
-          (c.in-Err-create.ensures.runs.any_moment left_so (void_durable (view c.expect_empty.new.left) timed_left left.1) (void_seen (view c.expect_empty.new.left) timed_left left.1)))
+          (c.in-Err-create.ensures.runs.any_moment left_so (void_durable (view c.expect_empty.new.left) timed_left left.1)
+          (void_seen (view c.expect_empty.new.left) timed_left left.1)))
           (then_gate (view c.args.right) (view c.expect_empty.new.right) (view c.lay_gate.new.disk) right.0
-          (c.in_default-lay_gate.ensures.runs.any_moment right_so (void_durable (view c.expect_empty.new.right) timed_right right.1) (void_seen (view c.expect_empty.new.right) timed_right right.1))),
+          (c.in_default-lay_gate.ensures.runs.any_moment right_so (void_durable (view c.expect_empty.new.right) timed_right right.1)
+          (void_seen (view c.expect_empty.new.right) timed_right right.1))),
     )
 
 pub returns-in-Err-create-clause-cause : goal.returns-in-Err-create-clause-cause
@@ -78,7 +85,8 @@ returns-in-Err-create-clause-cause g c =
     let gate : count c.lay_gate.new.disk ≡ count c.expect_empty.new.right = c.in_default-lay_gate.ensures.runs.steady in
     left_told Disk told (count c.args.left) (count c.expect_empty.new.left) (count c.in-Err-create.left) (count c.args.right) (count c.lay_gate.new.disk)
     c.in_default.ensures.steady.0
-    (renamed Disk told bank_fault.Disk c.in-Err-create.fault (count c.expect_empty.new.left) (count c.in-Err-create.left) c.of_bank.ensures.disk c.in-Err-create.ensures.runs.cause)
+    (renamed Disk told bank_fault.Disk c.in-Err-create.fault (count c.expect_empty.new.left)
+    (count c.in-Err-create.left) c.of_bank.ensures.disk c.in-Err-create.ensures.runs.cause)
     (gate ∙ c.in_default.ensures.steady.1)
 
 pub returns-clause-any_moment : goal.returns-clause-any_moment
@@ -93,9 +101,11 @@ returns-clause-any_moment g c hl hr vl vr =
     let view = g.D.Disk.view in (
       bank_made (view c.args.left) (view c.in-Ok-create.bank.disk) (view c.args.right) (view c.lay_gate.new.disk) c.in-Ok.ensures.fits
           (then_bank (view c.args.left) (view c.expect_empty.new.left) (view c.in-Ok-create.bank.disk) c.deref.result.now same left.0
-          (c.in-Ok-create.ensures.runs.any_moment left_so (void_durable (view c.expect_empty.new.left) timed_left left.1) (void_seen (view c.expect_empty.new.left) timed_left left.1)))
+          (c.in-Ok-create.ensures.runs.any_moment left_so (void_durable (view c.expect_empty.new.left) timed_left left.1)
+          (void_seen (view c.expect_empty.new.left) timed_left left.1)))
           (then_gate (view c.args.right) (view c.expect_empty.new.right) (view c.lay_gate.new.disk) right.0
-          (c.in_default-lay_gate.ensures.runs.any_moment right_so (void_durable (view c.expect_empty.new.right) timed_right right.1) (void_seen (view c.expect_empty.new.right) timed_right right.1))),
+          (c.in_default-lay_gate.ensures.runs.any_moment right_so (void_durable (view c.expect_empty.new.right) timed_right right.1)
+          (void_seen (view c.expect_empty.new.right) timed_right right.1))),
       tt,
     )
 
@@ -105,9 +115,11 @@ invariant_of-result-clause-kept g c _ =
     let view = g.D.Disk.view in
     let st = c.new-store.result.state in
     let empty : st ≡ empty_state = ap (λ (s : Store). s.state) c.new-store.ensures in
-    ∣ kept_as (g.D.Disk.honest c.in-Ok-create.bank.disk) (g.D.Disk.honest c.lay_gate.new.disk) c.in-Ok-create.bank.form c.in-Ok-create.bank.generation c.in-Ok-create.bank.end (view c.in-Ok-create.bank.disk) (view c.lay_gate.new.disk) st
+    ∣ kept_as (g.D.Disk.honest c.in-Ok-create.bank.disk) (g.D.Disk.honest c.lay_gate.new.disk) c.in-Ok-create.bank.form
+    c.in-Ok-create.bank.generation c.in-Ok-create.bank.end (view c.in-Ok-create.bank.disk) (view c.lay_gate.new.disk) st
     c.in-Ok-create.ensures.new.0 c.in-Ok-create.ensures.new.1 empty c.in-Ok.ensures.fits
-    (λ h. subst (λ body. IsSettled written 1 body [] c.in-Ok-create.bank.end (view c.in-Ok-create.bank.disk)) same (c.in-Ok-create.ensures.done (c.in-Ok-create.ensures.runs.honest.1 h)))
+    (λ h. subst (λ body. IsSettled written 1 body [] c.in-Ok-create.bank.end (view c.in-Ok-create.bank.disk)) same
+    (c.in-Ok-create.ensures.done (c.in-Ok-create.ensures.runs.honest.1 h)))
     (λ h. c.in_default-lay_gate.ensures.shut (c.in_default-lay_gate.ensures.runs.honest.1 h)) ∣₁
 
 pub returns-clause-now : goal.returns-clause-now
@@ -116,11 +128,14 @@ returns-clause-now g c are left right l r =
     let view = g.D.Disk.view in
     let left_so = c.in-Ok-create.ensures.runs.honest.1 are.0 in
     let right_so = c.in_default-lay_gate.ensures.runs.honest.1 are.1 in
-    let settled = subst (λ body. IsSettled written 1 body [] c.in-Ok-create.bank.end (view c.in-Ok-create.bank.disk)) same (c.in-Ok-create.ensures.done left_so) in
+    let settled = subst (λ body. IsSettled written 1 body [] c.in-Ok-create.bank.end (view c.in-Ok-create.bank.disk)) same
+    (c.in-Ok-create.ensures.done left_so) in
     let shut = c.in_default-lay_gate.ensures.shut right_so in
-    let up = up_as c.in-Ok-create.bank.form c.in-Ok-create.bank.generation c.in-Ok-create.bank.end (view c.in-Ok-create.bank.disk) (view c.lay_gate.new.disk) empty_state c.in-Ok-create.ensures.new.0 c.in-Ok-create.ensures.new.1 refl
+    let up = up_as c.in-Ok-create.bank.form c.in-Ok-create.bank.generation c.in-Ok-create.bank.end (view c.in-Ok-create.bank.disk)
+    (view c.lay_gate.new.disk) empty_state c.in-Ok-create.ensures.new.0 c.in-Ok-create.ensures.new.1 refl
     (made_up c.in-Ok-create.bank.end (view c.in-Ok-create.bank.disk) (view c.lay_gate.new.disk) c.in-Ok.ensures.fits settled shut) in
-    ∣ inl (left_for c.in-Ok-create.bank.form c.in-Ok-create.bank.generation c.in-Ok-create.bank.end (view c.in-Ok-create.bank.disk) (view c.lay_gate.new.disk) empty_state up left right l r) ∣₁
+    ∣ inl (left_for c.in-Ok-create.bank.form c.in-Ok-create.bank.generation c.in-Ok-create.bank.end
+    (view c.in-Ok-create.bank.disk) (view c.lay_gate.new.disk) empty_state up left right l r) ∣₁
 
 pub returns-clause-clock : goal.returns-clause-clock
 returns-clause-clock g c hl hr =

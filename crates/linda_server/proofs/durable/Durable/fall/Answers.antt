@@ -15,7 +15,8 @@ invariant_of-self-clause-fallen g c _ are left right l r =
     let old = c.args.self.now in
     let new = c.serve_all.new.self in
     let done = led old.store.state new.store.state c.in-Ok.served.deeds.items c.is_spent.ensures.orderly.state_is
-    (leads_to old.store.state old.store.soft c.deref.result.now c.in-Ok.served new.store.state new.store.soft c.is_spent.ensures.orderly c.in-Ok.ensures.done) in
+    (leads_to old.store.state old.store.soft c.deref.result.now c.in-Ok.served new.store.state
+    new.store.soft c.is_spent.ensures.orderly c.in-Ok.ensures.done) in
     let before = not_full c.in-Ok.served (new.before.value ≡ old.store.state) (c.in-Ok.ensures.before c.requires.up) in
     stands_after new.before.value old.store.state new.store.state c.in-Ok.served.deeds.items c.into_deeds.result.items left right before
     (ap (λ (v : Vec Deed). v.items) c.into_deeds.ensures) c.is_spent.ensures.orderly.state_is done
@@ -26,8 +27,10 @@ returns-in-Ok-clause-lost g c =
     let old = c.args.self.now in
     let new = c.serve_all.new.self in
     let lost = ap (λ (v : Vec Deed). v.items) c.into_deeds.ensures in
-    of_work c.args.work c.in-Messages.messages c.deref.result.now c.in-Messages.is c.deref.ensures.value old.before.value old.store old.down old.lost.items c.into_deeds.result.items
-    (all_remains_up old.before.value old.store old.down old.lost.items c.deref.result.now c.in-Ok.served new.store.state new.store.soft c.into_deeds.result.items c.requires.up c.in-Ok.ensures.done lost)
+    of_work c.args.work c.in-Messages.messages c.deref.result.now c.in-Messages.is c.deref.ensures.value
+    old.before.value old.store old.down old.lost.items c.into_deeds.result.items
+    (all_remains_up old.before.value old.store old.down old.lost.items c.deref.result.now c.in-Ok.served
+    new.store.state new.store.soft c.into_deeds.result.items c.requires.up c.in-Ok.ensures.done lost)
 
 pub returns-in-Messages-clause-lost : goal.returns-in-Messages-clause-lost
 returns-in-Messages-clause-lost g c =
@@ -36,9 +39,12 @@ returns-in-Messages-clause-lost g c =
     elim (cases_Bool new.down) [
       | inl down ↦
           let same = ap (λ (s : _). s.lost.items) (c.give_up.ensures.was_down down) in
-          of_work c.args.work c.in-Messages.messages c.deref.result.now c.in-Messages.is c.deref.ensures.value old.before.value old.store old.down old.lost.items c.give_up.new.self.lost.items
-          (subst (MayRemain (shown old.before.value old.store old.down old.lost.items) (comings c.deref.result.now)) (sym same) (c.in-Err.ensures.lost c.requires.up down))
-      | inr up ↦ none_remains (shown old.before.value old.store old.down old.lost.items) (in_hand c.args.work) c.give_up.new.self.lost.items (c.give_up.ensures.up up).1
+          of_work c.args.work c.in-Messages.messages c.deref.result.now c.in-Messages.is c.deref.ensures.value
+          old.before.value old.store old.down old.lost.items c.give_up.new.self.lost.items
+          (subst (MayRemain (shown old.before.value old.store old.down old.lost.items) (comings c.deref.result.now))
+          (sym same) (c.in-Err.ensures.lost c.requires.up down))
+      | inr up ↦ none_remains (shown old.before.value old.store old.down old.lost.items)
+          (in_hand c.args.work) c.give_up.new.self.lost.items (c.give_up.ensures.up up).1
     ]
 
 pub returns-clause-lost : goal.returns-clause-lost
@@ -48,6 +54,8 @@ returns-clause-lost g c =
     elim (cases_Bool new.down) [
       | inl down ↦
           let same = ap (λ (s : _). s.lost.items) (c.give_up-in-Snapshot.ensures.was_down down) in
-          none_remains (shown old.before.value old.store old.down old.lost.items) (in_hand c.args.work) c.give_up-in-Snapshot.new.self.lost.items (same ∙ (c.snapshot.ensures.rewrites.lost c.requires.up down).1)
-      | inr up ↦ none_remains (shown old.before.value old.store old.down old.lost.items) (in_hand c.args.work) c.give_up-in-Snapshot.new.self.lost.items (c.give_up-in-Snapshot.ensures.up up).1
+          none_remains (shown old.before.value old.store old.down old.lost.items)
+          (in_hand c.args.work) c.give_up-in-Snapshot.new.self.lost.items (same ∙ (c.snapshot.ensures.rewrites.lost c.requires.up down).1)
+      | inr up ↦ none_remains (shown old.before.value old.store old.down old.lost.items)
+          (in_hand c.args.work) c.give_up-in-Snapshot.new.self.lost.items (c.give_up-in-Snapshot.ensures.up up).1
     ]

@@ -3,7 +3,8 @@ use Rattle.linda_server.proofs.HandledLaws.{handles_well, handles_not}
 use Rattle.linda_server.proofs.durable.Durable.handle_all.Goals as goal
 
 pub returns-in-Ok : goal.returns-in-Ok
-returns-in-Ok g c = handles_well g.met.D.Disk.timed c.args.self.now c.serve_all.new.self c.args.messages.now c.in-Ok.served c.into_sends.result c.into_sends.ensures c.in-Ok.ensures
+returns-in-Ok g c = handles_well g.met.D.Disk.timed c.args.self.now c.serve_all.new.self c.args.messages.now
+    c.in-Ok.served c.into_sends.result c.into_sends.ensures c.in-Ok.ensures
 
 pub returns-in-Err : goal.returns-in-Err
 returns-in-Err g c =

@@ -2,7 +2,7 @@
 use Rattle.std.proofs.Common.{ap, subst}
 use Rattle.linda_store_step.specs.Size.{IsNeedOf}
 use Rattle.linda_store_step.specs.History.{Answers}
-use Rattle.linda_server.specs.Served.{messages_of}
+use Rattle.linda_server.specs.Messages.{messages_of}
 use Rattle.linda_server.proofs.durable.Durable.need_of.Goals as goal
 
 pub returns-in-One-clause-need : goal.returns-in-One-clause-need

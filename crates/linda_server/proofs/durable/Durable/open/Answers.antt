@@ -25,8 +25,11 @@ returns-in-Ok-clause-only g c st hl hr limit stands =
 
 pub returns-in-Ok-clause-any_moment : goal.returns-in-Ok-clause-any_moment
 returns-in-Ok-clause-any_moment g c hl hr =
-    let view = g.D.Disk.view in
-    (leaves_no_other c.in-Ok.chosen.is_right (view c.args.left) (view c.args.right) (view c.in-Ok.chosen.bank.disk) (view c.in-Ok.chosen.other) (c.in-Ok.ensures.any_moment hl hr).0, tt)
+    let view = g.D.Disk.view in (
+      leaves_no_other c.in-Ok.chosen.is_right (view c.args.left) (view c.args.right) (view c.in-Ok.chosen.bank.disk)
+          (view c.in-Ok.chosen.other) (c.in-Ok.ensures.any_moment hl hr).0,
+      tt,
+    )
 
 pub returns-in-Ok-clause-now : goal.returns-in-Ok-clause-now
 returns-in-Ok-clause-now g c are left right l r =
@@ -36,7 +39,8 @@ returns-in-Ok-clause-now g c are left right l r =
     let st = c.from_state-store.result.state in
     let same = ap (λ (s : Store). s.state) c.from_state-store.ensures in
     let up = subst (λ s. IsUp x.bank.form x.bank.generation x.bank.end (view x.bank.disk) (view x.other) s) (sym same) (c.in-Ok.ensures.up were.0 were.1) in
-    ∣ now_on_sides x.is_right (view x.bank.disk) (view x.other) st (left_for x.bank.form x.bank.generation x.bank.end (view x.bank.disk) (view x.other) st up) left right l r ∣₁
+    ∣ now_on_sides x.is_right (view x.bank.disk) (view x.other) st
+    (left_for x.bank.form x.bank.generation x.bank.end (view x.bank.disk) (view x.other) st up) left right l r ∣₁
 
 pub invariant_of-result-clause-kept : goal.invariant_of-result-clause-kept
 invariant_of-result-clause-kept g c _ =
@@ -52,7 +56,8 @@ invariant_of-result-clause-kept g c _ =
 
 pub returns-in-Ok-clause-found : goal.returns-in-Ok-clause-found
 returns-in-Ok-clause-found g c hl hr =
-    subst (Stands (g.D.Disk.view c.args.left).seen (g.D.Disk.view c.args.right).seen) (sym (ap (λ (s : Store). s.state) c.from_state-store.ensures)) (c.in-Ok.ensures.found hl hr)
+    subst (Stands (g.D.Disk.view c.args.left).seen (g.D.Disk.view c.args.right).seen)
+    (sym (ap (λ (s : Store). s.state) c.from_state-store.ensures)) (c.in-Ok.ensures.found hl hr)
 
 pub returns-then-not-is_limit-clause-cause : goal.returns-then-not-is_limit-clause-cause
 returns-then-not-is_limit-clause-cause g c =

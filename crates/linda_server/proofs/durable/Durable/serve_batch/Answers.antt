@@ -1,21 +1,23 @@
 -- What was served is put onto the bank in use, or nothing is touched.
-use Rattle.std.proofs.Common.{◌≡◌, ℕ, ◌<◌, ◌≤◌, ◌∙◌, [], inl, inr, Err, Result, Option, false, IfOk, IfSome, ◌+◌, length, refl, sym, subst, ap, arith, rules}
+use Rattle.std.proofs.Common.{◌≡◌, ℕ, ◌<◌, ◌≤◌, ◌∙◌, [], inl, inr, Err, Result, false, IfOk, IfSome, ◌+◌, length, refl, sym, subst, ap, arith, rules}
 use Rattle.std.specs.Vec.{vec_len}
 use Rattle.std.proofs.lemmas.Result.{err_from_is_err_and}
-use Rattle.linda_store_state.specs.DeedFormat.{payload}
 use Rattle.linda_store_state.proofs.DoneLaws.{on_ok}
 use Rattle.linda_store_step.specs.declared.size.TheConstants.{MAX_GROUP}
 use Rattle.linda_store_step.specs.declared.size.Need.{Need}
 use Rattle.linda_store_step.specs.Store.{Store}
 use Rattle.linda_store_step.specs.History.{comings, history_of}
-use Rattle.linda_server.specs.declared.served.Served.{Served}
-use Rattle.linda_server.specs.Served.{messages_of, IsServed}
+use Rattle.linda_store_step.specs.declared.served.Served.{Served}
+use Rattle.linda_store_step.specs.Served.{IsServed}
+use Rattle.linda_server.specs.Messages.{messages_of}
 use Rattle.linda_server.specs.Pairs.{PairsSince}
 use Rattle.linda_server.specs.Server.{both_of, form_in_use, end_in_use, IsPutOn}
 use Rattle.linda_server.specs.Calls.{LeadTo, IsBeforeOrAfter, room_for}
 use Rattle.linda_server.specs.Node.{shown}
-use Rattle.linda_server.proofs.ServedLaws.{served_happens}
-use Rattle.linda_server.proofs.CallLaws.{leads_to, few, room_of, suit_of, too_much, not_too_much, still_before, served_since, stands_so, none_remains, all_remains_up, at_fault, each_share, told_so}
+use Rattle.linda_store_step.proofs.ServedLaws.{served_happens}
+use Rattle.linda_server.proofs.CallLaws.{leads_to, few, room_of, suit_of, too_much, not_too_much, still_before}
+use Rattle.linda_server.proofs.CallLaws.{served_since, stands_so, none_remains, all_remains_up, at_fault, each_share}
+use Rattle.linda_server.proofs.CallLaws.{told_so}
 use Rattle.linda_store_state.specs.State.{State}
 use Rattle.linda_server.specs.Next.{IsNextFor, IsSafeIn}
 use Rattle.linda_server.proofs.NextLaws.{next_up, served_safe, if_kept}
@@ -36,8 +38,9 @@ settle-requires-clause-begun g c =
     let next = c.unless_spent.result in
     let same : now ≡ s.store.state = c.state.ensures.state ∙ ap (λ (st : Store). st.state) c.begin.ensures.same.0 in
     subst (λ st. ∥ IsNextFor next disks st ∥₁) (same ∙ sym c.begin.ensures.before)
-    (next_up c.replace-next.result next disks now now (if_kept _ c.spared.result next c.unless_spent.ensures c.spared.ensures.follows)
-    (subst (λ o. ∥ IsNextFor o disks now ∥₁) (sym c.replace-next.ensures.value) (subst (λ st. ∥ IsNextFor c.begin.new.self.next disks st ∥₁) (sym same) c.begin.ensures.begun)))
+    (next_up c.replace-next.result next disks now now (if_kept _ c.with_taken_copied.result next c.unless_spent.ensures c.with_taken_copied.ensures.follows)
+    (subst (λ o. ∥ IsNextFor o disks now ∥₁) (sym c.replace-next.ensures.value)
+    (subst (λ st. ∥ IsNextFor c.begin.new.self.next disks st ∥₁) (sym same) c.begin.ensures.begun)))
 
 pub settle-requires-clause-safe : goal.settle-requires-clause-safe
 settle-requires-clause-safe g c id taken =
@@ -48,14 +51,17 @@ settle-requires-clause-safe g c id taken =
     let old = c.begin.new.self.store in
     let after = c.serve.new.store in
     subst (λ (st : State). IsSafeIn c.unless_spent.result st.bag id) (same ∙ sym c.begin.ensures.before)
-    (served_safe c.unless_spent.result now.bag old.state old.soft ms c.in-Ok.served after.state after.soft c.in-Ok.ensures.ok (if_kept _ c.spared.result c.unless_spent.result c.unless_spent.ensures c.spared.ensures.safe) id taken)
+    (served_safe c.unless_spent.result now.bag old.state old.soft ms c.in-Ok.served after.state after.soft c.in-Ok.ensures.ok
+    (if_kept _ c.with_taken_copied.result c.unless_spent.result c.unless_spent.ensures c.with_taken_copied.ensures.safe) id taken)
 
 pub settle-requires-clause-few : goal.settle-requires-clause-few
 settle-requires-clause-few g c =
     let ms = messages_of c.args.batch in
     let s = c.args.self.now.store in
     let after = c.serve.new.store in
-    few s.state s.soft ms c.in-Ok.served after.state after.soft MAX_GROUP c.requires (subst (λ (st : Store). IsServed st.state st.soft ms c.in-Ok.served c.serve.new.store.state c.serve.new.store.soft) c.begin.ensures.same.0 c.in-Ok.ensures.ok)
+    few s.state s.soft ms c.in-Ok.served after.state after.soft MAX_GROUP c.requires
+    (subst (λ (st : Store). IsServed st.state st.soft ms c.in-Ok.served c.serve.new.store.state c.serve.new.store.soft)
+    c.begin.ensures.same.0 c.in-Ok.ensures.ok)
 
 pub settle-requires-clause-leads : goal.settle-requires-clause-leads
 settle-requires-clause-leads g c =
@@ -64,7 +70,9 @@ settle-requires-clause-leads g c =
     let served = c.in-Ok.served in
     let after = c.serve.new.store in
     subst (λ st. LeadTo st served.deeds.items after.state) (sym c.begin.ensures.before)
-    (leads_to s.state s.soft ms served after.state after.soft c.need_of-need.ensures.orderly (subst (λ (st : Store). IsServed st.state st.soft ms c.in-Ok.served c.serve.new.store.state c.serve.new.store.soft) c.begin.ensures.same.0 c.in-Ok.ensures.ok))
+    (leads_to s.state s.soft ms served after.state after.soft c.need_of-need.ensures.orderly
+    (subst (λ (st : Store). IsServed st.state st.soft ms c.in-Ok.served c.serve.new.store.state c.serve.new.store.soft)
+    c.begin.ensures.same.0 c.in-Ok.ensures.ok))
 
 pub settle-requires-clause-room : goal.settle-requires-clause-room
 settle-requires-clause-room g c some =
@@ -73,7 +81,9 @@ settle-requires-clause-room g c some =
     let served = c.in-Ok.served in
     let after = c.serve.new.store in
     let all = history_of after.state after.soft served.deeds.items served.sends.items in
-    let happens = served_happens s.state s.soft ms served after.state after.soft (subst (λ (st : Store). IsServed st.state st.soft ms c.in-Ok.served c.serve.new.store.state c.serve.new.store.soft) c.begin.ensures.same.0 c.in-Ok.ensures.ok) in
+    let happens = served_happens s.state s.soft ms served after.state after.soft
+    (subst (λ (st : Store). IsServed st.state st.soft ms c.in-Ok.served c.serve.new.store.state c.serve.new.store.soft)
+    c.begin.ensures.same.0 c.in-Ok.ensures.ok) in
     let disks = c.begin.ensures.same.1 in
     let form = form_in_use c.begin.new.self.disks in
     let is_form = ap (form_in_use) (sym disks) in
@@ -92,7 +102,9 @@ settle-requires-clause-suit g c =
     let served = c.in-Ok.served in
     let after = c.serve.new.store in
     let all = history_of after.state after.soft served.deeds.items served.sends.items in
-    let happens = served_happens s.state s.soft ms served after.state after.soft (subst (λ (st : Store). IsServed st.state st.soft ms c.in-Ok.served c.serve.new.store.state c.serve.new.store.soft) c.begin.ensures.same.0 c.in-Ok.ensures.ok) in
+    let happens = served_happens s.state s.soft ms served after.state after.soft
+    (subst (λ (st : Store). IsServed st.state st.soft ms c.in-Ok.served c.serve.new.store.state c.serve.new.store.soft)
+    c.begin.ensures.same.0 c.in-Ok.ensures.ok) in
     suit_of (form_in_use c.args.self.now.disks) (form_in_use c.begin.new.self.disks) (ap (form_in_use) (sym c.begin.ensures.same.1))
     (end_in_use c.args.self.now.disks) c.args.self.now.limit c.need_of-need.result served.deeds.items
     (c.need_of-need.ensures.need all happens) c.in_ok-admit.ensures.spelled
@@ -109,7 +121,8 @@ returns-in_err-admit g c =
       now = search rules;
       up = search rules;
       full = λ full.
-          let past : IfSome c.need_of-need.result (λ (n : Need). (0 < n.deeds) × (s.limit < end_in_use s.disks + room_for n.deeds n.bytes)) = search (rules, full) in (
+          let past : IfSome c.need_of-need.result (λ (n : Need). (0 < n.deeds) × (s.limit < end_in_use s.disks + room_for n.deeds n.bytes)) =
+          search (rules, full) in (
             refl,
             λ all happens.
                 too_much (form_in_use s.disks) (form_in_use s.disks) refl (end_in_use s.disks) s.limit c.need_of-need.result all.deeds
@@ -187,7 +200,7 @@ returns g c =
       done = done;
       each =
           let before = c.begin.new.self.store in
-          told_so c.settle.result served (λ (s : Served). vec_len s.portions ≡ length ms) c.settle.ensures.done
+          told_so c.settle.result served (λ (s : Served). vec_len s.counts ≡ length ms) c.settle.ensures.done
           (each_share before.state before.soft ms served after.state after.soft c.in-Ok.ensures.ok);
       now = on_ok _ _ c.settle.result (λ is_up are. stands_so g.met.D.Disk.timed new.disks new.store.state are (new.kept is_up)) c.settle.ensures.up;
       up = search rules;
@@ -209,10 +222,12 @@ returns g c =
           all_remains_up s.before.value s.store s.down s.lost.items ms served after.state after.soft new.lost.items is_up is_served lost;
       before = λ up. search (rules, up);
       life =
-          serves_on g.met.D.Disk.timed s new ms c.settle.result was_up done c.settle.ensures.up c.settle.ensures.fault (c.settle.ensures.same.2 ∙ c.begin.ensures.before)
+          serves_on g.met.D.Disk.timed s new ms c.settle.result was_up done c.settle.ensures.up c.settle.ensures.fault
+          (c.settle.ensures.same.2 ∙ c.begin.ensures.before)
           (λ is_down.
           let lost = at_fault c.settle.result new.down (new.lost.items ≡ served.deeds.items) c.settle.ensures.up c.settle.ensures.lost is_down in
           all_remains_up s.before.value s.store s.down s.lost.items ms served after.state after.soft new.lost.items was_up is_served lost)
-          (λ are. served_since g.met.D.Disk.timed s.disks c.begin.new.self.disks new.disks old after ms served c.begin.new.self.before.value c.begin.ensures.same.1 c.begin.ensures.before is_served are
+          (λ are. served_since g.met.D.Disk.timed s.disks c.begin.new.self.disks new.disks old after ms
+          served c.begin.new.self.before.value c.begin.ensures.same.1 c.begin.ensures.before is_served are
           c.settle.ensures.any_moment);
     }

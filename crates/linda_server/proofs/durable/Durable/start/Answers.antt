@@ -24,24 +24,30 @@ start-requires-clause-copied g c =
     subst (λ (st : State). IsCopyFor s.copy st.book) (sym c.state.ensures.state) (copied_so s.copy s.store.state.book (s.copied c.if-self.false))
 
 pub invariant_of-self-clause-kept : goal.invariant_of-self-clause-kept
-invariant_of-self-clause-kept g c _ = runs_kept g.met.D.Disk.timed Disk (Unit {0}) c.state.result.now ∣ tt ∣₁ c.args.self.now c.state.ensures.state c.if-self.false _ c.start.new.disks c.in-Ok.ensures.runs
+invariant_of-self-clause-kept g c _ =
+    runs_kept g.met.D.Disk.timed Disk (Unit {0}) c.state.result.now ∣ tt ∣₁ c.args.self.now
+    c.state.ensures.state c.if-self.false _ c.start.new.disks c.in-Ok.ensures.runs
 
 pub invariant_of-self-in-Err-clause-fallen : goal.invariant_of-self-in-Err-clause-fallen
 invariant_of-self-in-Err-clause-fallen g c _ are =
-    fell g.met.D.Disk.timed Disk (Unit {0}) c.state.result.now ∣ tt ∣₁ c.args.self.now c.state.ensures.state c.if-self.false c.in-Err.fault c.start.new.disks _ c.in-Err.ensures.runs (c.of.ensures ∙ c.state-in-Err.ensures.state) c.state.ensures.ranges are
+    fell g.met.D.Disk.timed Disk (Unit {0}) c.state.result.now ∣ tt ∣₁ c.args.self.now c.state.ensures.state c.if-self.false
+    c.in-Err.fault c.start.new.disks _ c.in-Err.ensures.runs (c.of.ensures ∙ c.state-in-Err.ensures.state) c.state.ensures.ranges are
 
 pub returns-in-Ok-clause-rewrites : goal.returns-in-Ok-clause-rewrites
-returns-in-Ok-clause-rewrites g c = rewrites_done g.met.D.Disk.timed Disk (Unit {0}) c.state.result.now ∣ tt ∣₁ c.args.self.now c.state.ensures.state c.if-self.false _ tt _ c.in-Ok.ensures.runs refl refl c.if-self.false
+returns-in-Ok-clause-rewrites g c = rewrites_done g.met.D.Disk.timed Disk (Unit {0}) c.state.result.now ∣ tt
+    ∣₁ c.args.self.now c.state.ensures.state c.if-self.false _ tt _ c.in-Ok.ensures.runs refl refl c.if-self.false
 
 pub returns-then-eq-clause-rewrites : goal.returns-then-eq-clause-rewrites
 returns-then-eq-clause-rewrites g c =
-    rewrites_fault g.met.D.Disk.timed Disk (Unit {0}) c.state.result.now ∣ tt ∣₁ c.args.self.now c.state.ensures.state c.if-self.false c.in-Err.fault c.in-Err.fault _ c.in-Err.ensures.runs refl refl
+    rewrites_fault g.met.D.Disk.timed Disk (Unit {0}) c.state.result.now ∣ tt ∣₁ c.args.self.now
+    c.state.ensures.state c.if-self.false c.in-Err.fault c.in-Err.fault _ c.in-Err.ensures.runs refl refl
     (λ down. absurd (true≢false (sym down ∙ c.if-self.false)))
 
 pub returns-else-eq-clause-rewrites : goal.returns-else-eq-clause-rewrites
 returns-else-eq-clause-rewrites g c =
     let s = c.args.self.now in
-    rewrites_fault g.met.D.Disk.timed Disk (Unit {0}) c.state.result.now ∣ tt ∣₁ s c.state.ensures.state c.if-self.false c.in-Err.fault c.in-Err.fault _ c.in-Err.ensures.runs refl refl
+    rewrites_fault g.met.D.Disk.timed Disk (Unit {0}) c.state.result.now ∣ tt ∣₁ s c.state.ensures.state
+    c.if-self.false c.in-Err.fault c.in-Err.fault _ c.in-Err.ensures.runs refl refl
     (λ down. (c.of.ensures ∙ c.state-in-Err.ensures.state, s.none_lost c.if-self.false))
 
 pub returns-then-eq-clause-full : goal.returns-then-eq-clause-full

@@ -9,4 +9,5 @@ use Rattle.linda_shared.proofs.batch.LeaderBatch.serve.Goals as goal
 pub returns-clause-kept : goal.returns-clause-kept
 returns-clause-kept g c is =
     all_have (map has_copy c.settle.new.answers.items)
-    (ap (λ (ls : List (Answer (Address g.row.L.Denot) g.row.L.Denot)). all_true (map has_copy ls)) (c.settle.ensures.kept is).0 ∙ (sym c.settle.ensures.is ∙ is))
+    (ap (λ (ls : List (Answer (Address g.row.L.Denot) g.row.L.Denot)). all_true (map has_copy ls)) (c.settle.ensures.kept is).0
+    ∙ (sym c.settle.ensures.is ∙ is))

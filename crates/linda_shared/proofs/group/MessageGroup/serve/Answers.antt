@@ -1,10 +1,10 @@
 -- The answers come the other way round than the messages went, and the messages are turned around too.
-use Rattle.std.proofs.Common.{rules, ◌≡◌, ◌+◌, ℕ, arith, List, [], ◌++◌, length, map, reverse, not, refl, sym, ap, subst, ◌∙◌, vec_len}
+use Rattle.std.proofs.Common.{◌≡◌, ◌+◌, ℕ, arith, List, ◌++◌, length, map, reverse, not, sym, ap, subst, ◌∙◌, vec_len}
 use Rattle.std.proofs.lemmas.List.{reverse-reverse}
 use Rattle.linda_wire.specs.declared.message.Message.{Message}
 use Rattle.linda_shared_accounts.specs.declared.effect.Effect.{Effect}
 use Rattle.linda_shared_accounts.specs.declared.receipt.Receipt.{Receipt}
-use Rattle.linda_shared.specs.Group.{MessageGroup, AreTold}
+use Rattle.linda_shared.specs.Group.{AreTold}
 use Rattle.linda_shared.proofs.GroupLaws.{served_each, served_read}
 use Rattle.linda_shared.proofs.DueLaws.{told_of_group, own_of}
 use Rattle.linda_shared.proofs.group.MessageGroup.serve.Goals as goal
@@ -47,7 +47,8 @@ returns-clause-told g c =
     let ms = c.deref.ensures.value in
     let down = c.handle_all.new.self.server.down in
     subst (λ (t : List (Effect Receipt)). AreTold g.row.D.Denot g.D.Disk (not down) c.args.self.messages t) (sym read)
-    (subst (λ (l : List (ℕ × Message)). AreTold g.row.D.Denot g.D.Disk (not down) l (reverse (map (λ a. a.told) new.items))) (ms ∙ ap (λ v. v.messages) c.self.view_is)
+    (subst (λ (l : List (ℕ × Message)). AreTold g.row.D.Denot g.D.Disk (not down) l (reverse (map (λ a. a.told) new.items)))
+    (ms ∙ ap (λ v. v.messages) c.self.view_is)
     (told_of_group _ (vec_len own.asked) (map (λ a. a.told) own.answered.items) (map (λ a. a.told) new.items) _ _ _ _ _ _ _ c.handle_all.result
     (each ∙ (own.messages.ok.0 ∙ ap length (sym ms))) (ap (map (λ a. a.told)) c.self.invariant.1) c.handle_all.ensures.done
     c.handle_all.ensures.failed c.handle_all.ensures.fails.fault down c.handle_all.ensures.fails.down))

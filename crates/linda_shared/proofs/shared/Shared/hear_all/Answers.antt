@@ -12,7 +12,8 @@ loop-message-preserved g c =
     let ms : List Message = c.args.messages.now in
     let m : Message = c.message-item.result in
     let one_more : i + 1 ≡ suc i = omega arith in
-    let next : take (i + 1) ms ≡ take i ms ++ m ∷ [] = ap (λ k. take k ms) one_more ∙ (take-suc ms i m c.loop-message-test.true ∙ ap (λ (x : Message). take i ms ++ x ∷ []) (sym c.message-item.is)) in
+    let next : take (i + 1) ms ≡ take i ms ++ m ∷ [] = ap (λ k. take k ms) one_more
+    ∙ (take-suc ms i m c.loop-message-test.true ∙ ap (λ (x : Message). take i ms ++ x ∷ []) (sym c.message-item.is)) in
     let new = c.add.new in
     let told = c.add.ensures.told in
     let len = told.0 in

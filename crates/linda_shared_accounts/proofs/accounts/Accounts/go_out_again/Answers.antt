@@ -12,18 +12,22 @@ use Rattle.linda_shared_accounts.proofs.accounts.Accounts.go_out_again.Goals as 
 pub lend-share-requires : goal.lend-share-requires
 lend-share-requires g c =
     let ps : Places = c.self.inside.places in
-    let parked : map.get ps c.args.client ≡ Some (places.Parked c.in-Parked.ring c.in-Parked.deeds c.in-Parked.for_good) = c.swap.ensures.old ∙ ap Some c.in-Parked.is in
+    let parked : map.get ps c.args.client ≡ Some (places.Parked c.in-Parked.ring c.in-Parked.deeds c.in-Parked.for_good) =
+    c.swap.ensures.old ∙ ap Some c.in-Parked.is in
     let here : is_away (Some (places.Parked c.in-Parked.ring c.in-Parked.deeds c.in-Parked.for_good)) ≡ false =
     ap is_away (sym parked) ∙ (ap (λ (t : seen.Accounts). is_away (map.get t.places c.args.client)) c.self.view_is ∙ c.requires.place.0) in
-    let out : c.self.inside.tokens.out ≡ seats_out c.args.self.now.places = c.self.invariant.out_is ∙ ap (λ (t : seen.Accounts). seats_out t.places) c.self.view_is in (
+    let out : c.self.inside.tokens.out ≡ seats_out c.args.self.now.places = c.self.invariant.out_is
+    ∙ ap (λ (t : seen.Accounts). seats_out t.places) c.self.view_is in (
       subst (λ (n : ℕ). ACCOUNT_PARTS * (n + 1) ≤ PARTS) (sym out) c.requires.parts,
-      (goes_out c.self.inside.tokens.out c.self.inside.tokens.back ps c.args.client (Some (places.Parked c.in-Parked.ring c.in-Parked.deeds c.in-Parked.for_good)) c.self.invariant parked here).0,
+      (goes_out c.self.inside.tokens.out c.self.inside.tokens.back ps c.args.client
+          (Some (places.Parked c.in-Parked.ring c.in-Parked.deeds c.in-Parked.for_good)) c.self.invariant parked here).0,
     )
 
 pub invariant_of-self : goal.invariant_of-self
 invariant_of-self g c =
     let ps : Places = c.self.inside.places in
-    let parked : map.get ps c.args.client ≡ Some (places.Parked c.in-Parked.ring c.in-Parked.deeds c.in-Parked.for_good) = c.swap.ensures.old ∙ ap Some c.in-Parked.is in
+    let parked : map.get ps c.args.client ≡ Some (places.Parked c.in-Parked.ring c.in-Parked.deeds c.in-Parked.for_good) =
+    c.swap.ensures.old ∙ ap Some c.in-Parked.is in
     let here : is_away (Some (places.Parked c.in-Parked.ring c.in-Parked.deeds c.in-Parked.for_good)) ≡ false =
     ap is_away (sym parked) ∙ (ap (λ (t : seen.Accounts). is_away (map.get t.places c.args.client)) c.self.view_is ∙ c.requires.place.0) in
     let out : ℕ = c.self.inside.tokens.out in

@@ -17,7 +17,8 @@ invariant_of-self g c =
     let is : map.get ps c.client-client.result ≡ Some places.Out = search rules in
     subst (λ (p : Tokens). Tallies p.out p.back c.remove.new.self) (sym c.take_back.ensures.tokens)
     (subst (λ (m : Places). Tallies (old.out - 1) (old.back + part.share.amount) m) (sym c.remove.ensures)
-    (gives_up_uncounted old.out old.back part.deeds part.share.amount old.total ps c.client-client.result c.self.invariant is c.account.invariant.1 c.take_back.ensures.told c.if-deeds-eq0.true))
+    (gives_up_uncounted old.out old.back part.deeds part.share.amount old.total ps c.client-client.result
+    c.self.invariant is c.account.invariant.1 c.take_back.ensures.told c.if-deeds-eq0.true))
 
 pub invariant_of-self-else-deeds-eq0-2 : goal.invariant_of-self-else-deeds-eq0-2
 invariant_of-self-else-deeds-eq0-2 g c =
@@ -32,4 +33,5 @@ invariant_of-self-else-deeds-eq0-2 g c =
     ) in
     subst (λ (p : Tokens). Tallies p.out p.back c.swap-out.new.self) (sym c.take_back.ensures.tokens)
     (subst (λ (m : Places). Tallies (old.out - 1) (old.back + part.share.amount) m) (sym c.swap-out.ensures.new)
-    (comes_back_counted old.out old.back part.deeds part.share.amount old.total ps c.client-client.result place c.self.invariant is c.account.invariant.1 c.take_back.ensures.told refl refl own))
+    (comes_back_counted old.out old.back part.deeds part.share.amount old.total ps c.client-client.result
+    place c.self.invariant is c.account.invariant.1 c.take_back.ensures.told refl refl own))

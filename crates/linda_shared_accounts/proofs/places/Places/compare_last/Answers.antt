@@ -21,17 +21,21 @@ loop-client-preserved c =
     let entry : ℕ × Place = (c.in-Some._client.now, c.in-Some.place.now) in
     let step = c.in-Some.ensures.steps in
     let one : EntryIsKept c.args.state.now entry = c.in_ok-compare_place.ensures.kept in (
-      λ rest. c.loop-client.invariant.0 (subst (All (EntryIsKept c.args.state.now)) (sym step) (All-cons (EntryIsKept c.args.state.now) entry c.next.new.self one rest)),
-      All-tail (λ (e : ℕ × Place). map.get c.args.self.now e.0 ≡ Some e.1) entry c.next.new.self (subst (All (λ (e : ℕ × Place). map.get c.args.self.now e.0 ≡ Some e.1)) step c.loop-client.invariant.1),
+      λ rest. c.loop-client.invariant.0
+          (subst (All (EntryIsKept c.args.state.now)) (sym step) (All-cons (EntryIsKept c.args.state.now) entry c.next.new.self one rest)),
+      All-tail (λ (e : ℕ × Place). map.get c.args.self.now e.0 ≡ Some e.1) entry c.next.new.self
+          (subst (All (λ (e : ℕ × Place). map.get c.args.self.now e.0 ≡ Some e.1)) step c.loop-client.invariant.1),
     )
 
 pub returns-in_err-compare_place-clause-fault : goal.returns-in_err-compare_place-clause-fault
 returns-in_err-compare_place-clause-fault c =
     let entry : ℕ × Place = (c.in-Some._client.now, c.in-Some.place.now) in
     let there : map.get c.args.self.now entry.0 ≡ Some entry.1 =
-    All-head (λ (e : ℕ × Place). map.get c.args.self.now e.0 ≡ Some e.1) entry c.next.new.self (subst (All (λ (e : ℕ × Place). map.get c.args.self.now e.0 ≡ Some e.1)) c.in-Some.ensures.steps c.loop-client.invariant.1) in
+    All-head (λ (e : ℕ × Place). map.get c.args.self.now e.0 ≡ Some e.1) entry c.next.new.self
+    (subst (All (λ (e : ℕ × Place). map.get c.args.self.now e.0 ≡ Some e.1)) c.in-Some.ensures.steps c.loop-client.invariant.1) in
     let fault : NamesNotKept c.args.self.now c.args.state.now c.in_err-compare_place.field-0.0 =
-    not_kept c.args.self.now c.args.state.now entry.0 entry.1 c.in_err-compare_place.field-0.0 there (c.requires entry.0) c.in_err-compare_place.ensures.fault in
+    not_kept c.args.self.now c.args.state.now entry.0 entry.1 c.in_err-compare_place.field-0.0 there
+    (c.requires entry.0) c.in_err-compare_place.ensures.fault in
     search rules
 
 pub returns-clause-kept : goal.returns-clause-kept

@@ -1,7 +1,7 @@
 -- The tree was set at the client; where it was not, it had nothing there.
 use Rattle.std.proofs.Common.{ap, ◌∙◌, rules}
 use Rattle.std.specs.FinMap.{insert}
-use Rattle.linda_maps.proofs.MapLaws.{one_set}
+use Rattle.linda_map_laws.proofs.MapLaws.{one_set}
 use Rattle.linda_shared_accounts.proofs.PlaceLaws.{viewed}
 use Rattle.linda_shared_accounts.proofs.places.Places.put.Goals as goal
 

@@ -1,6 +1,6 @@
 use Rattle.std.proofs.Common.{ap, ◌∙◌}
 use Rattle.std.specs.FinMap.{remove}
-use Rattle.linda_maps.proofs.MapLaws.{one_gone}
+use Rattle.linda_map_laws.proofs.MapLaws.{one_gone}
 use Rattle.linda_shared_accounts.proofs.places.Places.remove.Goals as goal
 
 pub returns : goal.returns

@@ -1,7 +1,7 @@
 -- The place is taken out, and put back with a shorter ring.
 use Rattle.std.proofs.Common.{Some, IsSome, refl, sym, ap, subst, ◌∙◌}
 use Rattle.std.specs.FinMap as map
-use Rattle.linda_maps.proofs.MapLaws.{get_same, get_other}
+use Rattle.linda_map_laws.proofs.MapLaws.{get_same, get_other}
 use Rattle.linda_shared_accounts.specs.declared.place.Place.TheVariants as places
 use Rattle.linda_shared_accounts.specs.Accounts.{Places, shortened_at}
 use Rattle.linda_shared_accounts.proofs.places.Places.shorten.Goals as goal

@@ -1,7 +1,7 @@
 -- A client that has a place has one in the tree, and its entry is set there.
 use Rattle.std.proofs.Common.{◌≡◌, None, IsSome, sym, ap, ◌∙◌, subst, rules}
 use Rattle.std.specs.FinMap as map
-use Rattle.linda_maps.proofs.MapLaws.{one_set}
+use Rattle.linda_map_laws.proofs.MapLaws.{one_set}
 use Rattle.linda_shared_accounts.proofs.PlaceLaws.{viewed}
 use Rattle.linda_shared_accounts.proofs.places.Places.swap.Goals as goal
 

@@ -19,5 +19,6 @@ invariant_of-self c =
     let same : c.push_back-oldest.new.self.items ≡ with_receipt old c.args.receipt =
     ap (λ (b : Buffer Receipt). b.items) pushed ∙ ap (λ n. keep_last n (old ++ c.args.receipt ∷ [])) c.self.invariant.0 in (
       ap (λ (b : Buffer Receipt). b.capacity) pushed ∙ c.self.invariant.0,
-      subst (IsRing c.self.inside.client) (sym same) (ring_more c.self.inside.client old c.args.receipt c.self.invariant.1 (record { its = its; above = above })),
+      subst (IsRing c.self.inside.client) (sym same)
+          (ring_more c.self.inside.client old c.args.receipt c.self.invariant.1 (record { its = its; above = above })),
     )

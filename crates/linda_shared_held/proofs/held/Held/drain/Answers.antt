@@ -20,7 +20,8 @@ invariant_of-self g c =
       in_order = h.in_order;
       remembers = h.remembers;
       counted = h.counted;
-      covered = ∥∥₁_map h.covered (λ covered. boxes_but (known h.server.before.value h.server.store h.server.down) c.args.client (λ q. waits_for h.boxes q) (λ q. waits_for new q)
+      covered = ∥∥₁_map h.covered
+          (λ covered. boxes_but (known h.server.before.value h.server.store h.server.down) c.args.client (λ q. waits_for h.boxes q) (λ q. waits_for new q)
           (subst (λ (o : Option (List Reply)). IfSome o (λ rs. rs ≡ [])) (sym c.drain.ensures.at) (nothing (waits_for h.boxes c.args.client)))
           c.drain.ensures.others covered);
     }

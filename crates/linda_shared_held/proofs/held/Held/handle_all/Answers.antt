@@ -12,7 +12,8 @@ invariant_of-self g c =
     let more = length (receipts_in c.in-Ok.told.items) in
     let keeps = c.in-Ok.ensures.takes.keeps in
     record {
-      in_order = ∥∥₁_map h.in_order (λ so. subst (λ n. InOrder h.opening.value h.base.value n new) (sym c.settle_all.ensures.count) (keeps.ok_order h.opening.value h.base.value h.count so));
+      in_order = ∥∥₁_map h.in_order (λ so. subst (λ n. InOrder h.opening.value h.base.value n new)
+          (sym c.settle_all.ensures.count) (keeps.ok_order h.opening.value h.base.value h.count so));
       remembers = h.remembers;
       counted = ap (λ (t : Accounts). t.total) c.settle_all.ensures.accounts ∙ (ap (λ n. n + more) h.counted ∙ sym c.settle_all.ensures.count);
       covered = ∥∥₁_map₂ h.in_order h.covered (λ so covered. keeps.covered h.opening.value h.base.value h.count so covered);
@@ -31,4 +32,10 @@ invariant_of-self-in-Err g c =
 
 pub returns-in-Ok-clause-done : goal.returns-in-Ok-clause-done
 returns-in-Ok-clause-done g c =
-    record { told = c.in-Ok.told.items; taken = c.in-Ok.ensures.done; receipts_are = c.in-Ok.ensures.takes.keeps.receipts; told_are = c.settle_all.ensures.told }
+    record {
+      told = c.in-Ok.told.items;
+      taken = c.in-Ok.ensures.done;
+      receipts_are =
+          c.in-Ok.ensures.takes.keeps.receipts;
+      told_are = c.settle_all.ensures.told;
+    }

@@ -11,8 +11,10 @@ invariant_of-self g c =
     let h = c.args.self.now in
     let s = h.server in
     record {
-      in_order = ∥∥₁_map h.in_order (λ so. base_moved s s so (c.requires.up, c.requires.up) refl (c.of.ensures ∙ c.state.ensures.state) c.put_away.ensures.none);
-      remembers = ∣ subst (λ (st : State). Remembers st c.begin_anew.new.recall) (c.state-2.ensures.state ∙ sym (c.of.ensures ∙ c.state.ensures.state)) c.begin_anew.ensures.remembers ∣₁;
+      in_order = ∥∥₁_map h.in_order (λ so. base_moved s s so (c.requires.up, c.requires.up) refl
+          (c.of.ensures ∙ c.state.ensures.state) c.put_away.ensures.none);
+      remembers = ∣ subst (λ (st : State). Remembers st c.begin_anew.new.recall) (c.state-2.ensures.state
+          ∙ sym (c.of.ensures ∙ c.state.ensures.state)) c.begin_anew.ensures.remembers ∣₁;
       counted = c.begin_anew.ensures.total ∙ h.counted;
       covered = h.covered;
     }

@@ -12,9 +12,11 @@ pub invariant_of-result : goal.invariant_of-result
 invariant_of-result g c =
     let s = c.args.server in
     record {
-      in_order = ∣ begins c.of-opening.result.value c.of-base.result.value c.new.result.items s.down s.before.value s.store c.requires.up (c.of-opening.ensures ∙ c.state.ensures.state) (c.of-base.ensures ∙ c.state-2.ensures.state) c.new.ensures.items
+      in_order = ∣ begins c.of-opening.result.value c.of-base.result.value c.new.result.items s.down s.before.value s.store c.requires.up
+          (c.of-opening.ensures ∙ c.state.ensures.state) (c.of-base.ensures ∙ c.state-2.ensures.state) c.new.ensures.items
           (subst IsState c.state.ensures.state c.state.ensures.ranges) ∣₁;
       remembers = ∣ remembers_none c.of-base.result.value c.new-5.result c.new-5.ensures ∣₁;
       counted = ap (λ (t : Accounts). t.total) c.new-3.ensures;
-      covered = ∣ (λ q. subst (λ (o : Option (List Reply)). IfSome o (All (λ (r : Reply). IsCovered (known s.before.value s.store s.down) (q, r)))) (sym (c.new-4.ensures q)) tt) ∣₁;
+      covered = ∣ (λ q. subst (λ (o : Option (List Reply)). IfSome o (All (λ (r : Reply). IsCovered (known s.before.value s.store s.down) (q, r))))
+          (sym (c.new-4.ensures q)) tt) ∣₁;
     }

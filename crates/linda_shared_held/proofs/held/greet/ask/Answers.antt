@@ -11,7 +11,8 @@ pub first_of-requires : goal.first_of-requires
 first_of-requires g c =
     let old = c.args.server.now.store in
     let new = c.serve.new.self.store in
-    let is = hello_served old.state old.soft c.args.client c.args.client VERSION c.args.fresh c.in-Ok.served new.state new.soft c.is_down.ensures.orderly.state_is c.in-Ok.ensures.done in
+    let is = hello_served old.state old.soft c.args.client c.args.client VERSION c.args.fresh
+    c.in-Ok.served new.state new.soft c.is_down.ensures.orderly.state_is c.in-Ok.ensures.done in
     let long = ap length (ap (λ v. v.items) c.into_sends.ensures ∙ is.sends_are) in
     let counted = c.into_sends.result.ok.0 in
     omega (arith, long, counted)
@@ -20,15 +21,18 @@ pub returns-in-Ok-clause-reply : goal.returns-in-Ok-clause-reply
 returns-in-Ok-clause-reply g c =
     let old = c.args.server.now.store in
     let new = c.serve.new.self.store in
-    let is = hello_served old.state old.soft c.args.client c.args.client VERSION c.args.fresh c.in-Ok.served new.state new.soft c.is_down.ensures.orderly.state_is c.in-Ok.ensures.done in
+    let is = hello_served old.state old.soft c.args.client c.args.client VERSION c.args.fresh
+    c.in-Ok.served new.state new.soft c.is_down.ensures.orderly.state_is c.in-Ok.ensures.done in
     c.first_of.ensures c.args.client (greeting old.state c.args.client VERSION c.args.fresh) (ap (λ v. v.items) c.into_sends.ensures ∙ is.sends_are)
 
 pub returns-in-Ok-clause-kind : goal.returns-in-Ok-clause-kind
 returns-in-Ok-clause-kind g c =
     let old = c.args.server.now.store in
     let new = c.serve.new.self.store in
-    let is = hello_served old.state old.soft c.args.client c.args.client VERSION c.args.fresh c.in-Ok.served new.state new.soft c.is_down.ensures.orderly.state_is c.in-Ok.ensures.done in
-    subst IsGreetingReply (sym (c.first_of.ensures c.args.client (greeting old.state c.args.client VERSION c.args.fresh) (ap (λ v. v.items) c.into_sends.ensures ∙ is.sends_are)))
+    let is = hello_served old.state old.soft c.args.client c.args.client VERSION c.args.fresh
+    c.in-Ok.served new.state new.soft c.is_down.ensures.orderly.state_is c.in-Ok.ensures.done in
+    subst IsGreetingReply (sym
+    (c.first_of.ensures c.args.client (greeting old.state c.args.client VERSION c.args.fresh) (ap (λ v. v.items) c.into_sends.ensures ∙ is.sends_are)))
     (greets old.state c.args.client VERSION c.args.fresh)
 
 pub returns-in-Ok-clause-asked : goal.returns-in-Ok-clause-asked
@@ -36,8 +40,10 @@ returns-in-Ok-clause-asked g c =
     let old = c.args.server.now in
     let new = c.serve.new.self in
     let up = c.in-Ok.ensures.up in
-    let is = hello_served old.store.state old.store.soft c.args.client c.args.client VERSION c.args.fresh c.in-Ok.served new.store.state new.store.soft c.is_down.ensures.orderly.state_is c.in-Ok.ensures.done in
-    let none = hello_does_nothing old.store.state old.store.soft c.args.client c.args.client VERSION c.args.fresh c.in-Ok.served new.store.state new.store.soft c.in-Ok.ensures.done in
+    let is = hello_served old.store.state old.store.soft c.args.client c.args.client VERSION c.args.fresh
+    c.in-Ok.served new.store.state new.store.soft c.is_down.ensures.orderly.state_is c.in-Ok.ensures.done in
+    let none = hello_does_nothing old.store.state old.store.soft c.args.client c.args.client VERSION
+    c.args.fresh c.in-Ok.served new.store.state new.store.soft c.in-Ok.ensures.done in
     record {
       same = (up.1, (is.state_is, is.soft_is, c.in-Ok.ensures.idle none));
       limit = c.serve.ensures.limit;
@@ -48,4 +54,5 @@ returns-in-Ok-clause-asked g c =
 
 pub unreachable-requires : goal.unreachable-requires
 unreachable-requires g c =
-    hello_has_room c.args.server.now c.args.client c.args.client VERSION c.args.fresh c.is_down.ensures.orderly (c.in-Err-Full.ensures.full (ap Err c.in-Err-Full.field-0-is)).1
+    hello_has_room c.args.server.now c.args.client c.args.client VERSION c.args.fresh c.is_down.ensures.orderly
+    (c.in-Err-Full.ensures.full (ap Err c.in-Err-Full.field-0-is)).1

@@ -1,5 +1,5 @@
 -- What a close sends is posted; or the server is given up.
-use Rattle.std.proofs.Common.{◌≡◌, ◌∙◌, ap, ℕ, List, subst, sym, refl, true≢false, rules}
+use Rattle.std.proofs.Common.{◌∙◌, ap, ℕ, List, subst, sym, refl, true≢false}
 use Rattle.linda_shared_outbox.specs.Waiting.{waits_for, HasPlaces}
 use Rattle.linda_shared_outbox.specs.Replies.{with_more, replies_to}
 use Rattle.linda_wire.specs.declared.reply.Reply.{Reply}
@@ -22,7 +22,8 @@ returns-in_default g c =
       falls = record { up = tt; down = c.give_up.ensures.down; first = λ down. absurd (true≢false (sym down ∙ up.0)); fault = refl };
       disks = (same.1 ∙ closes.disks.0, same.2 ∙ closes.disks.1);
       err = c.make_places.ensures.same;
-      still = still_both c.args.server.now mid new closes.still (fallen_still mid new c.give_up.ensures.down (λ down. absurd (true≢false (sym down ∙ up.1))) (λ up. (c.give_up.ensures.up up).0));
+      still = still_both c.args.server.now mid new closes.still
+          (fallen_still mid new c.give_up.ensures.down (λ down. absurd (true≢false (sym down ∙ up.1))) (λ up. (c.give_up.ensures.up up).0));
       covered = same_covered c.args.boxes.now c.make_places.new.self c.make_places.ensures.same;
     }
 
@@ -36,8 +37,14 @@ returns g c =
     let old = c.args.server.now.store in
     let sends = c.in_ok-sends.sends.items in
     let closes = c.in_ok-sends.ensures in
-    let posts : HasClosed old.state.bag c.args.client old.soft (λ q. waits_for c.args.boxes.now q) (λ q. waits_for c.post_all.new.self q) c.close_client.new.server.store.soft =
-    record { sends = sends; closed = closes.done; posted_is = λ q. c.post_all.ensures q ∙ ap (with_more (replies_to q sends)) (c.make_places.ensures.same q) } in
+    let posts : HasClosed old.state.bag c.args.client old.soft (λ q. waits_for c.args.boxes.now q)
+    (λ q. waits_for c.post_all.new.self q) c.close_client.new.server.store.soft =
+    record {
+      sends = sends;
+      closed = closes.done;
+      posted_is = λ q. c.post_all.ensures q
+          ∙ ap (with_more (replies_to q sends)) (c.make_places.ensures.same q);
+    } in
     record {
       done = posts;
       state = closes.state;

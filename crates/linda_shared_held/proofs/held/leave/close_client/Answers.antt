@@ -1,4 +1,4 @@
-use Rattle.std.proofs.Common.{true≢false, Err, refl, sym, ap, ◌∙◌, rules}
+use Rattle.std.proofs.Common.{true≢false, Err, refl, sym, ◌∙◌, rules}
 use Rattle.linda_shared_held.proofs.FaultLaws.{still_up}
 use Rattle.linda_shared_held.proofs.held.leave.close_client.Goals as goal
 

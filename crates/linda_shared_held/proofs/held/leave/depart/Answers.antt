@@ -1,5 +1,5 @@
 -- The client is closed, its outbox shut.
-use Rattle.std.proofs.Common.{◌≡◌, None, ◌∙◌, ap, subst, rules}
+use Rattle.std.proofs.Common.{◌≡◌, None, ◌∙◌, ap, subst}
 use Rattle.linda_store_step.specs.Dispatch.{on_close}
 use Rattle.linda_shared_outbox.specs.Waiting.{waits_for}
 use Rattle.linda_shared_held.proofs.GreetLaws.{boxes_shut}
@@ -27,5 +27,6 @@ returns-clause-departs g c =
       err = err_more r _ _ (λ same q differs. c.shut.ensures.others q (λ is. differs (is ∙ mine)) ∙ same q) closes.err;
       still = closes.still;
       covered = λ st covered.
-          boxes_shut st c.client-client.result (λ q. waits_for c.close_and_post-answer.new.boxes q) (λ q. waits_for c.shut.new.self q) c.shut.ensures.at c.shut.ensures.others (closes.covered st covered);
+          boxes_shut st c.client-client.result (λ q. waits_for c.close_and_post-answer.new.boxes q)
+          (λ q. waits_for c.shut.new.self q) c.shut.ensures.at c.shut.ensures.others (closes.covered st covered);
     }

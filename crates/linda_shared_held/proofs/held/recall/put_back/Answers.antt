@@ -11,7 +11,8 @@ pub returns-clause-back : goal.returns-clause-back
 returns-clause-back g c =
     let a = c.args.account in
     let left = c.forget.new.self in
-    let floor : c.take_floor.result ≡ floor_of c.args.recall.now a.client = c.take_floor.ensures.floor ∙ ap (floor_of c.args.recall.now) c.client-client.ensures.is in
+    let floor : c.take_floor.result ≡ floor_of c.args.recall.now a.client = c.take_floor.ensures.floor
+    ∙ ap (floor_of c.args.recall.now) c.client-client.ensures.is in
     record {
       parked = parks (floor_of c.args.recall.now a.client) c.args.accounts.now c.park.new.self a left c.forget.ensures.account c.forget.ensures.cut
           (subst (λ n. KeepsAbove n a.ring left.ring) floor c.forget.ensures.kept)
@@ -27,5 +28,8 @@ returns-clause-taken g c =
 pub returns-clause-total : goal.returns-clause-total
 returns-clause-total g c =
     either_way (ComesBack c.args.accounts.now.places c.args.account) c.park.new.self.total c.args.accounts.now.total
-    (λ comes. ap (λ (t : Accounts). t.total) (parks c.take_floor.result c.args.accounts.now c.park.new.self c.args.account c.forget.new.self c.forget.ensures.account c.forget.ensures.cut c.forget.ensures.kept c.forget.ensures.gone c.park.ensures.parked comes).is)
-    (λ out. ap (λ (t : Accounts). t.total) (loses c.args.accounts.now c.park.new.self c.args.account c.forget.new.self c.forget.ensures.account c.park.ensures.lost out))
+    (λ comes. ap (λ (t : Accounts). t.total)
+    (parks c.take_floor.result c.args.accounts.now c.park.new.self c.args.account c.forget.new.self c.forget.ensures.account
+    c.forget.ensures.cut c.forget.ensures.kept c.forget.ensures.gone c.park.ensures.parked comes).is)
+    (λ out. ap (λ (t : Accounts). t.total)
+    (loses c.args.accounts.now c.park.new.self c.args.account c.forget.new.self c.forget.ensures.account c.park.ensures.lost out))

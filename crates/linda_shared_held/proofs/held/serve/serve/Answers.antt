@@ -1,5 +1,5 @@
 -- What was served is told, kept and posted; or nobody is told.
-use Rattle.std.proofs.Common.{◌≡◌, ◌++◌, ℕ, List, length, refl, sym, ap, ◌∙◌, subst, arith}
+use Rattle.std.proofs.Common.{◌≡◌, ◌++◌, ℕ, List, length, refl, ap, ◌∙◌, subst, arith}
 use Rattle.linda_wire.specs.declared.reply.Reply.{Reply}
 use Rattle.linda_shared_outbox.specs.Waiting.{HasPlaces}
 use Rattle.linda_shared_outbox.specs.Replies.{with_more, replies_to}
@@ -45,12 +45,12 @@ returns-in_default-keep_all g c =
 
 pub keep_all-requires : goal.keep_all-requires
 keep_all-requires g c =
-    let portions = c.in_ok-served.served.portions.ok.0 in
+    let counts = c.in_ok-served.served.counts.ok.0 in
     let as_many = c.in-Ok.ensures.each in
     let each = c.in_ok-served.ensures.each in
     let seen : length c.deref-2.result.now ≡ length c.in-Ok.told.items = ap length c.deref-2.ensures.value in
     let room = c.in_ok-make_room.ensures.room in
-    omega (arith, portions, as_many, each, seen, room)
+    omega (arith, counts, as_many, each, seen, room)
 
 pub post_all-requires : goal.post_all-requires
 post_all-requires g c =
@@ -64,7 +64,9 @@ returns g c =
       up = c.in_ok-served.ensures.up;
       serves = c.in_ok-served.ensures.done;
       tells = c.in-Ok.ensures.told;
-      receipts = c.in-Ok-keep_all.ensures.kept ∙ (ap (λ l. c.make_room.new.receipts.items ++ receipts_in l) c.deref-2.ensures.value ∙ ap (λ l. l ++ receipts_in c.in-Ok.told.items) c.make_room.ensures.items);
+      receipts = c.in-Ok-keep_all.ensures.kept
+          ∙ (ap (λ l. c.make_room.new.receipts.items ++ receipts_in l) c.deref-2.ensures.value
+          ∙ ap (λ l. l ++ receipts_in c.in-Ok.told.items) c.make_room.ensures.items);
       sends_are = ap (λ v. v.items) c.in-Ok.ensures.sends;
       posted_is = λ q. c.post_all.ensures q ∙ ap (with_more (replies_to q sends)) (c.make_places.ensures.same q);
     }) c.is_down.ensures.orderly.state_is c.in-Ok.ensures.each c.in_ok-served.ensures

@@ -1,5 +1,5 @@
 -- All in one step, or one by one.
-use Rattle.std.proofs.Common.{[], inl, Err, refl, sym, ap, subst, arith, rules}
+use Rattle.std.proofs.Common.{[], inl, Err, refl, ap, subst, arith, rules}
 use Rattle.linda_shared_outbox.specs.Waiting.{waits_for}
 use Rattle.linda_shared_held.specs.Kept.{kept, TakesAll}
 use Rattle.linda_shared_held.specs.Posted.{none}
@@ -30,7 +30,8 @@ returns-in-Ok-clause-done g c = inl c.in-Ok.ensures.done
 pub returns-in-Err-Full-clause-takes : goal.returns-in-Err-Full-clause-takes
 returns-in-Err-Full-clause-takes g c =
     let full = c.in-Err-Full.ensures.full (ap Err c.in-Err-Full.field-0-is) in
-    subst (λ k. TakesAll k c.args.count c.args.messages.now c.serve_each-in-Err-Full.result (kept c.serve_each-in-Err-Full.new.server c.serve_each-in-Err-Full.new.receipts c.serve_each-in-Err-Full.new.boxes))
+    subst (λ k. TakesAll k c.args.count c.args.messages.now c.serve_each-in-Err-Full.result
+    (kept c.serve_each-in-Err-Full.new.server c.serve_each-in-Err-Full.new.receipts c.serve_each-in-Err-Full.new.boxes))
     (all_same full.0 c.in-Err-Full.ensures.keeps.err full.1) c.serve_each-in-Err-Full.ensures.takes
 
 pub returns-in-Err-clause-takes : goal.returns-in-Err-clause-takes

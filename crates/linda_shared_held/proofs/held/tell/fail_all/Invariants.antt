@@ -8,8 +8,10 @@ invariant-loop-job g l =
     × (vec_len l.answered + vec_len l.asked ≡ vec_len l.fn.answered + vec_len l.fn.asked)
     × (vec_capacity l.asked ≡ vec_capacity l.fn.asked)
     × (vec_capacity l.answered ≡ vec_capacity l.fn.answered)
-    × (map (λ a. a.told) l.answered.items ++ replicate (vec_len l.asked) (outcomes.Failed l.fn.fault) ≡ map (λ a. a.told) l.fn.answered.items ++ replicate (vec_len l.fn.asked) (outcomes.Failed l.fn.fault))
-    × (map (λ a. a.address) l.answered.items ++ reverse (map (λ a. a.address) l.asked.items) ≡ map (λ a. a.address) l.fn.answered.items ++ reverse (map (λ a. a.address) l.fn.asked.items))
+    × (map (λ a. a.told) l.answered.items ++ replicate (vec_len l.asked) (outcomes.Failed l.fn.fault)
+    ≡ map (λ a. a.told) l.fn.answered.items ++ replicate (vec_len l.fn.asked) (outcomes.Failed l.fn.fault))
+    × (map (λ a. a.address) l.answered.items ++ reverse (map (λ a. a.address) l.asked.items)
+    ≡ map (λ a. a.address) l.fn.answered.items ++ reverse (map (λ a. a.address) l.fn.asked.items))
 
 abbrev pub decreases-loop-job : goal.decreases-loop-job
 decreases-loop-job g l = vec_len l.asked

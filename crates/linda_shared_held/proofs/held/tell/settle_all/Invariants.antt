@@ -14,8 +14,10 @@ invariant-loop-job g l =
     × (vec_len l.answered + vec_len l.asked ≡ vec_len l.fn.answered + vec_len l.fn.asked)
     × (vec_capacity l.asked ≡ vec_capacity l.fn.asked)
     × (vec_capacity l.answered ≡ vec_capacity l.fn.answered)
-    × (map (λ a. a.told) l.answered.items ++ reverse (map told_of l.told.items) ≡ map (λ a. a.told) l.fn.answered.items ++ reverse (map told_of l.fn.told.items))
-    × (map (λ a. a.address) l.answered.items ++ reverse (map (λ a. a.address) l.asked.items) ≡ map (λ a. a.address) l.fn.answered.items ++ reverse (map (λ a. a.address) l.fn.asked.items))
+    × (map (λ a. a.told) l.answered.items ++ reverse (map told_of l.told.items) ≡ map (λ a. a.told) l.fn.answered.items
+    ++ reverse (map told_of l.fn.told.items))
+    × (map (λ a. a.address) l.answered.items ++ reverse (map (λ a. a.address) l.asked.items)
+    ≡ map (λ a. a.address) l.fn.answered.items ++ reverse (map (λ a. a.address) l.fn.asked.items))
 
 abbrev pub decreases-loop-job : goal.decreases-loop-job
 decreases-loop-job g l = vec_len l.asked

@@ -13,7 +13,8 @@ invariant_of-self-in-Some-clause-heard c =
     let key = c.in-Some.key in
     let xs = c.pop.new.self.items in
     let list : s.waiting.items ≡ xs ++ client ∷ [] = c.in_ok-client.ensures.items in
-    let at : shown (slab.get c.unlist.new.boxes key) ≡ unlisted (taken_out (shown (slab.get s.boxes key))) = c.unlist.ensures.at ∙ ap unlisted c.take_out-replies.ensures.at in
+    let at : shown (slab.get c.unlist.new.boxes key) ≡ unlisted (taken_out (shown (slab.get s.boxes key))) =
+    c.unlist.ensures.at ∙ ap unlisted c.take_out-replies.ensures.at in
     heard_after (λ q. tree.get nat_cmp s.keys q) (λ k. slab.get s.boxes k) (λ k. slab.get c.unlist.new.boxes k) client key (sym c.in-Some.ensures)
     (λ k differs. c.unlist.ensures.others k differs ∙ c.take_out-replies.ensures.others k differs)
     s.waiting.items xs s.apart s.heard
@@ -32,5 +33,6 @@ invariant_of-self-in-None-clause-heard c =
 pub invariant_of-self-in-Some-clause-owned : goal.invariant_of-self-in-Some-clause-owned
 invariant_of-self-in-Some-clause-owned c =
     let s = c.args.self.now in
-    owned_at (λ q. tree.get nat_cmp s.keys q) (λ k. slab.get s.boxes k) (λ k. slab.get c.unlist.new.boxes k) c.in_ok-client.client c.in-Some.key (sym c.in-Some.ensures)
+    owned_at (λ q. tree.get nat_cmp s.keys q) (λ k. slab.get s.boxes k)
+    (λ k. slab.get c.unlist.new.boxes k) c.in_ok-client.client c.in-Some.key (sym c.in-Some.ensures)
     (λ k differs. c.unlist.ensures.others k differs ∙ c.take_out-replies.ensures.others k differs) s.owned

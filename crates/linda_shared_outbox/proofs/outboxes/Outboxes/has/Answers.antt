@@ -9,4 +9,5 @@ use Rattle.linda_shared_outbox.proofs.outboxes.Outboxes.has.Goals as goal
 pub returns : goal.returns
 returns c =
     let s = c.args.self.now in
-    c.contains_key.ensures ∙ sym (is_some_replies (box_of s.keys s.boxes c.args.client) ∙ some_box (λ k. slab.get s.boxes k) (tree.get nat_cmp s.keys c.args.client) (s.taken c.args.client))
+    c.contains_key.ensures ∙ sym (is_some_replies (box_of s.keys s.boxes c.args.client)
+    ∙ some_box (λ k. slab.get s.boxes k) (tree.get nat_cmp s.keys c.args.client) (s.taken c.args.client))

@@ -16,7 +16,8 @@ loop-send-preserved c =
       λ q. c.make_place.ensures.same q ∙ inv.0 q,
       subst (λ w. vec_len w + length xs ≤ vec_capacity w) (sym c.make_place.ensures.waiting) inv.1,
       All-more Fits xs c.loop-send.send-index c.send-item.result c.loop-send-test.true
-          (All-weaker (λ (s : ℕ × Reply). TakesMore (length xs) (box_of old.keys old.boxes s.0)) Fits (λ s room. c.make_place.ensures.kept s.0 (length xs) room) (take c.loop-send.send-index xs) inv.2)
+          (All-weaker (λ (s : ℕ × Reply). TakesMore (length xs) (box_of old.keys old.boxes s.0)) Fits
+          (λ s room. c.make_place.ensures.kept s.0 (length xs) room) (take c.loop-send.send-index xs) inv.2)
           (subst Fits c.send-item.is c.in_ok-make_place.ensures.room),
     )
 
@@ -26,5 +27,6 @@ returns-clause-room c =
     let s = c.loop-send.self in
     let Fits : ℕ × Reply → Type 0 = λ (q : ℕ × Reply). TakesMore (length xs) (box_of s.keys s.boxes q.0) in (
       c.loop-send.invariant.1,
-      subst (All Fits) (take-length xs) (subst (λ i. All Fits (take i xs)) (omega (arith, c.loop-send-test.false, c.loop-send.auto.send-index-end)) c.loop-send.invariant.2),
+      subst (All Fits) (take-length xs)
+          (subst (λ i. All Fits (take i xs)) (omega (arith, c.loop-send-test.false, c.loop-send.auto.send-index-end)) c.loop-send.invariant.2),
     )

@@ -4,7 +4,8 @@ use Rattle.std.specs.BTreeMap as tree
 use Rattle.slab.specs.Slab as slab
 use Rattle.linda_shared_outbox.specs.Boxes.{shown, is_heard, is_none_left}
 use Rattle.linda_shared_outbox.specs.declared.outbox.Outbox.{Outbox}
-use Rattle.linda_shared_outbox.proofs.BoxLaws.{apart_with, heard_with, owned_with, has_no_key, is_other, get_same, still_taken, still_owned, still_apart, still_heard_of}
+use Rattle.linda_shared_outbox.proofs.BoxLaws.{apart_with, heard_with, owned_with, has_no_key, is_other, get_same}
+use Rattle.linda_shared_outbox.proofs.BoxLaws.{still_taken, still_owned, still_apart, still_heard_of}
 use Rattle.linda_shared_outbox.proofs.outboxes.Outboxes.open.Goals as goal
 
 pub invariant_of-self-2 : goal.invariant_of-self-2
@@ -29,7 +30,8 @@ invariant_of-self-2 c =
       owned = owned_with find now old new client key (has_no_key find old client s.taken (sym c.has.ensures ∙ c.if-has.false)) updates.1 moved others s.owned;
       apart = apart_with find now old new client key updates.1 moved free others s.taken s.apart;
       heard = heard_with find now old new client key updates.1 moved free others s.waiting.items
-          (ap (λ o. is_heard s.waiting.items client (shown o)) (ap (slab.get boxes) (sym same) ∙ c.insert_reserved.ensures.updates.changed) ∙ ap is_none_left c.new.ensures.items)
+          (ap (λ o. is_heard s.waiting.items client (shown o)) (ap (slab.get boxes) (sym same) ∙ c.insert_reserved.ensures.updates.changed)
+          ∙ ap is_none_left c.new.ensures.items)
           s.taken s.heard;
     }
 

@@ -39,4 +39,5 @@ returns-else-put-clause-room c = λ n room.
 pub invariant_of-self-clause-owned : goal.invariant_of-self-clause-owned
 invariant_of-self-clause-owned c =
     let s = c.args.self.now in
-    owned_at (λ q. tree.get nat_cmp s.keys q) (λ k. slab.get s.boxes k) (λ k. slab.get c.put.new.boxes k) c.args.client c.in-Some.key (sym c.in-Some.ensures) c.put.ensures.others s.owned
+    owned_at (λ q. tree.get nat_cmp s.keys q) (λ k. slab.get s.boxes k)
+    (λ k. slab.get c.put.new.boxes k) c.args.client c.in-Some.key (sym c.in-Some.ensures) c.put.ensures.others s.owned

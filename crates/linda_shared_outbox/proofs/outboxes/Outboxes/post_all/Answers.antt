@@ -34,8 +34,10 @@ loop-send-preserved c =
     let all : All Fits rest = subst (λ k. All (λ (s : ℕ × Reply). TakesMore k (box_of old.keys old.boxes s.0)) rest) long inv.3 in
     let room : vec_len old.waiting + (n + 1) ≤ vec_capacity old.waiting = subst (λ k. vec_len old.waiting + k ≤ vec_capacity old.waiting) long inv.2 in
     let its : Fits send = subst (All Fits) step all 0 send (omega arith) in (
-      posted_more (λ q. box_of first.keys first.boxes q) (λ q. box_of old.keys old.boxes q) (λ q. box_of new.keys new.boxes q) c.loop-send.yielded send inv.0 c.post.ensures.at c.post.ensures.others,
+      posted_more (λ q. box_of first.keys first.boxes q) (λ q. box_of old.keys old.boxes q)
+          (λ q. box_of new.keys new.boxes q) c.loop-send.yielded send inv.0 c.post.ensures.at c.post.ensures.others,
       append_assoc c.loop-send.yielded (send ∷ []) later ∙ ap (λ l. c.loop-send.yielded ++ l) (sym step) ∙ inv.1,
       (c.post.ensures.room n (room, its)).0,
-      room_left (λ q. box_of old.keys old.boxes q) (λ q. box_of new.keys new.boxes q) send n (λ fits. (c.post.ensures.room n (room, fits)).1) c.post.ensures.others later (All-rest Fits send later rest step all),
+      room_left (λ q. box_of old.keys old.boxes q) (λ q. box_of new.keys new.boxes q) send n
+          (λ fits. (c.post.ensures.room n (room, fits)).1) c.post.ensures.others later (All-rest Fits send later rest step all),
     )

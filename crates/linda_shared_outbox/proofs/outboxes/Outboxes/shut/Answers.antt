@@ -3,7 +3,8 @@ use Rattle.std.proofs.Common.{◌≡◌, ◌≢◌, ℕ, Option, Some, refl, sym
 use Rattle.std.specs.BTreeMap as tree
 use Rattle.slab.specs.Slab as slab
 use Rattle.linda_shared_outbox.specs.declared.outbox.Outbox.{Outbox}
-use Rattle.linda_shared_outbox.proofs.BoxLaws.{apart_without, heard_gone, owned_without, is_other, get_same, still_taken, still_owned, still_apart, still_heard_of}
+use Rattle.linda_shared_outbox.proofs.BoxLaws.{apart_without, heard_gone, owned_without, is_other, get_same}
+use Rattle.linda_shared_outbox.proofs.BoxLaws.{still_taken, still_owned, still_apart, still_heard_of}
 use Rattle.linda_shared_outbox.proofs.outboxes.Outboxes.shut.Goals as goal
 
 pub invariant_of-self : goal.invariant_of-self

@@ -13,7 +13,8 @@ returns-in-Ok-clause-so g c before ms h =
     let one = c.in-Ok.one in
     subst (λ ts. HasHeard before (ms ++ m ∷ []) a ts new.fault new.is_as_before) (sym c.tell.ensures.told)
     (subst (λ f. HasHeard before (ms ++ m ∷ []) a (old.told.items ++ one ∷ []) f new.is_as_before) (sym c.tell.ensures.fault)
-    (heard_told before c.args.account.now a ms old.told.items old.fault old.is_as_before new.is_as_before m one c.requires.asked c.in-Ok.ensures.ok c.in-Ok.ensures.deed c.tell.ensures.as_before h))
+    (heard_told before c.args.account.now a ms old.told.items old.fault old.is_as_before new.is_as_before
+    m one c.requires.asked c.in-Ok.ensures.ok c.in-Ok.ensures.deed c.tell.ensures.as_before h))
 
 pub returns-in-Err-clause-so : goal.returns-in-Err-clause-so
 returns-in-Err-clause-so g c before ms h =
@@ -24,4 +25,5 @@ returns-in-Err-clause-so g c before ms h =
     let fault = c.in-Err.fault in
     subst (λ ts. HasHeard before (ms ++ m ∷ []) a ts new.fault new.is_as_before) (sym c.fail.ensures.told)
     (subst (λ f. HasHeard before (ms ++ m ∷ []) a (old.told.items ++ None ∷ []) f new.is_as_before) (sym c.fail.ensures.fault)
-    (heard_fault before c.args.account.now a ms old.told.items old.fault fault old.is_as_before new.is_as_before m c.requires.asked c.in-Err.ensures.err c.fail.ensures.as_before h))
+    (heard_fault before c.args.account.now a ms old.told.items old.fault fault old.is_as_before
+    new.is_as_before m c.requires.asked c.in-Err.ensures.err c.fail.ensures.as_before h))

@@ -9,4 +9,5 @@ pub returns-in-Some-clause-err : goal.returns-in-Some-clause-err
 returns-in-Some-clause-err c before account ms h =
     let s = c.args.self in
     subst (λ fault. IsLeftBy ms (with_asked before account.asked) fault account) (sym c.told_fault.ensures)
-    (ends_left before account ms s.told.items c.in-Some.fault s.is_as_before (subst (λ fault. HasHeard before ms account s.told.items fault s.is_as_before) c.in-Some.is h))
+    (ends_left before account ms s.told.items c.in-Some.fault s.is_as_before
+    (subst (λ fault. HasHeard before ms account s.told.items fault s.is_as_before) c.in-Some.is h))

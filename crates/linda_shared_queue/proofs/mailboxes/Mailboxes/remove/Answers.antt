@@ -12,6 +12,7 @@ pub invariant_of-self : goal.invariant_of-self
 invariant_of-self g c =
     let s = c.args.self.now in
     let client = c.args.client in record {
-      owned = owned_without (λ (m : Arc (Mailbox g.row.L.Denot) Global). (arc_value m).client) (λ q. tree.get nat_cmp s.boxes q) (λ q. tree.get nat_cmp c.remove.new.self q)
+      owned = owned_without (λ (m : Arc (Mailbox g.row.L.Denot) Global). (arc_value m).client)
+          (λ q. tree.get nat_cmp s.boxes q) (λ q. tree.get nat_cmp c.remove.new.self q)
           client c.remove.ensures.updates.1 (λ q differs. c.remove.ensures.updates.2 q (is_other client q differs)) s.owned;
     }

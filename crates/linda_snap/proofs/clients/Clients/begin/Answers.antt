@@ -14,4 +14,10 @@ returns-clause-owes c begun bytes has same is =
 
 pub push_next-requires : goal.push_next-requires
 push_next-requires c =
-    omega (arith, ap length c.in_ok-extend_from_slice.ensures.items, length-append c.new-bytes.result.items c.to_be_bytes.result, ap length c.new-bytes.ensures.items, ap length c.to_be_bytes.ensures)
+    omega (
+      arith,
+      ap length c.in_ok-extend_from_slice.ensures.items,
+      length-append c.new-bytes.result.items c.to_be_bytes.result,
+      ap length c.new-bytes.ensures.items,
+      ap length c.to_be_bytes.ensures,
+    )

@@ -8,10 +8,12 @@ use Rattle.linda_store.proofs.volatile.VolatileNode.close.Goals as goal
 
 pub returns-in-Ok : goal.returns-in-Ok
 returns-in-Ok c =
-    done c.args.self.now.before.value c.of.result.value c.args.self.now.store c.close.new.self (sym c.is_spent.ensures.spent ∙ c.if-is_spent.false) (hangs_up c.args.client ∷ []) [] c.in-Ok.sends.items c.in-Ok.ensures.unspent.1
+    done c.args.self.now.before.value c.of.result.value c.args.self.now.store c.close.new.self
+    (sym c.is_spent.ensures.spent ∙ c.if-is_spent.false) (hangs_up c.args.client ∷ []) [] c.in-Ok.sends.items c.in-Ok.ensures.unspent.1
     (one_only c.args.self.now.store.state c.close.new.self.state c.args.self.now.store.soft (hangs_up c.args.client)
     (record { deed = None; sends = c.in-Ok.sends.items; soft = c.close.new.self.soft }) (ap only_sends c.in-Ok.ensures.ok, c.in-Ok.ensures.state))
 
 pub returns-in-Err : goal.returns-in-Err
 returns-in-Err c =
-    went_down c.args.self.now.before.value c.of.result.value c.args.self.now.store c.close.new.self (sym c.is_spent.ensures.spent ∙ c.if-is_spent.false) (hangs_up c.args.client ∷ []) c.in-Err.ensures.err (c.of.ensures ∙ c.state.ensures.state)
+    went_down c.args.self.now.before.value c.of.result.value c.args.self.now.store c.close.new.self (sym c.is_spent.ensures.spent
+    ∙ c.if-is_spent.false) (hangs_up c.args.client ∷ []) c.in-Err.ensures.err (c.of.ensures ∙ c.state.ensures.state)

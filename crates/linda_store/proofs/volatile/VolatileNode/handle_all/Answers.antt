@@ -8,7 +8,8 @@ pub returns-in-Err : goal.returns-in-Err
 returns-in-Err c = (
   [],
   (
-    went_down c.args.self.now.before.value c.of.result.value c.args.self.now.store c.step_all.new.self (sym c.is_spent.ensures.spent ∙ c.if-is_spent.false) (comings c.args.messages.now) c.in-Err.ensures.err (c.of.ensures ∙ c.state.ensures.state),
+    went_down c.args.self.now.before.value c.of.result.value c.args.self.now.store c.step_all.new.self (sym c.is_spent.ensures.spent
+        ∙ c.if-is_spent.false) (comings c.args.messages.now) c.in-Err.ensures.err (c.of.ensures ∙ c.state.ensures.state),
     refl,
   ),
 )

@@ -6,4 +6,5 @@ use Rattle.linda_store_state.proofs.state.State.do_again.Goals as goal
 
 pub returns-in-Pass-clause-after : goal.returns-in-Pass-clause-after
 returns-in-Pass-clause-after g c =
-    on_ok _ _ c.pass.result (λ after. subst (λ d. IsAfter c.args.self.now (d ∷ []) c.pass.new.self) (sym c.in-Pass.is) (after c.in-Pass.id)) c.pass.ensures.after
+    on_ok _ _ c.pass.result (λ after. subst (λ d. IsAfter c.args.self.now (d ∷ []) c.pass.new.self)
+    (sym c.in-Pass.is) (after c.in-Pass.id)) c.pass.ensures.after

@@ -10,7 +10,8 @@ pub returns-in-Some-clause-sends : goal.returns-in-Some-clause-sends
 returns-in-Some-clause-sends g c =
     let soft : Soft = record { holds = c.self.inside.holds; waits = c.self.inside.waits } in
     subst
-    (λ s. IfOk c.with_tuple.result (λ sends. AnswersAsk (g.B.Bag.contents c.args.bag.now) c.args.request c.args.remove c.args.template.now s (only_sent sends.items s)))
+    (λ s. IfOk c.with_tuple.result
+    (λ sends. AnswersAsk (g.B.Bag.contents c.args.bag.now) c.args.request c.args.remove c.args.template.now s (only_sent sends.items s)))
     c.self.view_is
     (IfOk-weaker c.with_tuple.result _ _ (λ sends. offered_again _ _ _ _ soft sends.items c.in-Some.id c.in-Some.ensures.value) c.with_tuple.ensures)
 
@@ -18,16 +19,19 @@ pub returns-then-contains-clause-sends : goal.returns-then-contains-clause-sends
 returns-then-contains-clause-sends g c =
     let soft : Soft = record { holds = c.self.inside.holds; waits = c.self.inside.waits } in
     subst
-    (λ s. AnswersAsk (g.B.Bag.contents c.args.bag.now) c.args.request c.args.remove c.args.template.now s (only_sent c.new.result.items s))
+    (λ s. AnswersAsk (g.B.Bag.contents c.args.bag.now) c.args.request c.args.remove c.args.template.now s (only_sent c.args.room.items s))
     c.self.view_is
-    (waits_on _ _ _ _ soft c.new.result.items c.in_default.ensures.value (sym c.contains.ensures ∙ c.if-contains.true) c.new.ensures.items)
+    (waits_on _ _ _ _ soft c.args.room.items c.in_default.ensures.value (sym c.contains.ensures ∙ c.if-contains.true) c.requires.room)
 
 pub returns-then-asks_too_much-clause-sends : goal.returns-then-asks_too_much-clause-sends
 returns-then-asks_too_much-clause-sends g c =
     let soft : Soft = record { holds = c.self.inside.holds; waits = c.self.inside.waits } in
     subst
-    (λ s. IfOk c.one_send.result (λ sends. AnswersAsk (g.B.Bag.contents c.args.bag.now) c.args.request c.args.remove c.args.template.now s (only_sent sends.items s)))
+    (λ s. IfOk c.one_send.result
+    (λ sends. AnswersAsk (g.B.Bag.contents c.args.bag.now) c.args.request c.args.remove c.args.template.now s (only_sent sends.items s)))
     c.self.view_is
     (IfOk-weaker c.one_send.result _ _
-    (λ sends sent. turned_away _ _ _ _ soft sends.items c.in_default.ensures.value (sym c.contains.ensures ∙ c.if-contains.false) (ap (λ s. nat_le MAX_ASKS (open_asks c.args.request.client s)) c.self.view_is ∙ sym c.if-asks_too_much.ensures) (sent ∙ ap (λ reply. (c.args.request.client, reply) ∷ []) c.reply.ensures))
+    (λ sends sent. turned_away _ _ _ _ soft sends.items c.in_default.ensures.value (sym c.contains.ensures ∙ c.if-contains.false)
+    (ap (λ s. nat_le MAX_ASKS (open_asks c.args.request.client s)) c.self.view_is ∙ sym c.if-asks_too_much.ensures)
+    (sent ∙ ap (λ reply. (c.args.request.client, reply) ∷ []) c.reply.ensures))
     c.one_send.ensures)

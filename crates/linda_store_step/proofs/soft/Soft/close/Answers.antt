@@ -1,5 +1,5 @@
 use Rattle.std.proofs.Common.{not, ◌==◌, sym, subst}
-use Rattle.linda_bag.specs.Starts.{AreRight}
+use Rattle.linda_bag.specs.SearchHints.{AreRight}
 use Rattle.linda_store_step.specs.Looking.{is_held}
 use Rattle.linda_store_step.specs.Soft.{Soft, AreApart}
 use Rattle.linda_store_step.proofs.ApartLaws.{fewer_apart}
@@ -17,4 +17,4 @@ release_all-requires g c =
 pub returns-clause-right : goal.returns-clause-right
 returns-clause-right g c = λ next rights.
     c.in_ok-release_all.ensures.right next
-    (subst (λ (s : Soft). AreRight (g.B.Bag.contents c.args.bag.now) (is_held s.holds) next c.args.starts.now) (sym c.self.view_is) rights)
+    (subst (λ (s : Soft). AreRight (g.B.Bag.contents c.args.bag.now) (is_held s.holds) next c.args.hints.now) (sym c.self.view_is) rights)

@@ -24,8 +24,10 @@ returns-in_ok-insert-clause-sends c =
     (c.in_ok-push.ensures.items
     ∙ ap (λ row. c.answer_reads.new.sends.items ++ offer_for c.args.id row c.in-Some.request ∷ []) c.in_ok-tuple.ensures
     ∙ ap (λ sends. sends ++ offer_for c.args.id c.args.tuple.now c.in-Some.request ∷ [])
-    (c.in_ok-answer_reads.ensures ∙ ap (λ requests. c.args.sends.now.items ++ map (read_for c.args.id c.args.tuple.now) requests) c.in_ok-readers.ensures.readers)
-    ∙ append_assoc c.args.sends.now.items (map (read_for c.args.id c.args.tuple.now) (map (λ w. w.0) (readers c.args.tuple.now soft.waits))) (offer_for c.args.id c.args.tuple.now c.in-Some.request ∷ [])
+    (c.in_ok-answer_reads.ensures
+    ∙ ap (λ requests. c.args.sends.now.items ++ map (read_for c.args.id c.args.tuple.now) requests) c.in_ok-readers.ensures.readers)
+    ∙ append_assoc c.args.sends.now.items (map (read_for c.args.id c.args.tuple.now) (map (λ w. w.0) (readers c.args.tuple.now soft.waits)))
+    (offer_for c.args.id c.args.tuple.now c.in-Some.request ∷ [])
     ∙ ap (λ t. c.args.sends.now.items ++ t.sends) (sym told))
 
 -- The answers to the reads alone.

@@ -1,6 +1,6 @@
 use Rattle.std.proofs.Common.{true, false, sym, ap, subst, nat_cmp}
 use Rattle.std.specs.BTreeSet.{contains}
-use Rattle.linda_bag.specs.Starts.{AreRight}
+use Rattle.linda_bag.specs.SearchHints.{AreRight}
 use Rattle.linda_store_step.specs.Looking.{IsLeast, is_held, passed_over}
 use Rattle.linda_store_step.proofs.LookingLaws.{least_found}
 use Rattle.linda_store_step.proofs.soft.Soft.least_match.Goals as goal
@@ -26,7 +26,7 @@ returns-else-remove-clause-least g c =
 -- What is held is what the holds have.
 pub least_match-requires : goal.least_match-requires
 least_match-requires g c =
-    subst (λ s. AreRight (g.B.Bag.contents c.args.bag.now) (is_held s.holds) c.args.next c.args.starts.now) (sym c.self.view_is) c.requires
+    subst (λ s. AreRight (g.B.Bag.contents c.args.bag.now) (is_held s.holds) c.args.next c.args.hints.now) (sym c.self.view_is) c.requires
 
 pub returns-then-remove-clause-right : goal.returns-then-remove-clause-right
 returns-then-remove-clause-right g c =

@@ -1,5 +1,5 @@
 use Rattle.std.proofs.Common.{ap, sym, subst, ◌∙◌}
-use Rattle.linda_bag.specs.Starts.{AreRight}
+use Rattle.linda_bag.specs.SearchHints.{AreRight}
 use Rattle.linda_hold.specs.Holds.{HeldFor}
 use Rattle.linda_store_step.specs.Soft.{Soft, AreApart}
 use Rattle.linda_store_step.specs.Looking.{is_held}
@@ -32,7 +32,8 @@ pub returns-in_ok-dispatch-in-Some-clause-right : goal.returns-in_ok-dispatch-in
 returns-in_ok-dispatch-in-Some-clause-right g c = λ next rights.
     let bag = g.B.Bag.contents c.args.bag.now in
     let soft : Soft = record { holds = c.self.inside.holds; waits = c.self.inside.waits } in
-    let now = ap (λ (s : Soft). s.holds) c.in_ok-dispatch-in-Some.ensures.soft ∙ ap (λ (h : HeldFor). (dispatch c.args.id c.in-Some.tuple.now (record { holds = h; waits = c.self.inside.waits })).soft.holds) c.remove.ensures in
+    let now = ap (λ (s : Soft). s.holds) c.in_ok-dispatch-in-Some.ensures.soft
+    ∙ ap (λ (h : HeldFor). (dispatch c.args.id c.in-Some.tuple.now (record { holds = h; waits = c.self.inside.waits })).soft.holds) c.remove.ensures in
     c.note_free.ensures bag (is_held soft.holds) next (sym c.in-Some.ensures)
     (released_elsewhere c.args.id c.in-Some.tuple.now soft c.dispatch.new.self.holds now)
-    (subst (λ (s : Soft). AreRight bag (is_held s.holds) next c.args.starts.now) (sym c.self.view_is) rights)
+    (subst (λ (s : Soft). AreRight bag (is_held s.holds) next c.args.hints.now) (sym c.self.view_is) rights)

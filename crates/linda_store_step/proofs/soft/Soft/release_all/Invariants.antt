@@ -1,5 +1,5 @@
 use Rattle.std.proofs.Common.{◌≡◌, ◌++◌, ℕ}
-use Rattle.linda_bag.specs.Starts.{AreRight}
+use Rattle.linda_bag.specs.SearchHints.{AreRight}
 use Rattle.linda_store_step.specs.Soft.{AreApart}
 use Rattle.linda_store_step.specs.Looking.{is_held}
 use Rattle.linda_store_step.specs.Dispatch.{release_all}
@@ -9,7 +9,9 @@ use Rattle.linda_store_step.proofs.soft.Soft.release_all.Given as goal
 abbrev pub invariant-loop-id : goal.invariant-loop-id
 invariant-loop-id g l = record {
   apart : AreApart l.self;
-  sends : l.sends.items ++ (release_all (g.B.Bag.contents l.bag) l.id-iterator.rest.items l.self).sends ≡ l.fn.sends.items ++ (release_all (g.B.Bag.contents l.bag) l.fn.ids.items l.fn.self).sends;
+  sends : l.sends.items ++ (release_all (g.B.Bag.contents l.bag) l.id-iterator.rest.items l.self).sends
+      ≡ l.fn.sends.items ++ (release_all (g.B.Bag.contents l.bag) l.fn.ids.items l.fn.self).sends;
   soft : (release_all (g.B.Bag.contents l.bag) l.id-iterator.rest.items l.self).soft ≡ (release_all (g.B.Bag.contents l.bag) l.fn.ids.items l.fn.self).soft;
-  right : (next : ℕ) → AreRight (g.B.Bag.contents l.bag) (is_held l.fn.self.holds) next l.fn.starts → AreRight (g.B.Bag.contents l.bag) (is_held l.self.holds) next l.starts;
+  right : (next : ℕ) → AreRight (g.B.Bag.contents l.bag) (is_held l.fn.self.holds) next l.fn.hints
+      → AreRight (g.B.Bag.contents l.bag) (is_held l.self.holds) next l.hints;
 }

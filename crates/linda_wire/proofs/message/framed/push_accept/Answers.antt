@@ -1,10 +1,14 @@
-use Rattle.std.proofs.Common.{◌∷◌, ◌++◌}
+use Rattle.std.proofs.Common.{◌∷◌}
 use Rattle.linda_codec.specs.Formats.{number}
+use Rattle.linda_wire.specs.Frames.{stored}
 use Rattle.linda_wire.specs.declared.kinds.TheConstants.{ACCEPT}
-use Rattle.linda_wire.proofs.AppendLaws.{both_behind}
+use Rattle.linda_wire.proofs.AppendLaws.{both_behind, appended}
 use Rattle.linda_wire.proofs.message.framed.push_accept.Goals as goal
 
 pub returns-clause-ok : goal.returns-clause-ok
 returns-clause-ok c =
-    both_behind c.push_pair.result c.args.out.now.items (ACCEPT ∷ number.spell c.args.n) (number.spell c.args.ticket ++ number.spell c.args.id)
-    c.push_numbered.new.out.items c.push_pair.new.out.items c.in_ok-push_numbered.ensures.ok c.push_pair.ensures.ok
+    let mid = c.push_placed.new.out.items in
+    let new = c.extend_from_slice.new.self.items in
+    both_behind c.extend_from_slice.result c.args.out.now.items (ACCEPT ∷ stored.spell (c.args.n, c.args.ticket)) (number.spell c.args.id)
+    mid new c.in_ok-push_placed.ensures.ok
+    (appended c.extend_from_slice.result mid c.to_be_bytes.result (number.spell c.args.id) new c.to_be_bytes.ensures c.extend_from_slice.ensures.items)

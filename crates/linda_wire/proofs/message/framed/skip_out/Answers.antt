@@ -10,5 +10,6 @@ use Rattle.linda_wire.proofs.message.framed.skip_out.Goals as goal
 
 pub returns : goal.returns
 returns c =
-    let same = left_made (format.out.read c.args.body.now) (λ p. Out p.0 p.1) ∙ left_behind number (value.tuple spoken) c.args.body.now c.in_ok-_n._n c.in_ok-_n.rest.now c.in_ok-_n.ensures in
+    let same = left_made (format.out.read c.args.body.now) (λ p. Out p.0 p.1)
+    ∙ left_behind number (value.tuple spoken) c.args.body.now c.in_ok-_n._n c.in_ok-_n.rest.now c.in_ok-_n.ensures in
     subst (λ l. GivesAlways (λ rest. rest.now) c.skip_tuple.result l) (sym same) c.skip_tuple.ensures

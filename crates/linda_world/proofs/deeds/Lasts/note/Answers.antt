@@ -1,6 +1,6 @@
 use Rattle.std.proofs.Common.{ap, ◌∙◌}
 use Rattle.std.specs.FinMap.{insert}
-use Rattle.linda_maps.proofs.MapLaws.{one_set}
+use Rattle.linda_map_laws.proofs.MapLaws.{one_set}
 use Rattle.linda_world.proofs.deeds.Lasts.note.Goals as goal
 
 pub returns-clause-ok : goal.returns-clause-ok

@@ -1,5 +1,5 @@
 use Rattle.std.proofs.Common.{ap, ◌∙◌}
-use Rattle.linda_maps.proofs.MapLaws.{viewed}
+use Rattle.linda_map_laws.proofs.MapLaws.{viewed}
 use Rattle.linda_world.specs.Noted.{noted_number}
 use Rattle.linda_world.proofs.deeds.Lasts.of.Goals as goal
 

@@ -1,5 +1,5 @@
 use Rattle.std.proofs.Common.{ap, ◌∙◌, is_some}
-use Rattle.linda_maps.proofs.MapLaws.{viewed}
+use Rattle.linda_map_laws.proofs.MapLaws.{viewed}
 use Rattle.linda_world.proofs.member.Members.has.Goals as goal
 
 pub returns : goal.returns

@@ -1,5 +1,5 @@
 use Rattle.std.proofs.Common.{sym}
-use Rattle.linda_maps.proofs.MapLaws.{one_gone}
+use Rattle.linda_map_laws.proofs.MapLaws.{one_gone}
 use Rattle.linda_shared_held.proofs.FloorLaws.{floor_taken, no_floor}
 use Rattle.linda_shared_held.proofs.held.recall.Recall.take_floor.Goals as goal
 

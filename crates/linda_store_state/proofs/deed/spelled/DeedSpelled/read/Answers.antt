@@ -17,12 +17,14 @@ never view (Err fault) read given e = given.0 (cc)
 
 pub returns-in-1-clause-memory : goal.returns-in-1-clause-memory
 returns-in-1-clause-memory c e =
-    out_there c.args.form c.args.bytes.now (take (length c.args.bytes.now - 1) (drop 1 c.args.bytes.now)) (grind (arith, common_steps)) (c.out_from.ensures.memory e)
+    out_there c.args.form c.args.bytes.now (take (length c.args.bytes.now - 1) (drop 1 c.args.bytes.now))
+    (grind (arith, common_steps)) (c.out_from.ensures.memory e)
 
 pub returns-in-1-clause-value : goal.returns-in-1-clause-value
 returns-in-1-clause-value c =
     subst (Gives (λ x. (x.0, x.1.now)) c.out_from.result)
-    (sym (out_at c.args.form c.args.bytes.now (take (length c.args.bytes.now - 1) (drop 1 c.args.bytes.now)) (grind (arith, common_steps)))) c.out_from.ensures.value
+    (sym (out_at c.args.form c.args.bytes.now (take (length c.args.bytes.now - 1) (drop 1 c.args.bytes.now)) (grind (arith, common_steps))))
+    c.out_from.ensures.value
 
 pub returns-in-2-clause-value : goal.returns-in-2-clause-value
 returns-in-2-clause-value c =

@@ -13,9 +13,11 @@ returns-in-1 c =
 pub returns-in-2 : goal.returns-in-2
 returns-in-2 c =
     subst (λ r. GivesAlways (λ rest. rest.now) c.skip_take.result (left_by r))
-    (sym (take_at c.args.form c.args.bytes.now (take (length c.args.bytes.now - 1) (drop 1 c.args.bytes.now)) (grind (arith, common_steps)))) c.skip_take.ensures
+    (sym (take_at c.args.form c.args.bytes.now (take (length c.args.bytes.now - 1) (drop 1 c.args.bytes.now)) (grind (arith, common_steps))))
+    c.skip_take.ensures
 
 pub returns-in-3 : goal.returns-in-3
 returns-in-3 c =
     subst (λ r. GivesAlways (λ rest. rest.now) c.skip_pass.result (left_by r))
-    (sym (pass_at c.args.form c.args.bytes.now (take (length c.args.bytes.now - 1) (drop 1 c.args.bytes.now)) (grind (arith, common_steps)))) c.skip_pass.ensures
+    (sym (pass_at c.args.form c.args.bytes.now (take (length c.args.bytes.now - 1) (drop 1 c.args.bytes.now)) (grind (arith, common_steps))))
+    c.skip_pass.ensures

@@ -1,8 +1,0 @@
-use Rattle.linda_bag.proofs.OrderLaws.{number_itself}
-use Rattle.linda_bag.proofs.BareLaws.{map_bare}
-use Rattle.linda_bag.proofs.heads.CountsShelf.is_empty.Goals as goal
-
-pub returns : goal.returns
-returns g c = λ rows filed.
-    let bare = map_bare _ number_itself _ g.T.Headed.count_of c.args.self.now.groups rows filed in
-    ((λ yes. bare.0 (c.is_empty.ensures.0 yes)), (λ none. c.is_empty.ensures.1 (bare.1 none)))

@@ -1,0 +1,18 @@
+-- What is known of the server stays.
+use Rattle.std.proofs.Math.Logic.{∥∥₁_map}
+use Rattle.linda_shared_held.proofs.FaultLaws.{still_taken}
+use Rattle.linda_shared_held.proofs.KeptLaws.{still_order, still_covered}
+use Rattle.linda_shared_held.proofs.held.Held.preallocate.Goals as goal
+
+pub invariant_of-self : goal.invariant_of-self
+invariant_of-self g c =
+    let h = c.args.self.now in
+    let s = c.preallocate.new.server in
+    let still = still_taken h.server s c.preallocate.result c.preallocate.ensures.takes.still
+    c.preallocate.ensures.takes.up c.preallocate.ensures.takes.store in
+    record {
+      in_order = ∥∥₁_map h.in_order (still_order h.server s still);
+      remembers = h.remembers;
+      counted = h.counted;
+      covered = ∥∥₁_map h.covered (still_covered h.server s h.boxes h.boxes still (λ st covered. covered));
+    }

@@ -1,0 +1,105 @@
+"""Servers, each a process on a folder; checks that are played for each way of serving; ports and open files."""
+
+import functools
+import os
+import resource
+import socket
+import subprocess
+from pathlib import Path
+
+from played.program import PATIENCE, PROGRAM, SOON
+
+# A snapshot is due after so many records.
+SNAPSHOT_RECORDS = 1_024
+# The ways of serving, each with the words for it.
+WAYS = {"loops": (), "threads": ("--threads",)}
+
+
+class Server:
+    """A server on a folder. `ready` waits for its line; `kill` is kill -9."""
+
+    # Words that each server is given, besides its own.
+    way = ()
+
+    def __init__(self, folder, port=0, *words, before=None):
+        where = () if port is None else ("--port", str(port))
+        self.process = subprocess.Popen([PROGRAM, "serve", *where, "--dir", str(folder), *self.way, *map(str, words)], preexec_fn=before,
+                                        stdout=subprocess.PIPE, stderr=subprocess.PIPE, text=True)
+        line = self.process.stdout.readline()
+        assert line.startswith("ready "), (line, self.process.stderr.read())
+        self.place = line.rstrip("\n").partition(" ")[2]
+        self.port = None if port is None else int(self.place)
+
+    def __enter__(self):
+        return self
+
+    def __exit__(self, *_):
+        self.kill()
+
+    def kill(self):
+        self.process.kill()
+        self.process.wait()
+        self.process.stdout.close()
+        self.process.stderr.close()
+
+    def processor_time(self):
+        """How many seconds of processor time it took until now."""
+        fields = Path(f"/proc/{self.process.pid}/stat").read_text().rpartition(")")[2].split()
+        return (int(fields[11]) + int(fields[12])) / os.sysconf("SC_CLK_TCK")
+
+    def end(self):
+        out, err = self.process.communicate(timeout=PATIENCE)
+        return self.process.returncode, out, err
+
+
+def each_way(check):
+    """The check for each way of serving, in a folder of its own: all its servers serve in that way."""
+    @functools.wraps(check)
+    def whole(folder):
+        for way, words in WAYS.items():
+            own = folder / way
+            own.mkdir()
+            Server.way = words
+            try:
+                check(own)
+            except (AssertionError, OSError) as fault:
+                raise AssertionError(f"{way}: {fault}") from fault
+            finally:
+                Server.way = ()
+    return whole
+
+
+def in_both_ways(check):
+    """The check over a server with loops, and over one with two threads for each connection."""
+    @functools.wraps(check)
+    def whole(folder):
+        for way, words in WAYS.items():
+            own = folder / way
+            own.mkdir()
+            with Server(own, 0, *words) as server:
+                try:
+                    check(server)
+                except (AssertionError, OSError) as fault:
+                    raise AssertionError(f"{way}: {fault}") from fault
+    return whole
+
+
+def free_port():
+    """A port that nobody listens on now."""
+    with socket.socket() as found:
+        found.bind(("127.0.0.1", 0))
+        return found.getsockname()[1]
+
+
+def is_refused(port, host="127.0.0.1"):
+    try:
+        socket.create_connection((host, port), timeout=SOON).close()
+        raise AssertionError(f"{host} takes connections on port {port}")
+    except ConnectionRefusedError:
+        pass
+
+
+def many_files():
+    """This process, and servers that it begins, may have as many open files as the system allows, up to some thousands."""
+    hard = resource.getrlimit(resource.RLIMIT_NOFILE)[1]
+    resource.setrlimit(resource.RLIMIT_NOFILE, (min(hard, 10_000), hard))

@@ -1,0 +1,105 @@
+"""Checks of snapshots: when a server takes one, in which steps, and a copy of the banks meanwhile."""
+
+import json
+import os
+import subprocess
+import time
+import urllib.request
+
+import banks
+import client as frames
+from played.inspection import bank_of, records_in, tuples_in
+from played.peers import Peer, puts
+from played.program import PATIENCE, TOP, equal, wait_until
+from played.servers import SNAPSHOT_RECORDS, Server, free_port
+
+
+def snapshots_of_a_server(folder):
+    """After as many records as make one due a snapshot is taken, and the other bank is in use, with few records."""
+    with Server(folder) as server:
+        puts(server.port, 7, 1100)
+        wait_until(lambda: records_in(folder)[0], 2)
+        equal(records_in(folder)[1] < 1000, True)
+        equal(len(tuples_in(folder)), 1100)
+
+
+def a_snapshot_is_put_off(folder):
+    """After a start beside a snapshot that was cut off its room is given back, and the next one, though there are records enough, waits for half as many bytes of them."""
+    with Server(folder) as server:
+        puts(server.port, 7, 1_023)
+    equal(records_in(folder), (1, 1_023))
+    (folder / "right.bank").write_bytes(bytes(10_000))
+    with Server(folder) as server:
+        peer, number, (_, size) = Peer(server.port, 8), 0, bank_of(folder, "left")
+        equal((folder / "right.bank").read_bytes(), b"\0")
+        while (more := bank_of(folder, "left")[1] - size) < 4_000:
+            for number in range(number + 1, number + 11):
+                equal(peer.ask(frames.out(number, "b", number)), f"Stored number {number}, id {1_023 + number}")
+        # (ten looks of the thread that takes snapshots)
+        time.sleep(1)
+        equal(("a snapshot was taken after bytes", more, records_in(folder)), ("a snapshot was taken after bytes", more, (1, 1_023 + number)))
+        for number in range(number + 1, number + 101):
+            equal(peer.ask(frames.out(number, "b", number)), f"Stored number {number}, id {1_023 + number}")
+        wait_until(lambda: records_in(folder)[0], 2)
+
+
+# Copies the first of two files, and the second once it may.
+SLOW_CP = """#!/bin/sh
+/bin/cp "$1" "$3"
+if [ ! -e '{folder}/begun' ]; then
+    touch '{folder}/begun'
+    while [ ! -e '{folder}/go' ]; do sleep 0.01; done
+fi
+/bin/cp "$2" "$3"
+"""
+
+
+def a_copy_while_banks_change(folder):
+    """A copy by examples/backup.sh is made anew if the server goes over to its other bank after the first file was copied; it has all that was answered."""
+    space, copy, slow = (folder / name for name in ("space", "copy", "slow"))
+    for it in (space, slow):
+        it.mkdir()
+    (space / "left.bank").write_bytes(b"\0")
+    (space / "right.bank").write_bytes(banks.spell_bank(2, banks.State()))
+    (slow / "cp").write_text(SLOW_CP.format(folder=folder))
+    (slow / "cp").chmod(0o755)
+    with Server(space) as server:
+        puts(server.port, 7, 10)
+        copying = subprocess.Popen([TOP / "examples/backup.sh", space, copy], env={**os.environ, "PATH": f"{slow}:{os.environ['PATH']}"}, stderr=subprocess.PIPE, text=True)
+        try:
+            wait_until((folder / "begun").exists, True)
+            peer = Peer(server.port, 8)
+            for number in range(1, SNAPSHOT_RECORDS + 76):
+                equal(peer.ask(frames.out(number, "b")), f"Stored number {number}, id {10 + number}")
+            wait_until(lambda: records_in(space)[0], 3)
+        finally:
+            (folder / "go").touch()
+            _, err = copying.communicate(timeout=PATIENCE)
+        equal((copying.returncode, err), (0, "backup: the server went over to its other bank, so once more\n"))
+        equal(len(tuples_in(copy)), 10 + SNAPSHOT_RECORDS + 75)
+
+
+def snapshots_in_steps(folder):
+    """A bank of more than 256 KiB has its snapshot in steps, while tuples are put: one comes, and then the next one. Each time the server counts as many
+    records as the bank has, and every tuple is there."""
+    status, done = free_port(), 0
+
+    def counted():
+        with urllib.request.urlopen(f"http://127.0.0.1:{status}/status.json", timeout=PATIENCE) as got:
+            return json.load(got)["records"]
+
+    with Server(folder, 0, "--status", status) as server:
+        peer = Peer(server.port, 7)
+        for generation in (2, 3):
+            before = done
+            while records_in(folder)[0] < generation:
+                # (5,000 at least, in a record for each four of them, or for fewer)
+                equal(done - before < 40_000, True)
+                for _ in range(250):
+                    places = range(done + 1, done + 5)
+                    peer.send(*(frames.out(place, "a", place, "letters" * 15) for place in places))
+                    equal([peer.hear() for _ in places], [f"Stored number {place}, id {place}" for place in places])
+                    done += len(places)
+            equal(done - before >= 2_500, True)
+            equal(records_in(folder), (generation, counted()))
+            equal(len(tuples_in(folder)), done)
