@@ -1,20 +1,32 @@
 #!/bin/sh
-# Copies the store of a server that is at work, or of none: examples/backup.sh FOLDER COPY, where COPY is a new folder.
+# Copies the store of a server that is at work, or of none: examples/backup.sh FOLDER COPY, where COPY is a new folder, which nobody else may read.
 #
 # The copy opens with all that was answered before this began. It is made anew where the server went over to its other bank meanwhile, which the first
-# 13 bytes of both files tell: the gate and the generation of each bank (docs/FORMATS.md, "Banks").
+# 13 bytes of both files tell: the gate and the generation of each bank (docs/FORMATS.md, "Banks"). It is made as COPY.part, and is COPY once both files
+# are on the disk: a copy that cannot be finished is removed.
 set -eu
+umask 077
 
 heads() {
     head -q -c 13 "$1/left.bank" "$1/right.bank" | od -A n -t x1
 }
 
-mkdir "$2"
+if [ -e "$2" ]; then
+    echo "backup: $2 is there already" >&2
+    exit 1
+fi
+part=$2.part
+rm -rf "$part"
+mkdir "$part"
+trap 'rm -rf "$part"' EXIT
 while
     before=$(heads "$1")
-    cp "$1/left.bank" "$1/right.bank" "$2" || exit 1
+    cp "$1/left.bank" "$1/right.bank" "$part" || exit 1
     [ "$(heads "$1")" != "$before" ]
 do
     echo "backup: the server went over to its other bank, so once more" >&2
 done
-sync "$2/left.bank" "$2/right.bank" "$2"
+sync "$part/left.bank" "$part/right.bank" "$part"
+mv "$part" "$2"
+trap - EXIT
+sync "$(dirname "$2")"

@@ -29,7 +29,7 @@ SOME = ALL.replace("capacity()", "len()")
 # What plays tests that it builds: of files as disks, and of servers and sessions with each allocation refused.
 FILES, REFUSED = "tools/tests linda_test_code_libraries disk::file", "tools/refused-growth quick"
 FILE_DISK, DEVICE = "crates/linda_disk/src/file_disk.rt", "tools/device"
-KNOWN = FILE_DISK.replace("file_disk", "known")
+KNOWN = FILE_DISK.replace("file_disk", "file_state")
 # A run in one process builds its program itself: a minute or two for each plant.
 IN_ONE = "tools/simulate 60 --inside 1"
 INSIDE = ("inside", IN_ONE, "DIFFERS")
@@ -80,11 +80,11 @@ PLANTS = [
     edit("a record is told without the sync after its gate", *INSIDE, "crates/linda_journal/src/gate.rt",
          "    write_synced(disk, gate, &[OPEN])\n", "    disk.write_at(gate, &[OPEN])\n"),
     edit("what is sent as a client leaves is not posted", *INSIDE, "crates/linda_shared/src/shared/group.rt",
-         "leave(self.alloc, account);\n        locked.post_all(rt, self.alloc, posts);\n", "leave(self.alloc, account);\n        let _ = (rt, posts);\n"),
+         "leave(self.alloc, account);\n            locked.post_all(rt, self.alloc, posts);\n", "leave(self.alloc, account);\n            let _ = (rt, posts);\n"),
     edit("a tuple stays held for a client that is gone", *INSIDE, "crates/linda_store_step/src/soft.rt",
          "        let held = self.holds.of_client(alloc, client)?;\n", "        let mut held = self.holds.of_client(alloc, client)?;\n        let _ = held.pop();\n"),
     edit("a snapshot in steps misses what is done meanwhile", *INSIDE, "crates/linda_server/src/next.rt",
-         "match writer.note(alloc, deeds) {", "match writer.note(alloc, &deeds[..0]) {"),
+         "match writer.buffer_deeds(alloc, deeds) {", "match writer.buffer_deeds(alloc, &deeds[..0]) {"),
     edit("a lease runs although its client speaks", *INSIDE, f"{NET}_loops/src/connection.rt",
          "                self.silence.end();\n                return ConnectionEvent::Message", "                return ConnectionEvent::Message"),
     edit("a connection that can be written again is not looked at", *INSIDE, f"{NET}_loops/src/sessions.rt",
@@ -149,7 +149,7 @@ PLANTS = [
          "    match file.read_exact_at(&mut piece, at as u64) {\n        Ok(()) => Ok(piece),\n        Err(_) => Err(DiskFault::Device),\n    }\n", "    let _ = (file, at);\n    Ok(piece)\n"),
     # ---- memory that is refused
     edit("a tuple that could not be put aside is taken", "refused growths, tests", f"{REFUSED} durable", "gives_the_next_bank_up_or_loses_nothing: growth",
-         "crates/linda_snap/src/snapshot_writer.rt", "        let copy = tuple.try_clone(alloc)?;\n        self.aside.insert(id, copy)?;\n        Ok(())\n",
+         "crates/linda_snap/src/snapshot_encoder.rt", "        let copy = tuple.try_clone(alloc)?;\n        self.aside.insert(id, copy)?;\n        Ok(())\n",
          "        if let Ok(copy) = tuple.try_clone(alloc) {\n            let _ = self.aside.insert(id, copy).is_ok();\n        }\n        Ok(())\n"),
     edit("deeds that could not be noted are taken for noted", "refused growths, tests", f"{REFUSED} durable", "gives_the_next_bank_up_or_loses_nothing: growth",
          "crates/linda_snap/src/bank_writer.rt", "        self.since.extend(&bytes)?;\n", "        let _ = self.since.extend(&bytes).is_ok();\n"),
@@ -179,7 +179,7 @@ PLANTS = [
     edit("an idle connection keeps the room of its largest reply", "counts", f"{COUNTS} memory_of_idle_connections", "idle connections, each sent 131 KB",
          "crates/linda_net_session/src/outgoing.rt", "if left == 0 && self.out", "if self.gone > 0 && self.out", build="one"),
     edit("the bank that was read stays in memory", "counts", f"{COUNTS} memory_after_a_start", "after a start over",
-         "crates/linda_disk/src/known.rt", "        self.front.truncate(most);\n        self.front.shrink_to_fit();\n", "        let _ = most;\n", build="one"),
+         "crates/linda_disk/src/file_state.rt", "        self.front.truncate(most);\n        self.front.shrink_to_fit();\n", "        let _ = most;\n", build="one"),
     edit("the other bank stays in memory too", "counts", f"{COUNTS} memory_after_a_start", "after a start over",
          f"{SERVE}/store.rt", "        Ok(FileDisk::with_front(alloc, file)?)\n", "        Ok(FileDisk::new(alloc, file)?)\n", build="two"),
     edit("receipts are never forgotten", "counts", f"{COUNTS} memory_over_many_puts", "each taken, leave",
@@ -251,7 +251,7 @@ PLANTS = [
          "        for _ in 0..100 {\n            let mut spare = Vec::new(self.alloc);\n            let _ = encode_reply(&mut spare, reply);\n        }\n"
          "        encode_reply(&mut self.out, reply)\n", build="two"),
     edit("the first snapshot after one that was cut off is not put off", "sockets", f"{SOCKETS} a_snapshot_is_put_off", "a snapshot was taken",
-         f"{SERVE}/start.rt", "put_off: Some(room_of(torso))", "put_off: Some(room_of(torso)).filter(|_| false)", build="two"),
+         f"{SERVE}/start.rt", "put_off: Some(room_of(partial_bank))", "put_off: Some(room_of(partial_bank)).filter(|_| false)", build="two"),
     # ---- what a command does before it begins, and what is said of it
     edit("a call without a standard output puts its tuple", "sockets", f"{SOCKETS} calls_without_streams", "FAILED",
          "crates/linda/src/main.rt", "        Task::Call { .. } => true,\n", "        Task::Call { .. } => false,\n", build="two"),
@@ -302,7 +302,7 @@ PLANTS = [
          "        return Result(part, status == 0, seconds,", "        return Result(part, not status, seconds,"),
     # ---- pages and packages
     # (the parts of the old texts are apart here, so that each is in this file once)
-    edit("a plant of a file that moved", "links", "tools/links", "has its old text 0 times", "tools/plants.py", '"crates/linda_disk/' 'src/known.rt"', '"crates/linda_disk/src/once.rt"'),
+    edit("a plant of a file that moved", "links", "tools/links", "has its old text 0 times", "tools/plants.py", '"crates/linda_disk/' 'src/file_state.rt"', '"crates/linda_disk/src/once.rt"'),
     edit("a mutant of a text that changed", "links", "tools/links", "audit/linda/.*has its old text 0 times", "crates/linda/src/main.rt",
          "Err(fault) => end(rt, fault, fault.status()),", "Err(fault) => end(rt, fault, { fault.status() }),"),
     edit("a snapshot after 2,048 records", "said", "tools/said", "2,048", "docs/OPERATING.md", "by itself: after 1,024 records, or 32 MiB", "by itself: after 2,048 records, or 64 MiB"),

@@ -13,7 +13,7 @@ import assert from 'node:assert/strict';
 import { spawn, spawnSync } from 'node:child_process';
 import { createHash } from 'node:crypto';
 import { once } from 'node:events';
-import { cpSync, mkdirSync, mkdtempSync, readdirSync, readFileSync, readlinkSync, rmSync, writeFileSync } from 'node:fs';
+import { cpSync, mkdirSync, mkdtempSync, readdirSync, readFileSync, readlinkSync, realpathSync, rmSync, symlinkSync, writeFileSync } from 'node:fs';
 import { open } from 'node:fs/promises';
 import http from 'node:http';
 import net from 'node:net';
@@ -954,6 +954,66 @@ describe('over servers', { concurrency: 4 }, () => {
         assert.deepEqual([one.pending, await one.lastReply(), (await one.out(['a'])).id], [null, null, 1]);
     });
 
+    play('holes in arrays', async (scene) => {
+        const server = await scene.serve(), one = await scene.space(server), { port } = server;
+        const hole = (items, place) => { delete items[place]; return items; };
+        const fault = await fails(one.outMany(hole([['a'], ['a'], ['a']], 1)), OutOfRange, { pending: null });
+        assert.match(fault.message, /^tuple 1: /);
+        const wrong = range(0, 1_000).map((item) => ['a', item === 777 ? 1.5 : item]);
+        assert.match((await fails(one.outMany(wrong), OutOfRange)).message, /^tuple 777: /);
+        await fails(one.out(hole(['a', 1, 2], 1)), OutOfRange);
+        assert.deepEqual([await one.look(['a']), one.pending], [null, null]);
+        await fails(Space.connect(hole([port, port], 1), { client: 8 }), OutOfRange);
+        for (const client of [new Array(3), hole([8, 9], 0)]) {
+            const { message } = await fails(Space.connect([port], { client }), OutOfRange);
+            assert.match(message, /^a client is an integer from 0 to 4294967295: undefined$/);
+            assert.throws(() => new Pool([port], { client }), OutOfRange);
+        }
+        await fails(one.work(hole([In('job'), In('job')], 1), () => {}), OutOfRange);
+        await one.out(['job', 1]);
+        await assert.rejects(one.work(['job', INT], () => hole([['a'], ['a'], ['a']], 1), { tries: 3 }), TypeError);
+        await fails(one.work(['job', INT], () => hole([['a'], ['a']], 0)), OutOfRange);
+        assert.deepEqual([await one.look(['a']), await one.take(['job', INT])], [null, ['job', 1]]);
+    });
+
+    play('errors show any value', async (scene) => {
+        const one = await scene.space(await scene.serve()), circle = [];
+        circle.push(circle);
+        const wrong = [Object.create(null), { toString() { throw new Error('own'); } }, circle, Symbol('a'), () => {}, new Array(2 ** 32 - 1),
+            [['x'.repeat(9_999)]], { toString: () => 'x'.repeat(9_999) }, range(0, 9_999), 2n ** 99_999n];
+        for (const value of wrong) {
+            const { message } = await fails(one.out(['a', value]), OutOfRange, { pending: null });
+            assert.ok(typeof value === 'bigint' || message.length < 260, message);
+            await fails(one.choose([value]), OutOfRange);
+            await fails(Space.connect(value), OutOfRange);
+            await fails(Space.connect([value]), OutOfRange);
+        }
+        const { message } = await fails(one.out(['a', ['x', [1, true], 5n]]), OutOfRange);
+        assert.ok(message.endsWith(': ["x", [1, true], 5n]'), message);
+        assert.match((await fails(Space.connect(['sock']), OutOfRange)).message, /a unix socket, with a slash: "sock"$/);
+    });
+
+    play('events that are in another one many times', async (scene) => {
+        const server = await scene.serve(), one = await scene.space(server), pool = new Pool([server.port], { client: 8 });
+        scene.spaces.push(pool);
+        const nested = (first, times, above) => range(0, times).reduce(above, first), twice = (event) => Choose(event, event);
+        const empty = nested(Choose(), 60, twice), deep = nested(In('a'), 100_000, (event, label) => Wrap(label, event));
+        const wrong = [nested(In('a'), 60, twice), nested(Never(), 60, twice), deep, nested(Nack(1, Choose()), 60, twice),
+            nested(Choose(), 60, (event) => Nack(1, twice(event)))];
+        for (const event of wrong) {
+            for (const callee of [one, pool]) {
+                await fails(callee.sync(event), OutOfRange, { pending: null });
+                await fails(callee.choose([event], { timeout: 0 }), OutOfRange);
+            }
+        }
+        assert.match((await fails(one.sync(deep), OutOfRange)).message, /under more than 64 nodes/);
+        const leafless = nested(Choose(), 100_000, (event, label) => Wrap(label, event));
+        for (const callee of [one, pool]) {
+            const { kind, base, raised } = await callee.sync(Choose(empty, leafless, Nack(5, empty), Wrap(3, Nack(4, Always(1)))));
+            assert.deepEqual([kind, base, raised], ['always', 0, [5]]);
+        }
+    });
+
     play('events at their limits', async (scene) => {
         const one = await scene.space(await scene.serve());
         await one.out(['a']);
@@ -1277,6 +1337,7 @@ describe('waits', { concurrency: 4 }, () => {
         assert.deepEqual(stored.map(({ id }) => id), range(1, 101));
         const taking = one.take(['a']).then(note('take'));
         const later = [one.out(['b']).then(note('out')), one.look(['b']).then(note('look'))];
+        while (one.pending !== 'sync') await sleep(5);
         await fails(one.out(['c'], { signal: AbortSignal.timeout(50) }), Aborted, { pending: 'sync' });
         assert.equal(await other.look(['b']), null);
         await other.out(['a']);
@@ -1370,6 +1431,32 @@ describe('waits', { concurrency: 4 }, () => {
             await fake.end();
         });
     }
+
+    play('what is pending comes before what was taken', async (scene) => {
+        const abort = new AbortController();
+        const fake = await scene.fake(async (peer) => {
+            await greets(peer, 4);
+            await peer.expect(frames.ask(1, true, ['a', INT]));
+            peer.send(offer(1, 3, ['a', 8]));
+            await peer.expect(frames.accept(5, 1, 3));
+            abort.abort();
+            await sleep(30);
+            peer.send(taken(5, 3, ['a', 8]));
+            await peer.expect(frames.out(6, ['b']), frames.out(6, ['b']));
+            peer.send(stored(6, 4), stored(6, 4));
+            await peer.end();
+        });
+        const one = await scene.space(fake);
+        await fails(one.take(['a', INT], { signal: abort.signal }), Aborted, { pending: 'sync' });
+        await fails(one.out(['b'], { timeout: 500 }), TimedOut, { pending: 'out' });
+        assert.equal(one.pending, 'out');
+        const { kind, id } = await one.again();
+        assert.deepEqual([kind, id, one.pending], ['stored', 4, 'sync']);
+        assert.deepEqual([(await one.again()).tuple, one.pending], [['a', 8], null]);
+        await fails(one.again(), Idle);
+        one.close();
+        await fake.end();
+    });
 
     play('aborted while a tuple is taken, which is refused', async (scene) => {
         const abort = new AbortController();
@@ -1725,7 +1812,7 @@ describe('holds', { concurrency: 4 }, () => {
         await one.out(['job', 1]);
         const held = await one.hold(['job', INT]);
         const failing = fails(one.choose([In('y').nack(3)]), Gone, { pending: null });
-        await sleep(50);
+        while (one.pending !== 'sync') await sleep(10);
         const again = await scene.restart(server);
         assert.deepEqual((await failing).offers, [held]);
         assert.deepEqual(one.abandon(), [3]);
@@ -1987,6 +2074,67 @@ describe('a number in use', { concurrency: 4 }, () => {
         one.close();
         await fake.end();
     });
+
+    for (const [name, last, call] of [['an out', 5, (one) => one.out(['b'])], ['outs', 6, (one) => one.outMany([['b'], ['c'], ['d']])]]) {
+        play(`${name} over a connection that has ended, a Welcome with what was never sent`, async (scene) => {
+            const fake = await scene.fake((peer) => greets(peer, 4), async (peer) => {
+                await greets(peer, last);
+                await peer.end();
+            });
+            const one = await scene.space(fake);
+            await sleep(50);
+            await fails(call(one), NumberInUse, { last, answered: 4, pending: null });
+            one.close();
+            await fake.end();
+        });
+    }
+
+    play('a Welcome with what was refused', async (scene) => {
+        const fake = await scene.fake(async (peer) => {
+            await greets(peer, 4);
+            await peer.expect(frames.out(5, ['b']));
+            peer.send(refusal(FULL, 0));
+        }, async (peer) => {
+            await greets(peer, 5);
+            await peer.end();
+        });
+        const one = await scene.space(fake);
+        await fails(one.out(['b']), Refused, { reason: 'Full', pending: null });
+        await sleep(50);
+        await fails(one.out(['b']), NumberInUse, { last: 5, answered: 4, pending: null });
+        one.close();
+        await fake.end();
+    });
+
+    play('an end that is there already is heard before anything is sent', async (scene) => {
+        const server = await scene.serve(), one = await scene.space(server, 7, { patience: LONG });
+        await one.out(['a']);
+        // Meanwhile this program does nothing else: the server is killed, and another program uses the number at the next one.
+        const text = `import { spawn } from 'node:child_process';
+            import { Space } from ${JSON.stringify(pathToFileURL(path.join(HERE, 'linda_space.mjs')).href)};
+            process.kill(${server.child.pid}, 'SIGKILL');
+            for (;;) {
+                const words = ['serve', '--port', '${server.port}', '--dir', ${JSON.stringify(server.folder)}];
+                const child = spawn(${JSON.stringify(PROGRAM)}, words, { stdio: ['ignore', 'pipe', 'ignore'] });
+                const isReady = await new Promise((resolve) => {
+                    child.stdout.once('data', () => resolve(true));
+                    child.once('exit', () => resolve(false));
+                });
+                if (!isReady) continue;
+                const other = await Space.connect([${server.port}], { client: 7, patience: ${LONG} });
+                await other.out(['b']);
+                child.kill('SIGKILL');
+                break;
+            }
+            process.exit(0);`;
+        const { status, stderr } = spawnSync(process.execPath, ['--input-type=module', '-e', text], { encoding: 'utf8' });
+        const failing = fails(one.out(['c']), NumberInUse, { last: 2, answered: 1, pending: null });
+        assert.equal(status, 0, stderr);
+        await server.ended;
+        const again = await scene.serve('one', server.port);
+        await failing;
+        assert.equal(await (await scene.space(again, 8)).look(['c']), null);
+    });
 });
 
 // ---- several at once
@@ -2215,12 +2363,15 @@ describe('several at once', { concurrency: 4 }, () => {
     });
 
     play('takes whose answers are late', async (scene) => {
+        const abort = new AbortController(), { signal } = abort;
         const fake = await scene.fake(async (peer) => {
             await greets(peer, 0);
             await peer.expect(...range(1, 4).map((ticket) => frames.ask(ticket, true, ['n', INT])), PROBE);
             peer.send(offer(1, 101, ['n', 1]), offer(2, 102, ['n', 2]));
             await peer.expect(frames.accept(1, 1, 101), frames.accept(2, 2, 102));
             peer.send(taken(1, 101, ['n', 1]));
+            await sleep(150);
+            abort.abort();
             await peer.expect(frames.cancel(3));
         }, async (peer) => {
             await greets(peer, 2);
@@ -2230,7 +2381,6 @@ describe('several at once', { concurrency: 4 }, () => {
             await peer.end();
         });
         const one = await scene.space(fake);
-        const signal = AbortSignal.timeout(150);
         await fails(one.takeMany(['n', INT], { count: 3, signal }), Aborted, { pending: 'takeMany', taken: [['n', 1]] });
         await fails(one.out(['b']), Busy, { pending: 'takeMany' });
         assert.deepEqual(await one.again(), [['n', 1], ['n', 2]]);
@@ -2595,6 +2745,46 @@ describe('work', { concurrency: 4 }, () => {
         assert.ok(faults.length >= 1 && faults.every((fault) => fault instanceof NoConnection), faults);
     });
 
+    play('goes on while another connection has its number', async (scene) => {
+        let server = await scene.serve(), isAway = false;
+        const faults = [], connect = (port) => {
+            if (isAway) throw new Error('away');
+            return net.connect({ port, host: '127.0.0.1', noDelay: true });
+        };
+        const one = await scene.space(server, 7, { connect, patience: 300 });
+        const options = { stop: Rd('stop'), onerror: (fault) => faults.push(fault) };
+        const working = one.work(['job', INT], (job) => ['done', job[1]], options);
+        await sleep(50);
+        isAway = true;
+        server = await scene.restart(server);
+        const other = await Peer.connect(server.port);
+        await other.greet(7);
+        isAway = false;
+        const isBusy = () => faults.some((fault) => fault instanceof Refused && fault.reason === 'Busy');
+        const over = working.then(() => 'over', (fault) => fault);
+        while (!isBusy()) assert.equal(await Promise.race([over, sleep(10)]), undefined);
+        other.stream.destroy();
+        const boss = await scene.space(server, 8);
+        await boss.out(['job', 1]);
+        assert.deepEqual(await boss.take(['done', INT], { timeout: LONG }), ['done', 1]);
+        await boss.out(['stop']);
+        assert.equal(await working, 1);
+    });
+
+    play('many at once, and a count at its limit', async (scene) => {
+        const server = await scene.serve(), heard = [], hear = ({ name, message }) => heard.push(`${name}: ${message}`);
+        process.on('warning', hear);
+        scene.closed.push(() => process.off('warning', hear));
+        const spaces = await Promise.all(range(20, 32).map((client) => scene.space(server, client)));
+        await Promise.all(spaces.map((one) => one.work(['none', INT], () => {}, { timeout: 100 })));
+        await turn();
+        assert.deepEqual(heard.filter((text) => text.startsWith('MaxListeners')), []);
+        const [one] = spaces, most = 2n ** 63n - 1n;
+        await one.out(['job', most]);
+        await one.work(['job', INT], () => { throw new Error('own'); }, { tries: 3, timeout: 100 });
+        assert.deepEqual(await one.take(['dead', INT, TEXT]), ['dead', most, 'Error: own']);
+    });
+
     play('goes on after a server had no room, and finishes what is unanswered', async (scene) => {
         const isRenewal = (peer) => { while (peer.came.subarray(0, 13).equals(RENEWAL)) peer.came = peer.came.subarray(13); };
         const hears = async (peer, data) => {
@@ -2921,6 +3111,93 @@ describe('a pool', { concurrency: 4 }, () => {
         assert.deepEqual(other, []);
     });
 
+    play('the time of a call counts from its beginning', async (scene) => {
+        const server = await scene.serve();
+        const pool = new Pool([server.port], { client: range(100, 102), size: 2 });
+        scene.spaces.push(pool);
+        const unserved = { servers: [], pending: null, message: 'no member of the pool was free in time' };
+        await pool.outMany([['job', 1], ['job', 2], ['job', 3]]);
+        const holds = [await pool.hold(['job', INT]), await pool.hold(['job', INT])];
+        // All members are lent.
+        await failsAfter(200, pool.out(['late'], { timeout: 200 }), TimedOut, unserved);
+        const calls = [
+            (timeout) => pool.outMany([['late']], { timeout }), (timeout) => pool.take(['job', INT], { timeout }),
+            (timeout) => pool.takeMany(['job', INT], { count: 1, timeout }), (timeout) => pool.purge(['job', INT], { timeout }),
+            (timeout) => pool.read(['job', INT], { timeout }), (timeout) => pool.look(['job', INT], { timeout }),
+            (timeout) => pool.choose([In('job', INT)], { timeout }), (timeout) => pool.hold(['job', INT], { timeout }),
+            (timeout) => pool.holding(['job', INT], { timeout }, () => assert.fail()),
+        ];
+        await Promise.all(calls.map((call) => fails(call(100), TimedOut, unserved)));
+        for (const call of calls) await fails(call(0), TimedOut, unserved);
+        for (const wrong of [-1, '5', NaN]) await fails(pool.out(['late'], { timeout: wrong }), OutOfRange);
+        // What is left of its time is the call's on its member.
+        const begin = performance.now();
+        setTimeout(() => holds[0].release(), 4_000);
+        assert.equal(await pool.take(['none'], { timeout: 6_000 }), null);
+        const time = performance.now() - begin;
+        assert.ok(time > 5_500 && time < 9_500, `${time} ms`);
+        assert.deepEqual(await pool.take(['job', INT], { timeout: 0 }), ['job', 1]);
+        holds[1].release();
+        assert.equal(await pool.look(['late']), null);
+        // Each block has a member, and puts by another one: none is free.
+        const blocks = range(2, 4).map((item) => pool.holding(['job', item], {}, () => pool.out(['done', item], { timeout: 200 })));
+        const [{ reason }] = (await Promise.allSettled(blocks)).filter(({ status }) => status === 'rejected');
+        assert.ok(reason instanceof TimedOut && reason.message === unserved.message, reason.stack);
+        assert.equal(await pool.purge(['job', INT]), 2);
+    });
+
+    play('calls fail at once, not one after another, while a server does not answer', async (scene) => {
+        const server = await scene.serve(), patience = 2_000;
+        const pool = new Pool([server.port], { client: range(100, 102), size: 2, patience });
+        scene.spaces.push(pool);
+        await Promise.all([pool.out(['a']), pool.out(['a'])]);
+        const abort = new AbortController(), waiting = fails(pool.take(['none'], { signal: abort.signal }), Aborted);
+        await pool.out(['a']);
+        assert.equal(pool.size, 2);
+        await server.stop();
+        await fails(pool.out(['b'], { timeout: 50 }), TimedOut, { pending: 'out' });
+        // One member is lent, and the other one cannot be finished: a call ends at its time.
+        let begin = performance.now();
+        await Promise.all(range(0, 5).map(() => fails(pool.out(['c'], { timeout: 300 }), TimedOut, { servers: [], pending: null })));
+        assert.ok(performance.now() - begin < 8_000, `${performance.now() - begin} ms`);
+        abort.abort();
+        await waiting;
+        await fails(pool.out(['b'], { timeout: 50 }), TimedOut);
+        // All members have something pending: calls without a time fail after a patience or two, all of them.
+        begin = performance.now();
+        await Promise.all(range(0, 8).map(() => fails(pool.out(['c']), SpaceError, { pending: null })));
+        assert.ok(performance.now() - begin < 6 * patience, `${performance.now() - begin} ms`);
+        // So do those of a pool that cannot make its first member.
+        const other = new Pool([server.port], { client: range(110, 120), patience });
+        scene.spaces.push(other);
+        begin = performance.now();
+        await Promise.all(range(0, 8).map((place) => fails(other.out(['c'], place < 4 ? {} : { timeout: 100 }), place < 4 ? NoConnection : TimedOut)));
+        assert.ok(performance.now() - begin < 6 * patience, `${performance.now() - begin} ms`);
+        server.goOn();
+        assert.equal((await other.out(['d'])).server, 0);
+        assert.equal(await pool.purge(['c']), 0);
+    });
+
+    play('calls that wait and are aborted', async (scene) => {
+        const server = await scene.serve(), pool = new Pool([server.port], { client: 100 }), one = await scene.space(server);
+        scene.spaces.push(pool);
+        for (const callee of [pool, one]) {
+            const stop = new AbortController(), first = fails(callee.take(['none'], { signal: stop.signal }), Aborted);
+            await sleep(50);
+            const before = callee.out(['before']), aborts = range(0, 2_000).map(() => new AbortController());
+            const waiting = aborts.map(({ signal }) => callee.out(['never'], { signal }).catch((fault) => fault.code));
+            const after = callee.out(['after']);
+            for (const [place, abort] of aborts.entries()) if (place % 2 === 0) abort.abort();
+            for (const abort of aborts.reverse()) abort.abort();
+            assert.deepEqual(new Set(await Promise.all(waiting)), new Set(['Aborted']));
+            stop.abort();
+            await first;
+            const ids = [await before, await after].map(({ id }) => id);
+            assert.ok(ids[0] < ids[1], 'first in, first out');
+            assert.equal(await callee.look(['never']), null);
+        }
+    });
+
     play('kills under a pool', async (scene) => {
         let server = await scene.serve();
         const pool = new Pool([server.port], { client: range(100, 108), size: 8, patience: LONG });
@@ -3061,6 +3338,59 @@ describe('client numbers', { concurrency: 4 }, () => {
         prototype.write = write;
         const [part] = lines(), last = await connect();
         assert.deepEqual([part.length, lines()], [3, [`${part}x`, `${last}`, '']]);
+    });
+
+    const skip = process.platform === 'linux' ? false : 'there are no such sockets';
+    test('a number stays with its space while its server is away', { skip, timeout: LIMIT }, async (context) => {
+        const scene = new Scene(context), ports = [];
+        let left = await scene.serve('left'), right = await scene.serve('right');
+        ports.push(left.port, right.port);
+        const file = path.join(scene.folder, 'some', 'numbers');
+        const connect = async (more) => {
+            const one = await Space.connect(ports, more);
+            scene.spaces.push(one);
+            return one;
+        };
+        for (const more of [{ numbers: file }, { client: range(100, 103) }]) {
+            const one = await connect(more);
+            await one.outMany([['a'], ['a']]);
+            left = await scene.restart(left);
+            right = await scene.restart(right);
+            const two = await connect(more);
+            assert.notEqual(two.client, one.client);
+            assert.deepEqual((await two.outMany([['b'], ['b']])).map(({ server }) => server).sort(), [0, 1]);
+            await one.outMany([['c'], ['c']]);
+            assert.equal(await one.purge(['c']), 2);
+            // Once it is closed the number is free again, in this program too, when the servers have seen it.
+            one.close();
+            for (let next = await connect(more); next.client !== one.client; next = await connect(more)) {
+                next.close();
+                await sleep(20);
+            }
+        }
+        const only = await connect({ client: [200] });
+        left = await scene.restart(left);
+        await fails(connect({ client: [200] }), NoNumber);
+        only.close();
+        // The names are those of the library for Python.
+        const sum = (text) => createHash('sha256').update(text).digest('hex').slice(0, 32);
+        const bind = (text, number) => new Promise((resolve, reject) => {
+            const listener = net.createServer().once('listening', resolve).once('error', reject);
+            scene.closed.push(() => listener.close());
+            listener.listen({ path: `\0linda_space/${sum(text)}/${number}`.padEnd(108, '\0'), exclusive: true });
+        });
+        await bind(`ports ${ports.join(' ')}`, 300);
+        assert.equal((await connect({ client: [300, 301] })).client, 301);
+        mkdirSync(path.join(scene.folder, 'real'));
+        symlinkSync(path.join(scene.folder, 'real'), path.join(scene.folder, 'link'));
+        const real = path.join(realpathSync(scene.folder), 'real', 'numbers');
+        writeFileSync(real, '400\n401\n');
+        await bind(real, 400);
+        for (const spelled of [real, path.join(scene.folder, 'link', 'numbers'), path.join(scene.folder, 'link', '..', 'real', 'numbers')]) {
+            writeFileSync(real, readFileSync(real, 'utf8').replace(/40[1-9]/, (number) => `${Number(number) + 1}`));
+            const one = await connect({ numbers: spelled });
+            assert.ok(one.client > 400 && one.client < 410, `${one.client}`);
+        }
     });
 
     play('no number at all', async (scene) => {

@@ -204,6 +204,72 @@ class OverServers(WithServers):
         with self.assertRaises(Closed):
             space.out("a")
 
+    def test_a_number_is_its_own_while_its_server_is_away(self) -> None:
+        """A server sees only who is connected: another copy of the program would have the number, and what the first puts would be taken for the other's."""
+        server = self.serve()
+        for client in (str(self.folder / "numbers"), range(100, 110)):
+            first = self.space(server, client=client)
+            first.out("job", 1)
+            server.kill()
+            server = self.serve(port=server.port)
+            with self.space(server, client=client) as second:
+                self.assertNotEqual(second.client, first.client)
+                second.out("job", 2)
+            first.out("job", 3)
+            self.assertEqual(sorted(first.take_many("job", INT, count=9)), [("job", 1), ("job", 2), ("job", 3)])
+            first.close()
+            with self.space(server, client=client) as third:
+                self.assertIn(third.client, (first.client, second.client))
+
+    def test_what_was_not_sent_is_not_taken_for_stored(self) -> None:
+        """Its number was used by another program meanwhile, once."""
+        for count in (1, 6):
+            server = self.serve()
+            first = self.space(server)
+            first.out("first")
+            server.kill()
+            server = self.serve(port=server.port)
+            with self.space(server) as second:
+                second.out_many([("second", number) for number in range(count)])
+            with self.assertRaises(NumberInUse):
+                first.out_many([("job", number) for number in range(count)])
+            other = self.space(server, client=8)
+            self.assertEqual((other.take_many("job", INT, count=9), len(other.take_many("second", INT, count=9))), ([], count))
+            other.take("first")
+            server.kill()
+
+    def test_what_is_pending_comes_before_what_is_in_hand(self) -> None:
+        server = self.serve()
+        space = self.space(server)
+        space.out("job", 1)
+        space._machine.in_hand.append(space.choose(In("job", INT)))     # as of a take that was interrupted
+        self.assertEqual(space.pending, "sync")
+        server.stop()
+        with self.assertRaises(TimedOut) as caught:
+            space.out("result", 1, timeout=0.1)
+        self.assertEqual((caught.exception.pending, space.pending), ("out", "out"))
+        server.go_on()
+        put = space.again()
+        assert isinstance(put, Stored)
+        self.assertEqual((put.id, space.pending), (2, "sync"))
+        had = space.again()
+        assert isinstance(had, Outcome)
+        self.assertEqual((had.tuple, space.pending), (("job", 1), None))
+        with self.assertRaises(Idle):
+            space.again()
+
+    def test_an_event_that_is_too_large_is_refused_at_once(self) -> None:
+        space = self.space(self.serve())
+        many, deep = In("a"), In("a")
+        for _ in range(60):
+            many = Choose(many, many)                                   # 2^60 bases, of one that is there once
+        for _ in range(20_000):
+            deep = deep.wrap(1)
+        for event, why in ((many, "more than 256 bases"), (deep, "under more than 64 nodes"), (Choose(many, deep), "under more than 64 nodes")):
+            with self.assertRaisesRegex(OutOfRange, why):
+                space.choose(event)
+        self.assertEqual((space.pending, space.choose(Choose(Always(3).wrap(4), In("a").wrap(2).nack(1))).labels), (None, (4,)))
+
     def test_a_unix_socket(self) -> None:
         path = str(self.folder / "s")
         with self.assertRaises(NoConnection):

@@ -18,6 +18,7 @@ import subprocess
 import threading
 import time
 import unittest
+import weakref
 from collections import deque
 from contextlib import ExitStack
 from typing import Any, Awaitable, Callable, List, Tuple
@@ -26,6 +27,7 @@ from unittest import mock
 from test_linda_space import PATIENCE, Going, OverPairs, WithServers, frames, handed, logged, refusal, stored, welcome
 import test_linda_space
 
+from linda_space.pool import Lent
 from linda_space import ANY, INT, TEXT, Busy, Closed, Gone, In, NoConnection, NoNumber, NumberInUse, OutOfRange, Pool, Rd, Refused, Restored, Space, TimedOut, aio
 
 
@@ -421,6 +423,25 @@ class Pools(WithServers):
             self.assertTrue(late.ends.empty())                      # there is no ninth
         self.assertEqual(late.end()[0], "job")
 
+    def test_a_call_that_is_gone_keeps_no_member(self) -> None:
+        """An interrupt may come where a call cannot give its member back any more, or has just begun to make one."""
+        server = self.serve()
+        for is_made, number in ((True, 1), (False, 2)):
+            pool = self.pool(server, size=2)
+            first, gone = Lent(), Lent()
+            pool._lend(first)
+            if is_made:
+                pool._lend(gone)
+            else:
+                self.assertIsNone(pool._next_member(gone))
+            late = Going(lambda pool=pool: pool.out("job", 1))      # type: ignore[misc]
+            time.sleep(0.1)
+            self.assertTrue(late.ends.empty())                      # there is no third member
+            del gone
+            self.assertEqual(late.end(), (0, number))
+            self.assertEqual(len(pool._members), 2)
+            pool._end_call(first)
+
     def test_a_hold_has_a_member(self) -> None:
         pool = self.pool(self.serve(), size=2)
         pool.out("job", 1)
@@ -439,6 +460,21 @@ class Pools(WithServers):
         self.assertEqual([pool.look("late"), pool.read("late"), pool.choose(Rd("late").wrap(3)).labels, pool.purge("late"), pool.take_many("late", count=3)],
                          [("late",), ("late",), (3,), 1, []])
         self.assertEqual(pool.out_many([("m", 1), ("m", 2)]), [(0, 3), (0, 4)])
+
+    def test_the_wait_for_a_member_is_in_the_time_of_a_call(self) -> None:
+        pool = self.pool(self.serve(), size=1)
+        pool.out("job", 1)
+        with pool.hold("job", INT) as offer:
+            for call in (lambda: pool.out("job", 2, timeout=0.2), lambda: pool.take("job", INT, timeout=0), lambda: pool.hold("job", INT, timeout=0.2).__enter__()):
+                began = time.monotonic()
+                with self.assertRaisesRegex(TimedOut, "no member of the pool was free") as caught:
+                    call()
+                self.assertEqual((caught.exception.servers, caught.exception.pending), ((), None))
+                self.assertLess(time.monotonic() - began, PATIENCE / 2)
+            late = Going(lambda: pool.out("job", 3, timeout=PATIENCE))
+            offer.accept()
+        self.assertEqual(late.end(), (0, 2))
+        self.assertEqual(pool.take_many("job", INT, count=3), [("job", 3)])
 
     def test_fewer_numbers_than_members(self) -> None:
         server = self.serve()
@@ -561,8 +597,8 @@ class Pools(WithServers):
         for owing, other in (members, reversed(members)):
             pool._free.clear()
             pool._owed[owing] = deque([("job", 1)])
-            lent = [owing, other]
-            pool._users.update((member, lent) for member in lent)
+            lent = Lent([owing, other])
+            pool._users.update((member, weakref.ref(lent)) for member in lent)
             pool._end_call(lent)
             self.assertEqual((pool.take("job", INT, timeout=0), pool._cut), (("job", 1), set()))
 
@@ -582,12 +618,12 @@ class Pools(WithServers):
 
         for name in ("_take", "_next_member", "_finish", "_lend"):
             interrupt(name)
-            self.assertEqual((len(pool._free), len(pool._members), pool._users, pool._making), (1, 1, {}, {}), name)
+            self.assertEqual((len(pool._free), len(pool._members), pool._users, pool._making), (1, 1, {}, []), name)
         with pool.hold("none", timeout=0):
             interrupt("_next_member")
-            self.assertEqual((len(pool._members), pool._making), (1, {}))
+            self.assertEqual((len(pool._members), pool._making), (1, []))
             interrupt("_new_member")
-        self.assertEqual((len(pool._free), len(pool._members), pool._users, pool._making), (2, 2, {}, {}))
+        self.assertEqual((len(pool._free), len(pool._members), pool._users, pool._making), (2, 2, {}, []))
 
     def test_ctrl_c_while_a_tuple_is_put_back(self) -> None:
         """It is put back once."""
@@ -838,6 +874,24 @@ class Async(WithServers):
                     assert one is not None, f"lost: {sorted(set(range(count)) - set(got))}"
                     got.append(one[1])
                 self.assertEqual((sorted(got), await pool.take("job", INT, timeout=0)), (list(range(count)), None))
+        run(course)
+
+    def test_the_wait_for_a_member_is_in_the_time_of_a_call(self) -> None:
+        port = self.serve().port
+
+        async def course() -> None:
+            async with aio.Pool([port], range(100, 110), size=1) as pool:
+                await pool.out("job", 1)
+                async with pool.hold("job", INT) as offer:
+                    for call in (pool.out("job", 2, timeout=0.2), pool.take("job", INT, timeout=0)):
+                        with self.assertRaisesRegex(TimedOut, "no member of the pool was free"):
+                            await asyncio.wait_for(call, PATIENCE / 2)
+                    late = asyncio.create_task(pool.out("job", 3, timeout=PATIENCE))
+                    await asyncio.sleep(0.05)
+                    self.assertEqual(len(pool._waiting), 1)
+                    await offer.accept()
+                self.assertEqual(await late, (0, 2))
+                self.assertEqual(await pool.take("job", INT, timeout=0), ("job", 3))
         run(course)
 
     def test_a_call_that_is_cancelled_just_as_it_returns(self) -> None:

@@ -62,13 +62,16 @@ export class NoConnection extends SpaceError {
     }
 }
 
-/** The time of a call is up, and something is not known: `servers` have not answered, or have no connection. */
+/**
+ * The time of a call is up, and something is not known: `servers` have not answered, or have no connection. Of a Pool,
+ * with no `servers`: no member was free in time, and nothing was sent.
+ */
 export class TimedOut extends SpaceError {
     static code = 'TimedOut';
 
-    /** @param {number[]} servers */
-    constructor(servers) {
-        super(`the time is up, and there is no answer of server ${servers.join(', ')}`);
+    /** @param {number[]} servers @param {string} [text] */
+    constructor(servers, text = `the time is up, and there is no answer of server ${servers.join(', ')}`) {
+        super(text);
         this.servers = servers;
     }
 }

@@ -11,10 +11,45 @@ import { checkedTemplate, checkedValue, within } from './values.mjs';
  */
 
 /**
+ * `depth`: the most nodes above a leaf, -1 if there is no leaf. `bases`, `asked`: how many leaves there are, and how many
+ * are inputs or reads; `nacks`: how many nack numbers. Each counts up to one more than is allowed.
+ * @typedef {{ depth: number, bases: number, asked: number, nacks: number }} Measure
+ */
+
+const MOST_NACKS = 2 ** 20;             // more do not fit into any outcome
+/** @type {(event: SpaceEvent) => Measure} */
+let measured;
+
+/** @param {string} kind @param {readonly SpaceEvent[]} members @returns {Measure} */
+function measureOf(kind, members) {
+    if (!isNode(kind)) return { depth: 0, bases: 1, asked: kind === 'in' || kind === 'rd' ? 1 : 0, nacks: 0 };
+    const all = { depth: -1, bases: 0, asked: 0, nacks: kind === 'nack' ? 1 : 0 };
+    for (const member of members) {
+        const { depth, bases, asked, nacks } = measured(member);
+        if (depth >= 0) all.depth = Math.max(all.depth, depth + 1);
+        all.bases = Math.min(MOST_BASES + 1, all.bases + bases);
+        all.asked = Math.min(MOST_ASKS + 1, all.asked + asked);
+        all.nacks = Math.min(MOST_NACKS + 1, all.nacks + nacks);
+    }
+    return all;
+}
+
+/** @param {string} kind */
+function isNode(kind) {
+    return kind === 'choose' || kind === 'wrap' || kind === 'nack';
+}
+
+/**
  * What `Space.sync` waits for: a tree of choices, labels and nacks, with bases as its leaves: In, Rd, Alarm, Always and
  * Never. The bases are numbered from 0 in tree order.
  */
 export class SpaceEvent {
+    /**
+     * What the checks need to know of it without going through it, for an event may be in it several times.
+     * @type {Measure}
+     */
+    #measure;
+
     /**
      * @param {'in' | 'rd' | 'alarm' | 'always' | 'never' | 'choose' | 'wrap' | 'nack'} kind
      * @param {{ template?: Template, time?: number | bigint, value?: Value, number?: number | bigint,
@@ -27,7 +62,12 @@ export class SpaceEvent {
         this.value = value;
         this.number = number;
         this.members = members;
+        this.#measure = measureOf(kind, members);
         Object.freeze(this);
+    }
+
+    static {
+        measured = (event) => event.#measure;
     }
 
     /**
@@ -127,33 +167,50 @@ export function Nack(number, event) {
  */
 
 /**
- * The bases and the nack numbers of an event, each in tree order.
+ * What is above a node: labels or places of nacks, innermost first.
+ * @template T @typedef {{ item: T, above: Chain<T> } | null} Chain
+ */
+
+/**
+ * What a chain has, innermost first.
+ * @template T @param {Chain<T>} chain @returns {T[]}
+ */
+function listed(chain) {
+    const items = [];
+    for (let link = chain; link !== null; link = link.above) items.push(link.item);
+    return items;
+}
+
+/**
+ * The bases and the nack numbers of an event, each in tree order. The limits are looked at first, so this takes no longer
+ * than an event within them is large.
  * @param {SpaceEvent} event @returns {{ bases: Base[], nacks: (number | bigint)[] }}
  */
 export function basesAndNacks(event) {
+    const { depth, bases: count, asked, nacks: raised } = measured(event);
+    if (depth > MOST_DEPTH) throw new OutOfRange(`a leaf of the event is under more than ${MOST_DEPTH} nodes`);
+    if (count > MOST_BASES || asked > MOST_ASKS) {
+        throw new OutOfRange(`the event has more than ${MOST_BASES} bases, or more than ${MOST_ASKS} inputs and reads`);
+    }
+    if (raised > MOST_NACKS) throw new OutOfRange(`the event has more than ${MOST_NACKS} nack numbers`);
     /** @type {Base[]} */
     const bases = [];
     /** @type {(number | bigint)[]} */
     const nacks = [];
-    /** @type {{ node: SpaceEvent, depth: number, labels: (number | bigint)[], above: number[] }[]} */
-    const left = [{ node: event, depth: 0, labels: [], above: [] }];
+    /** @type {{ node: SpaceEvent, labels: Chain<number | bigint>, above: Chain<number> }[]} */
+    const left = [{ node: event, labels: null, above: null }];
     for (let next = left.pop(); next !== undefined; next = left.pop()) {
-        let { node, depth, labels, above } = next;
-        if (['choose', 'wrap', 'nack'].includes(node.kind)) {
-            if (node.kind === 'wrap') labels = [node.number, ...labels];
-            if (node.kind === 'nack') above = [...above, nacks.push(node.number) - 1];
-            for (let place = node.members.length - 1; place >= 0; place -= 1) {
-                left.push({ node: node.members[place], depth: depth + 1, labels, above });
-            }
-        } else if (depth > MOST_DEPTH) {
-            throw new OutOfRange(`a leaf of the event is under more than ${MOST_DEPTH} nodes`);
-        } else {
-            bases.push({ number: bases.length, leaf: node, labels, above });
+        let { node, labels, above } = next;
+        if (!isNode(node.kind)) {
+            bases.push({ number: bases.length, leaf: node, labels: listed(labels), above: listed(above).reverse() });
+            continue;
         }
-    }
-    if (bases.length > MOST_BASES || bases.filter((base) => base.leaf.isAsked).length > MOST_ASKS) {
-        throw new OutOfRange(`the event has more than ${MOST_BASES} bases, or more than ${MOST_ASKS} inputs and reads`);
+        if (node.kind === 'wrap') labels = { item: node.number, above: labels };
+        if (node.kind === 'nack') above = { item: nacks.push(node.number) - 1, above };
+        for (let place = node.members.length - 1; place >= 0; place -= 1) {
+            const member = node.members[place], { depth: isLeafed, nacks: own } = measured(member);
+            if (isLeafed >= 0 || own > 0) left.push({ node: member, labels, above });
+        }
     }
     return { bases, nacks };
 }
-

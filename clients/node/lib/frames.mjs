@@ -114,6 +114,15 @@ class FrameReader {
     }
 }
 
+/**
+ * The number of a frame of a client: of an Out, an Accept or a Leave; 0 of any other.
+ * @param {Uint8Array} data
+ */
+export function numberOf(data) {
+    const isNumbered = data[4] === 2 || data[4] === 4 || data[4] === 6;
+    return isNumbered ? Buffer.from(data.buffer, data.byteOffset, data.length).readBigUInt64BE(5) : 0n;
+}
+
 /** The frames of a client, each with its length, and the reader of a server's: what is below a `Space`. */
 export const frames = Object.freeze({
     /** @param {number} client @param {boolean} fresh */

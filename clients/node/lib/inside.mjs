@@ -3,7 +3,8 @@
 /**
  * - `call`: one call, as all calls are made; `begin` says to the machine what it begins with. `isQuiet`: it says
  *   nothing of holds that were lost.
- * - `finish`: finishes what is pending after an error. What was taken by that is in hand: the next take gets it.
+ * - `finish`: finishes what is pending after an error, in so many milliseconds, `patience` at most. What was taken by that
+ *   is in hand: the next take gets it.
  * - `isOver`: whether all calls throw. `onOver`: is called once an offer was taken or released, or Gone was thrown.
  * - `keep`: renews an offer every so many milliseconds.
  * @typedef {{
@@ -12,7 +13,7 @@
  *         ways?: { isAgain?: boolean, isQuiet?: boolean, isWaiting?: boolean })
  *         => Promise<import('./machine.mjs').Ended | null>,
  *     machine: () => import('./machine.mjs').Machine,
- *     finish: () => Promise<void>,
+ *     finish: (timeout?: number) => Promise<void>,
  *     isOver: () => boolean,
  *     onOver: (offer: import('./results.mjs').Offer<any>, hear: () => void) => void,
  *     patience: number,

@@ -14,6 +14,7 @@ export const MOST_ASKS = 64;                   // leaves of an event that are in
 export const MOST_LABEL = (1n << 64n) - 1n;    // labels, nack numbers, and the times of alarms
 export const MOST_UNDER_WAY = 64;              // numbered messages that are not answered yet
 export const LONGEST_TIMER = 2 ** 31 - 1;      // milliseconds
+const MOST_SHOWN = 200;                        // characters of a value in the text of an error
 
 /** The names of the codes of a Refused. */
 export const REFUSALS = ['', 'Version', 'Known', 'Busy', 'Old', 'Gap', 'Full', 'TooManyClients', 'Down', 'Malformed',
@@ -29,10 +30,36 @@ export function plain(integer) {
     return integer >= Number.MIN_SAFE_INTEGER && integer <= Number.MAX_SAFE_INTEGER ? Number(integer) : integer;
 }
 
-/** @param {unknown} value @returns {string} */
-export function shown(value) {
-    if (Array.isArray(value)) return `[${value.map(shown).join(', ')}]`;
-    return typeof value === 'string' ? JSON.stringify(value) : typeof value === 'bigint' ? `${value}n` : String(value);
+/**
+ * A value as a text of so many characters at most, whatever it is.
+ * @param {unknown} value @param {number} [most] @returns {string}
+ */
+export function shown(value, most = MOST_SHOWN) {
+    let text;
+    try {
+        text = spelled(value, most);
+    } catch {
+        text = `a value of type ${typeof value} that has no text`;
+    }
+    return text.length <= most ? text : `${text.slice(0, most - 2).replace(/[\ud800-\udbff]$/, '')}..`;
+}
+
+/**
+ * The same, longer perhaps; of an array no more than is needed.
+ * @param {unknown} value @param {number} most @returns {string}
+ */
+function spelled(value, most) {
+    if (most < 0) return '..';
+    if (Array.isArray(value)) {
+        let text = '[';
+        for (let place = 0; place < value.length && text.length <= most; place += 1) {
+            text += (place > 0 ? ', ' : '') + spelled(value[place], most - text.length);
+        }
+        return `${text}]`;
+    }
+    if (typeof value === 'string') return JSON.stringify(value.slice(0, most + 1));
+    if (typeof value === 'bigint') return BigInt.asIntN(1_024, value) === value ? `${value}n` : 'a bigint of more than 1,024 bits';
+    return String(value);
 }
 
 /** The names of what ends with a block, if the language has them. */

@@ -1,9 +1,9 @@
 /** The connections of a space to its servers. */
 
 import net from 'node:net';
-import { NoConnection } from './errors.mjs';
+import { NoConnection, OutOfRange } from './errors.mjs';
 import { BadFrame, frames } from './frames.mjs';
-import { MOST_FRAME } from './limits.mjs';
+import { MOST_FRAME, shown } from './limits.mjs';
 import { within } from './values.mjs';
 
 /** Milliseconds between two greetings: the first pause, doubled up to the longest. */
@@ -26,6 +26,9 @@ export function connectTo(port) {
 export function checkedPort(port) {
     if (typeof port === 'string' && port.includes('/') && !port.includes('\0')) return port;
     const digits = typeof port === 'string' ? /^(?:localhost|127\.0\.0\.1):(\d{1,5})$/.exec(port)?.[1] : undefined;
+    if (typeof port === 'string' && digits === undefined) {
+        throw new OutOfRange(`a port is a number, 'localhost:7000', or the path of a unix socket, with a slash: ${shown(port)}`);
+    }
     return Number(within('a port', digits === undefined ? port : Number(digits), 1, 65_535));
 }
 
@@ -35,6 +38,7 @@ export function checkedPort(port) {
  * - `isOver`: the stream has ended or failed. It is heard to its end before it counts as lost.
  * - `due`: when it is to be made, if there is none; `pause`: how long after that the next time is.
  * - `until`: when it has been away for too long; `busyUntil`: when Busy has been answered for too long, once it was.
+ * - `lastSent`: the highest number that was handed to a stream that was up. No higher one can have been done.
  */
 export class Link {
     /** @type {import('node:stream').Duplex | null} */
@@ -49,6 +53,7 @@ export class Link {
     pause = SHORTEST_PAUSE;
     /** @type {number | null} */
     busyUntil = null;
+    lastSent = 0n;
     /**
      * Why the last stream could not be had, or ended.
      * @type {unknown}

@@ -622,6 +622,15 @@ export class Machine {
     }
 
     /**
+     * Whether it says that what is unanswered at that server was not done, nor what was sent there after it.
+     * @param {number} server @param {Reply} reply
+     */
+    isJudged(server, reply) {
+        const name = reply.kind === 'refused' ? REFUSALS[Number(reply.number)] : '';
+        return JUDGED.includes(name) && !(name === 'Old' && this.probes[server] > 0);
+    }
+
+    /**
      * A reply that cannot answer what this program sent under its number: another one uses the number.
      * @param {number} server @param {Reply} reply @returns {never}
      */

@@ -1,11 +1,12 @@
 /** A pool of spaces, for calls at once. */
 
-import { Aborted, Closed, OutOfRange } from './errors.mjs';
+import { Aborted, Closed, OutOfRange, SpaceError, TimedOut } from './errors.mjs';
+import { basesAndNacks, Choose, SpaceEvent } from './events.mjs';
 import { insideOf } from './inside.mjs';
-import { ASYNC_DISPOSE, DISPOSE, shown } from './limits.mjs';
-import { In, SpaceEvent } from './events.mjs';
+import { ASYNC_DISPOSE, DISPOSE, LONGEST_TIMER, shown } from './limits.mjs';
+import { Queue } from './queue.mjs';
 import { checkedSpace, connectedBut } from './space.mjs';
-import { checkedTemplate, matches, within } from './values.mjs';
+import { checkedLimits, checkedTemplate, matches, within } from './values.mjs';
 
 /**
  * @typedef {import('./values.mjs').Value} Value
@@ -23,8 +24,9 @@ import { checkedTemplate, matches, within } from './values.mjs';
  * @typedef {import('./results.mjs').Stored} Stored
  * @typedef {import('./trains.mjs').Put} Put
  *
- * A call that waits for a member.
- * @typedef {{ inputs: Template[], go: (member: Space) => void, fail: (fault: unknown) => void }} Waiting
+ * A call that waits for a member: since when, and for how long at most.
+ * @typedef {{ inputs: Template[], since: number, until: number, go: (member: Space) => void,
+ *     fail: (fault: unknown) => void }} Waiting
  */
 /** @template T @typedef {import('./values.mjs').Matched<T>} Matched */
 /** @template T @typedef {import('./values.mjs').Whole<T>} Whole */
@@ -34,11 +36,14 @@ import { checkedTemplate, matches, within } from './values.mjs';
 
 const SIZE = 16;
 const GROWN_AFTER = 1_000;              // milliseconds after which a member is made again, if none could be
+/** A call with less time waits for so many milliseconds all the same for a member that is made or finished for it. */
+const MAKING = 2_000;
 
 /**
  * Some spaces for calls at once, as of a web server: each call is made by a member that nobody uses. A member is made
  * when it is needed, up to `size` (16 if nothing else is said); if all are in use a call waits for one, first in, first
- * out. Calls, errors and limits are those of a Space.
+ * out. Calls, errors and limits are those of a Space, but the `timeout` of a call counts from its beginning: if no member
+ * is free by then, made or finished, it throws TimedOut, and nothing was sent.
  *
  *     const pool = new Pool([7000], { client: range(100, 116) });
  *     await Promise.all(jobs.map((job) => pool.out(['job', job])));
@@ -64,10 +69,10 @@ export class Pool {
      * @type {Space[]}
      */
     #idle = [];
-    /** @type {Waiting[]} */
-    #waiting = [];
+    /** @type {Queue<Waiting>} */
+    #waiting = new Queue();
     #isGrowing = false;
-    #isFinishing = false;
+    #finishing = 0;                     // members that are being finished
     #isClosed = false;
     #grownAfter = 0;
 
@@ -100,7 +105,7 @@ export class Pool {
      * @param {T & Whole<T>} tuple @param {Only<L, Limits>} [limits] @returns {Promise<Stored>}
      */
     async out(tuple, limits) {
-        return this.#use(limits, [], (member) => member.out(tuple, limits));
+        return this.#use(limits, [], (member, rest) => member.out(tuple, rest));
     }
 
     /** As `Space.outMany`; if something is pending after an error, it goes on without its caller.
@@ -108,7 +113,7 @@ export class Pool {
      * @param {readonly (T & Whole<T>)[]} tuples @param {Only<L, Limits>} [limits] @returns {Promise<Put[]>}
      */
     async outMany(tuples, limits) {
-        return this.#use(limits, [], (member) => member.outMany(tuples, limits));
+        return this.#use(limits, [], (member, rest) => member.outMany(tuples, rest));
     }
 
     /** As `Space.take`.
@@ -116,7 +121,7 @@ export class Pool {
      * @param {T & Whole<T>} template @param {Only<L, Limits>} [limits] @returns {Promise<Timed<Matched<T>, L>>}
      */
     async take(template, limits) {
-        return this.#use(limits, [checkedTemplate(template)], (member) => member.take(template, limits));
+        return this.#use(limits, [checkedTemplate(template)], (member, rest) => member.take(template, rest));
     }
 
     /** As `Space.takes`.
@@ -137,7 +142,7 @@ export class Pool {
      * @param {T & Whole<T>} template @param {Only<L, TakeManyOptions>} options @returns {Promise<Matched<T>[]>}
      */
     async takeMany(template, options) {
-        return this.#use(options, [checkedTemplate(template)], (member) => member.takeMany(template, options));
+        return this.#use(options, [checkedTemplate(template)], (member, rest) => member.takeMany(template, rest));
     }
 
     /** As `Space.purge`.
@@ -145,7 +150,7 @@ export class Pool {
      * @param {T & Whole<T>} template @param {Only<L, Limits>} [limits] @returns {Promise<number>}
      */
     async purge(template, limits) {
-        return this.#use(limits, [], (member) => member.purge(template, limits));
+        return this.#use(limits, [], (member, rest) => member.purge(template, rest));
     }
 
     /** As `Space.read`.
@@ -153,7 +158,7 @@ export class Pool {
      * @param {T & Whole<T>} template @param {Only<L, Limits>} [limits] @returns {Promise<Timed<Matched<T>, L>>}
      */
     async read(template, limits) {
-        return this.#use(limits, [], (member) => member.read(template, limits));
+        return this.#use(limits, [], (member, rest) => member.read(template, rest));
     }
 
     /** As `Space.look`.
@@ -161,7 +166,7 @@ export class Pool {
      * @param {T & Whole<T>} template @param {Only<L, Limits>} [limits] @returns {Promise<Matched<T> | null>}
      */
     async look(template, limits) {
-        return this.#use(limits, [], (member) => member.look(template, limits));
+        return this.#use(limits, [], (member, rest) => member.look(template, rest));
     }
 
     /** As `Space.choose`.
@@ -169,15 +174,15 @@ export class Pool {
      * @param {readonly SpaceEvent[]} branches @param {Only<L, Limits>} [limits] @returns {Promise<Chosen>}
      */
     async choose(branches, limits) {
-        const inputs = Array.isArray(branches) ? branches.flatMap(inputsOf) : [];
-        return this.#use(limits, inputs, (member) => member.choose(branches, limits));
+        const inputs = Array.isArray(branches) ? inputsOf(Choose(...branches)) : [];
+        return this.#use(limits, inputs, (member, rest) => member.choose(branches, rest));
     }
 
     /** As `Space.sync`. The clock of an alarm is that of the member: choose with a `timeout` instead.
      * @param {SpaceEvent} event @param {{ signal?: AbortSignal | null }} [limits] @returns {Promise<Chosen>}
      */
     async sync(event, limits) {
-        return this.#use(limits, inputsOf(event), (member) => member.sync(event, limits));
+        return this.#use(limits, inputsOf(event), (member, rest) => member.sync(event, rest));
     }
 
     /** As `Space.hold`: the member is this hold's until it is accepted or released.
@@ -186,11 +191,11 @@ export class Pool {
      * @returns {Promise<Timed<Offer<Matched<T>>, L>>}
      */
     async hold(template, options) {
-        const member = await this.#lent(options, []);
+        const { member, rest } = await this.#lent(options, []);
         /** @type {any} */
         let offer = null;
         try {
-            offer = await member.hold(/** @type {any} */ (template), options);
+            offer = await member.hold(/** @type {any} */ (template), rest);
             if (offer !== null) insideOf(member).onOver(offer, () => this.#giveBack(member));
             return offer;
         } finally {
@@ -198,13 +203,14 @@ export class Pool {
         }
     }
 
-    /** As `Space.holding`: the member is this block's until it ends.
+    /** As `Space.holding`: the member is this block's until it ends. A call of the pool in the block needs another member:
+     * if each member has such a block, all wait for each other, until the `timeout` of a call is up.
      * @template {Patterns} T @template {HoldOptions} L @template R
      * @param {T & Whole<T>} template @param {Only<L, HoldOptions>} options
      * @param {(offer: Timed<Offer<Matched<T>>, L>) => Promise<R> | R} work @returns {Promise<R>}
      */
     async holding(template, options, work) {
-        return this.#use(options, [], (member) => member.holding(template, options, work));
+        return this.#use(options, [], (member, rest) => member.holding(template, rest, work));
     }
 
     /**
@@ -213,7 +219,7 @@ export class Pool {
      */
     close() {
         this.#isClosed = true;
-        for (const waiting of this.#waiting.splice(0)) waiting.fail(new Closed('the pool was closed'));
+        for (const waiting of [...this.#waiting]) waiting.fail(new Closed('the pool was closed'));
         for (const member of this.#idle) sayLeft(member);
         for (const member of this.#members) member.close();
         this.#idle = [];
@@ -229,45 +235,79 @@ export class Pool {
 
     /**
      * A call by a member that nobody uses.
-     * @param {any} limits @param {Template[]} inputs @param {(member: any) => Promise<any>} call
+     * @param {any} limits @param {Template[]} inputs @param {(member: any, rest: any) => Promise<any>} call
      * @returns {Promise<any>}
      */
     async #use(limits, inputs, call) {
-        const member = await this.#lent(limits, inputs);
+        const { member, rest } = await this.#lent(limits, inputs);
         try {
-            return await call(member);
+            return await call(member, rest);
         } finally {
             this.#giveBack(member);
         }
     }
 
     /**
-     * A member that nobody uses, for a call that takes what one of these templates matches.
-     * @param {any} limits @param {Template[]} inputs @returns {Promise<Space>}
+     * A member that nobody uses, for a call that takes what one of these templates matches, and the limits of that call
+     * with what is left of its time.
+     * @param {any} limits @param {Template[]} inputs @returns {Promise<{ member: Space, rest: any }>}
      */
-    #lent(limits, inputs) {
-        const signal = limits?.signal instanceof AbortSignal ? limits.signal : null;
+    async #lent(limits, inputs) {
+        const since = performance.now(), { timeout, signal } = checkedLimits(limits ?? {}, Object.keys(limits ?? {}));
+        if (this.#isClosed) throw new Closed('the pool was closed');
+        if (signal?.aborted) throw new Aborted(signal.reason);
+        const until = timeout === null ? Infinity : since + timeout;
+        const member = await this.#freed(inputs, since, this.#isAllLent(since) ? until : Math.max(until, since + MAKING), signal);
+        const rest = timeout === null ? limits : { ...limits, timeout: Math.max(0, until - performance.now()) };
+        return { member, rest };
+    }
+
+    /**
+     * Whether calls have all members, and none can be made now.
+     * @param {number} now
+     */
+    #isAllLent(now) {
+        const hasRoom = this.#members.size < this.#size && (now >= this.#grownAfter || this.#isGrowing);
+        return !hasRoom && this.#idle.length + this.#finishing === 0;
+    }
+
+    /**
+     * @param {Template[]} inputs @param {number} since @param {number} until @param {AbortSignal | null} signal
+     * @returns {Promise<Space>}
+     */
+    #freed(inputs, since, until, signal) {
         return new Promise((resolve, reject) => {
-            if (this.#isClosed) throw new Closed('the pool was closed');
-            if (signal?.aborted) throw new Aborted(signal.reason);
-            const leave = () => {
-                this.#waiting = this.#waiting.filter((other) => other !== waiting);
-                waiting.fail(new Aborted(signal?.reason));
+            /** @type {NodeJS.Timeout | undefined} */
+            let timer;
+            let isOver = false;
+            const end = () => {
+                isOver = true;
+                clearTimeout(timer);
+                signal?.removeEventListener('abort', leave);
+                remove();
             };
             const waiting = {
-                inputs,
+                inputs, since, until,
                 go: (/** @type {Space} */ member) => {
-                    signal?.removeEventListener('abort', leave);
+                    end();
                     resolve(member);
                 },
                 fail: (/** @type {unknown} */ fault) => {
-                    signal?.removeEventListener('abort', leave);
+                    end();
                     reject(fault);
                 },
             };
+            const leave = () => waiting.fail(new Aborted(signal?.reason));
+            const look = () => {
+                const left = until - performance.now();
+                if (isOver || left === Infinity) return;
+                if (left <= 0) waiting.fail(new TimedOut([], 'no member of the pool was free in time'));
+                else timer = setTimeout(look, Math.min(LONGEST_TIMER, Math.ceil(left)));
+            };
+            const remove = this.#waiting.push(waiting);
             signal?.addEventListener('abort', leave);
-            this.#waiting.push(waiting);
             this.#serve();
+            look();
         });
     }
 
@@ -285,18 +325,31 @@ export class Pool {
         this.#serve();
     }
 
-    /** Lends what is there to who waits; else makes a member, or finishes one. */
+    /** Lends what is there to who waits; else makes a member, and finishes others, one for each that waits. */
     #serve() {
-        while (this.#waiting.length > 0) {
-            const [{ inputs }] = this.#waiting, place = this.#placeFor(inputs);
+        for (let { first } = this.#waiting; first !== undefined; { first } = this.#waiting) {
+            const place = this.#placeFor(first.inputs);
             if (place < 0) break;
             const [member] = this.#idle.splice(place, 1);
-            this.#waiting.shift()?.go(member);
+            first.go(member);
         }
-        if (this.#waiting.length === 0) return;
+        if (this.#waiting.size === 0) return;
         const isDue = this.#members.size === 0 || performance.now() >= this.#grownAfter;
         if (this.#members.size < this.#size && !this.#isGrowing && isDue) this.#grow();
-        else if (this.#idle.length > 0 && !this.#isFinishing) this.#finish();
+        const made = this.#isGrowing ? 1 : 0;
+        while (this.#idle.length > 0 && this.#finishing + made < this.#waiting.size) this.#finish();
+    }
+
+    /**
+     * What was tried since then, for the calls that wait, has failed: so do those that waited for half of that time.
+     * @param {number} begin @param {unknown} fault
+     */
+    #failed(begin, fault) {
+        const latest = (begin + performance.now()) / 2;
+        if (fault instanceof SpaceError) fault.pending = null;
+        for (const waiting of [...this.#waiting]) {
+            if (waiting.since <= latest) waiting.fail(fault);
+        }
     }
 
     /**
@@ -315,8 +368,9 @@ export class Pool {
         return place >= 0 ? place : machines.findLastIndex(({ task }) => task === null);
     }
 
-    /** Makes a member. If that cannot be, the call waits for those that there are, or fails so if there is none. */
+    /** Makes a member. If that cannot be, the calls wait for those that there are, or fail so if there is none. */
     async #grow() {
+        const begin = performance.now();
         this.#isGrowing = true;
         try {
             const numbers = new Set(Array.from(this.#members, (member) => member.client));
@@ -326,27 +380,32 @@ export class Pool {
             else this.#idle.push(member);
         } catch (fault) {
             if (this.#members.size > 0) this.#grownAfter = performance.now() + GROWN_AFTER;
-            else this.#waiting.shift()?.fail(fault);
+            else this.#failed(begin, fault);
         } finally {
             this.#isGrowing = false;
         }
         this.#serve();
     }
 
-    /** Finishes what a member that is not lent has pending. If that cannot be, and none is lent, the call fails so. */
+    /**
+     * Finishes what a member that is not lent has pending, in the time that the calls have that wait. If that cannot be,
+     * and none is lent, they fail so.
+     */
     async #finish() {
-        this.#isFinishing = true;
+        const begin = performance.now();
+        const most = Array.from(this.#waiting).reduce((time, { until }) => Math.max(time, until), 0);
         const [member] = this.#idle.splice(0, 1);
+        this.#finishing += 1;
         /** @type {unknown} */
         let fault = null;
         try {
-            await insideOf(member).finish();
+            await insideOf(member).finish(Math.max(0, most - begin));
         } catch (thrown) {
             fault = thrown;
         }
-        this.#isFinishing = false;
-        const isLent = this.#members.size > this.#idle.length + 1;
-        if (fault !== null && !isLent && insideOf(member).machine().task !== null) this.#waiting.shift()?.fail(fault);
+        this.#finishing -= 1;
+        const isLent = this.#members.size > this.#idle.length + this.#finishing + 1;
+        if (fault !== null && !isLent && insideOf(member).machine().task !== null) this.#failed(begin, fault);
         this.#giveBack(member);
     }
 }
@@ -357,7 +416,7 @@ export class Pool {
  */
 function sayLeft(member) {
     const { task, inHand } = insideOf(member).machine();
-    for (const { tuple } of inHand) process.emitWarning(`a pool is closed with a tuple that it took: ${shown(tuple)}`, 'linda-space');
+    for (const { tuple } of inHand) process.emitWarning(`a pool is closed with a tuple that it took: ${shown(tuple, Infinity)}`, 'linda-space');
     if (task !== null && (task.kind !== 'sync' || task.accepted !== null)) {
         process.emitWarning(`a pool closes client ${member.client}, which has ${task.kind} pending: its last reply says what became of it`, 'linda-space');
     }
@@ -369,5 +428,5 @@ function sayLeft(member) {
  */
 function inputsOf(event) {
     if (!(event instanceof SpaceEvent)) return [];
-    return event.kind === 'in' ? [event.template] : event.members.flatMap(inputsOf);
+    return basesAndNacks(event).bases.filter(({ leaf }) => leaf.kind === 'in').map(({ leaf }) => leaf.template);
 }

@@ -4,14 +4,16 @@ import {
     Aborted, BadReply, Closed, Gone, Idle, NoNumber, NumberInUse, OutOfRange, Refused, Restored, SpaceError, TimedOut,
 } from './errors.mjs';
 import { Alarm, checkedEvent, Choose, In, Rd } from './events.mjs';
-import { BadFrame, frames } from './frames.mjs';
+import { BadFrame, frames, numberOf } from './frames.mjs';
 import { insides, turned } from './inside.mjs';
 import {
     ASYNC_DISPOSE, DISPOSE, LONGEST_TIMER, MOST_CLIENT, MOST_SERVERS, REFUSALS, shown,
 } from './limits.mjs';
 import { checkedPort, connectTo, Link, LONGEST_PAUSE, SHORTEST_PAUSE } from './links.mjs';
+import { keyOfFile, keyOfPorts, lockOf } from './locks.mjs';
 import { Machine, Taken } from './machine.mjs';
 import { addNumber, defaultFile, drawnNumber, numbersOf } from './numbers.mjs';
+import { Queue } from './queue.mjs';
 import { Kept, Offer, Outcome, Stored } from './results.mjs';
 import { Many, OutTrain, TakeTrain } from './trains.mjs';
 import {
@@ -131,9 +133,9 @@ export class Space {
     #broken = null;
     /**
      * What lets the calls begin that wait for those before them.
-     * @type {(() => void)[]}
+     * @type {Queue<() => void>}
      */
-    #queue = [];
+    #queue = new Queue();
     #renewed = 0;                       // when what is held was last renewed, or was asked for
     /** @type {WeakMap<Offer, NodeJS.Timeout>} */
     #keepers = new WeakMap();
@@ -149,6 +151,11 @@ export class Space {
     /** @type {NodeJS.Timeout | undefined} */
     #timer;
     #isSoon = false;
+    /**
+     * That of its number, if that was chosen among several.
+     * @type {import('./locks.mjs').Lock | null}
+     */
+    #lock = null;
 
     /**
      * Greets each server.
@@ -164,6 +171,9 @@ export class Space {
      * - Or left out: the numbers are those of a file of this program, which are all tried so. If none is free a new one
      *   is drawn from 2^31 to 2^32 - 1, and added to the file. `numbers` is its path; if it is not given, it is a file
      *   for the path of the program, in the folder $LINDA_STATE, $XDG_STATE_HOME/linda or ~/.local/state/linda.
+     * - On Linux no other program of this machine gets a number of the same file, or of several for the same ports,
+     *   until this space is closed, also while a server is away (`lib/locks.mjs`). Else, and for one number that is
+     *   given, only the servers know which numbers are in use: those that have a connection.
      * - `fresh`: this number was never used, and a server that knows it refuses it. If it is not set numbers go on
      *   after those of an earlier life of this client, if there was one: see `lastReply`.
      * - `patience`: milliseconds, 10,000 if nothing else is said.
@@ -192,7 +202,8 @@ export class Space {
             const make = () => new Space(MADE_BY_CONNECT, ports, options), space = make();
             const { numbers, fresh = false } = options, client = checkedNumbers(options);
             if (Array.isArray(client)) {
-                const found = await firstOf(make, client.filter((number) => !others.has(number)), fresh, true);
+                const free = client.filter((number) => !others.has(number)), key = keyOfPorts(space.#ports);
+                const found = await firstOf(make, key, free, fresh, true);
                 if (found !== null) return found;
                 const first = client[0], last = client.at(-1);
                 throw new NoNumber(`none of the client numbers from ${first} to ${last} is to be had`);
@@ -207,11 +218,12 @@ export class Space {
          * @param {() => Space} make @param {string} file @param {boolean} fresh @param {ReadonlySet<number>} others
          */
         const ofFile = async (make, file, fresh, others) => {
-            const numbers = await numbersOf(file);
-            const found = await firstOf(make, numbers.filter((number) => !others.has(number)), fresh, false);
+            const numbers = await numbersOf(file), key = keyOfFile(file);
+            const found = await firstOf(make, key, numbers.filter((number) => !others.has(number)), fresh, false);
             if (found !== null) return found;
             for (;;) {
                 const space = make(), number = drawnNumber();
+                if (!await space.#locks(key, number)) continue;
                 try {
                     await space.#greetOrClose(number, true, false);
                     await addNumber(file, number);
@@ -226,15 +238,15 @@ export class Space {
         /**
          * A space under one of these numbers, or null; those in use are tried some times more, for other programs look
          * for a number so too. It has at most two connections to a server at once.
-         * @param {() => Space} make @param {readonly number[]} numbers @param {boolean} fresh
+         * @param {() => Space} make @param {string} key @param {readonly number[]} numbers @param {boolean} fresh
          * @param {boolean} isUpToNew
          */
-        const firstOf = async (make, numbers, fresh, isUpToNew) => {
+        const firstOf = async (make, key, numbers, fresh, isUpToNew) => {
             let left = numbers;
             for (let pass = 1; ; pass += 1) {
                 /** @type {number[]} */
                 const busy = [];
-                const found = await firstNow(make, left, fresh, isUpToNew, busy);
+                const found = await firstNow(make, key, left, fresh, isUpToNew, busy);
                 if (found !== null || busy.length === 0 || pass === BUSY_PASSES) return found;
                 left = busy;
                 await new Promise((resolve) => { setTimeout(resolve, 20 + 60 * Math.random()); });
@@ -243,15 +255,16 @@ export class Space {
 
         /**
          * The same, once; the numbers that are in use are added to `busy`.
-         * @param {() => Space} make @param {readonly number[]} numbers @param {boolean} fresh
+         * @param {() => Space} make @param {string} key @param {readonly number[]} numbers @param {boolean} fresh
          * @param {boolean} isUpToNew @param {number[]} busy
          */
-        const firstNow = async (make, numbers, fresh, isUpToNew, busy) => {
+        const firstNow = async (make, key, numbers, fresh, isUpToNew, busy) => {
             /** @type {Space | null} */
             let best = null;
             try {
                 for (const number of numbers) {
-                    const space = make(), state = await space.#stateOf(number, fresh);
+                    const space = make(), isFree = await space.#locks(key, number);
+                    const state = isFree ? await space.#stateOf(number, fresh) : 'busy';
                     if (state === 'busy') busy.push(number);
                     if (state === 'taken' || state === 'new' && fresh) {
                         best?.close();
@@ -267,6 +280,17 @@ export class Space {
                 throw fault;
             }
         };
+    }
+
+    /**
+     * Whether no other space on this machine has this number, as far as is known; this one has it from now on.
+     * @param {string} key @param {number} number
+     */
+    async #locks(key, number) {
+        const lock = await lockOf(key, number);
+        if (lock === 'held') return false;
+        this.#lock = lock;
+        return true;
     }
 
     /**
@@ -316,7 +340,7 @@ export class Space {
         }
         const given = checkedOptions(options, OPTIONS), begin = performance.now();
         checkedNumbers(given);
-        this.#ports = ports.map(checkedPort);
+        this.#ports = Array.from(ports, checkedPort);
         this.#patience = milliseconds('the patience', given.patience ?? PATIENCE, SHORTEST_PAUSE);
         this.#connect = given.connect ?? connectTo;
         this.#now = given.clock ?? (() => Math.floor(performance.now() - begin));
@@ -324,7 +348,7 @@ export class Space {
         insides.set(this, {
             call: (begin, limits, ways) => this.#call(begin, limits, ways),
             machine: () => this.#machine,
-            finish: () => this.#finishPending(),
+            finish: (timeout) => this.#finishPending(timeout),
             isOver: () => this.#isClosed || this.#broken !== null || this.#machine.hasLeft,
             onOver: (offer, hear) => this.#hearers.set(offer, hear),
             patience: this.#patience,
@@ -375,6 +399,8 @@ export class Space {
         this.#isClosed = true;
         this.#finish(new Closed('the space was closed'));
         for (const link of this.#links) this.#letGo(link);
+        this.#lock?.release();
+        this.#lock = null;
     }
 
     [DISPOSE]() {
@@ -421,7 +447,7 @@ export class Space {
      */
     async outMany(tuples, limits = /** @type {any} */ ({})) {
         if (!Array.isArray(tuples)) throw new OutOfRange(`the tuples are an array of arrays: ${shown(tuples)}`);
-        const checked = tuples.map(checkedTuple), given = checkedLimits(limits);
+        const checked = Array.from(tuples, checkedAt), given = checkedLimits(limits);
         const ended = await this.#call((machine) => machine.outMany(checked), given);
         return /** @type {Put[]} */ (listOf(ended));
     }
@@ -620,8 +646,8 @@ export class Space {
      *     process.exitCode = await space.work(['job', INT], async ([, n]) => ['done', n, n * n]) > 0 ? 0 : 1;
      *
      * - `template`: an array, or an In, or several In, the first of which goes first. The function returns nothing, a
-     *   tuple, or an array of tuples; anything else is a TypeError, which ends the work. If the hold was lost meanwhile
-     *   its result is not put, for another worker has
+     *   tuple, or an array of tuples; anything else is a TypeError, which ends the work. A tuple with a value that is out
+     *   of range is an error of the function. If the hold was lost meanwhile its result is not put, for another worker has
      *   the job.
      * - `tries`: the last field of a job is how often it failed, 0 at first, and the last pattern has to be INT. A job
      *   whose function throws stays held for `delay` * 2 ** failed milliseconds (1,000 if nothing else is said), while
@@ -630,12 +656,13 @@ export class Space {
      *   At most 32 jobs wait so; then the oldest is waited for. If `tries` is not given, what the function throws ends
      *   the work, and the job is free again.
      * - `stop`: an Rd; `signal`: an AbortSignal. The work ends once there is such a tuple, once the signal is aborted,
-     *   or on SIGTERM, in order: the job in hand is finished, those that wait for their next try are put back with
+     *   or on SIGTERM (which no worker of `worker_threads` hears), in order: the job in hand is finished, those that wait for their next try are put back with
      *   their count, and it returns. So it does if no job came for `timeout` milliseconds, and none waits for its next
      *   try.
      * - `keep`: milliseconds between two signs that this client is at work, 500 if nothing else is said.
-     * - `onerror`: is called with each error after which the work goes on. A server that is away, or has no room, is
-     *   tried again; once the work has to end, it throws NoConnection or TimedOut if something is not known then.
+     * - `onerror`: is called with each error after which the work goes on. A server that is away, that has another
+     *   connection under this number still (Busy), or has no room, is tried again; once the work has to end, it throws
+     *   NoConnection, TimedOut or Refused if something is not known then.
      *
      * It makes calls of the space, and waits in them: what else waits for long needs a space of its own.
      * @template {Patterns} T
@@ -693,33 +720,43 @@ export class Space {
 
     /**
      * What is pending after an error: 'out', 'outMany', 'takeMany', 'purge', 'lastReply', 'leave', 'accept'; 'sync' if
-     * a tuple was taken, or may have been, by a call that an error ended; or null. During a call: what is waited for.
+     * a tuple was taken, or may have been, by a call that an error ended; or null. If there is one of the others and such
+     * a tuple, it is the other one. During a call: what is waited for.
      * @returns {'out' | 'outMany' | 'takeMany' | 'purge' | 'lastReply' | 'leave' | 'accept' | 'sync' | null}
      */
     get pending() {
-        const kind = this.#machine.task?.kind ?? null;
-        return this.#machine.inHand.length > 0 ? 'sync' : kind === 'pass' ? null : kind;
+        const { task, inHand } = this.#machine;
+        if (task !== null && task.kind !== 'pass') return task.kind;
+        return inHand.length > 0 ? 'sync' : null;
     }
 
     /**
      * Goes on with what is pending after an error: sends what is unanswered again, under its number, and waits for its
      * end, which it returns: Stored for an out, Outcome for an accept, and for a take whose tuple was taken; Kept for
      * `lastReply`; what `outMany`, `takeMany` and `purge` return; null for a leave, and for a take that came too late:
-     * nothing was taken then. Nothing is done twice by that.
+     * nothing was taken then. Nothing is done twice by that. A tuple that was taken for a call before that is returned by
+     * the `again` after it.
      *
      * Throws Idle if nothing is pending; Gone for an accept that came too late; else as what it goes on with.
      * @param {Limits} [limits] @returns {Promise<Stored | Outcome | Kept | Put[] | Tuple[] | number | null>}
      */
     async again(limits = {}) {
-        const checked = checkedLimits(limits);
+        const checked = checkedLimits(limits), machine = this.#machine;
+        const isPending = () => machine.task !== null && machine.task.kind !== 'pass';
         if (this.pending === null && !this.#isCalled) throw new Idle('nothing is pending');
-        if (this.#machine.inHand.length === 0) {
-            const ended = await this.#call((machine) => machine.goOn(), checked, { isAgain: true, isQuiet: true });
+        if (isPending() || machine.inHand.length === 0) {
+            let wasPending = false;
+            const begin = () => {
+                wasPending = isPending();
+                machine.goOn();
+            };
+            const ended = await this.#call(begin, checked, { isAgain: true, isQuiet: true });
             if (ended instanceof Taken) return ended.outcome;
             if (ended instanceof Many) return listOf(ended);
             if (ended instanceof Stored || ended instanceof Kept || ended instanceof Outcome) return ended;
+            if (wasPending) return null;
         }
-        return this.#machine.inHand.shift() ?? null;
+        return machine.inHand.shift() ?? null;
     }
 
     /**
@@ -868,7 +905,7 @@ export class Space {
         if (this.#isCalled) await this.#itsTurn(signal);
         this.#isCalled = true;
         try {
-            if (this.#machine.held.size > 0) await turned();
+            await this.#heard();
             this.#beOpen();
             if (signal?.aborted) throw new Aborted(signal.reason);
             return await this.#callNow(begin, limits, isAgain, isQuiet, isWaiting);
@@ -877,10 +914,30 @@ export class Space {
             this.#send();
             throw this.#withPending(fault);
         } finally {
+            this.#rest();
             const next = this.#queue.shift();
             if (next === undefined) this.#isCalled = false;
             else next();
         }
+    }
+
+    /** Between two calls what arrives waits; but the end of a connection over which something is held is heard. */
+    #rest() {
+        for (const { server, stream } of this.#links) {
+            if (this.#machine.heldAt(server) === 0) stream?.pause();
+            /** @type {any} */ (stream)?.unref?.();
+        }
+    }
+
+    /**
+     * The end of a connection that is there already has been heard. So nothing is sent over one that has ended: it would
+     * count as sent, and another program may have used this number meanwhile.
+     */
+    async #heard() {
+        const up = this.#links.filter((link) => link.isUp && !link.isOver);
+        if (up.length === 0) return;
+        for (const { stream } of up) stream?.resume();
+        await turned();
     }
 
     /**
@@ -923,21 +980,23 @@ export class Space {
     #itsTurn(signal) {
         return new Promise((resolve, reject) => {
             const leave = () => {
-                this.#queue = this.#queue.filter((other) => other !== go);
+                remove();
                 reject(this.#withPending(new Aborted(signal?.reason)));
             };
-            const go = () => {
+            const remove = this.#queue.push(() => {
                 signal?.removeEventListener('abort', leave);
                 resolve();
-            };
+            });
             signal?.addEventListener('abort', leave, { once: true });
-            this.#queue.push(go);
         });
     }
 
-    /** Finishes what is pending after an error; what was taken by that is in hand then. */
-    async #finishPending() {
-        const machine = this.#machine, limits = { timeout: this.#patience, signal: null };
+    /**
+     * Finishes what is pending after an error; what was taken by that is in hand then.
+     * @param {number} [timeout]
+     */
+    async #finishPending(timeout = Infinity) {
+        const machine = this.#machine, limits = { timeout: Math.min(timeout, this.#patience), signal: null };
         const isOld = machine.task?.kind === 'sync' || machine.task?.kind === 'pass';
         const begin = () => { if (!isOld && machine.task !== null) machine.goOn(); };
         if (machine.task === null) return;
@@ -1003,10 +1062,7 @@ export class Space {
         if (waiter === null) return;
         this.#waiter = null;
         clearTimeout(this.#timer);
-        for (const { server, stream } of this.#links) {
-            if (this.#machine.heldAt(server) === 0) stream?.pause();
-            /** @type {any} */ (stream)?.unref?.();
-        }
+        this.#rest();
         waiter.end(fault);
     }
 
@@ -1048,7 +1104,12 @@ export class Space {
         this.#machine.sent = [];
         for (const link of this.#links) {
             const own = sent.filter(([server]) => server === link.server).map(([, data]) => data);
-            if (own.length > 0 && link.isUp && !link.isOver) link.stream?.write(Buffer.concat(own));
+            if (own.length === 0 || !link.isUp || link.isOver) continue;
+            for (const data of own) {
+                const number = numberOf(data);
+                if (number > link.lastSent) link.lastSent = number;
+            }
+            link.stream?.write(Buffer.concat(own));
         }
     }
 
@@ -1083,6 +1144,7 @@ export class Space {
             return false;
         }
         if (link.isUp) {
+            if (this.#machine.isJudged(link.server, reply)) link.lastSent = this.#machine.numbers[link.server] - 1n;
             try {
                 this.#machine.receive(link.server, reply);
             } catch (fault) {
@@ -1111,7 +1173,8 @@ export class Space {
 
     /**
      * A server has welcomed the client. Numbers go on after the last one of an earlier life; a later Welcome changes
-     * nothing, and what is unanswered is sent again.
+     * nothing, and what is unanswered is sent again. What was never sent to it cannot be done: then another program did
+     * something under this number.
      * @param {Link} link @param {bigint} last
      */
     #welcome(link, last) {
@@ -1120,7 +1183,7 @@ export class Space {
             machine.numbers[server] = last + 1n;
         } else if (last < answered) {
             throw this.#breakBy(link, new Restored(server, last, answered));
-        } else if (last > answered + BigInt(machine.unansweredAt(server))) {
+        } else if (last > answered + BigInt(machine.unansweredAt(server)) || last > answered && last > link.lastSent) {
             throw this.#breakBy(link, new NumberInUse(server, last, answered, machine.client));
         }
         link.isUp = link.wasUp = true;
@@ -1198,7 +1261,7 @@ export class Space {
             return;
         }
         this.#letGo(link);
-        if (link.busyUntil !== null) throw new Refused(link.server, 3, 0n, this.#machine.client);
+        if (link.busyUntil !== null && link.busyUntil > 0) throw new Refused(link.server, 3, 0n, this.#machine.client);
         throw link.noConnection();
     }
 
@@ -1294,7 +1357,19 @@ function checkedNumbers({ client, numbers }) {
     if (client === undefined) return undefined;
     if (!Array.isArray(client)) return Number(within('a client', client, 0, MOST_CLIENT));
     if (client.length === 0) throw new OutOfRange('there is no client number');
-    return client.map((number) => Number(within('a client', number, 0, MOST_CLIENT)));
+    return Array.from(client, (number) => Number(within('a client', number, 0, MOST_CLIENT)));
+}
+
+/**
+ * One of several tuples. Throws OutOfRange, which says which one, if it is none.
+ * @param {unknown} tuple @param {number} place
+ */
+function checkedAt(tuple, place) {
+    try {
+        return checkedTuple(tuple);
+    } catch (fault) {
+        throw fault instanceof OutOfRange ? new OutOfRange(`tuple ${place}: ${fault.message}`) : fault;
+    }
 }
 
 /**

@@ -3,7 +3,7 @@
 import { Aborted, Busy, Gone, NoConnection, OutOfRange, Refused, TimedOut } from './errors.mjs';
 import { Choose, In, SpaceEvent } from './events.mjs';
 import { insideOf, turned } from './inside.mjs';
-import { LONGEST_TIMER, MOST_FIELDS, plain, shown } from './limits.mjs';
+import { LONGEST_TIMER, MOST_FIELDS, MOST_INTEGER, plain, shown } from './limits.mjs';
 import { Offer } from './results.mjs';
 import {
     checkedOptions, checkedSignal, checkedTemplate, checkedTuple, checkedValue, INT, milliseconds, within,
@@ -42,10 +42,23 @@ function inputsOf(template) {
     const isInput = (/** @type {unknown} */ it) => it instanceof SpaceEvent && it.kind === 'in';
     if (isInput(template)) return [/** @type {SpaceEvent} */ (template)];
     if (Array.isArray(template) && template[0] instanceof SpaceEvent) {
-        if (!template.every(isInput)) throw new OutOfRange(`the jobs are several In, or a template: ${shown(template)}`);
-        return template;
+        const inputs = Array.from(template);
+        if (!inputs.every(isInput)) throw new OutOfRange(`the jobs are several In, or a template: ${shown(template)}`);
+        return inputs;
     }
     return [In(...checkedTemplate(template))];
+}
+
+/**
+ * What ends the works that are under way: one listener of SIGTERM for all of them.
+ * @type {Set<() => void>}
+ */
+const stops = new Set();
+
+function stopAll() {
+    const all = [...stops];
+    stops.clear();
+    for (const stop of all) stop();
 }
 
 class Work {
@@ -101,7 +114,8 @@ class Work {
             this.#isStopping = true;
             this.#stopper.abort();
         };
-        process.once('SIGTERM', stop);
+        stops.add(stop);
+        if (stops.size === 1) process.once('SIGTERM', stopAll);
         this.#signal?.addEventListener('abort', stop);
         if (this.#signal?.aborted) stop();
         try {
@@ -110,7 +124,8 @@ class Work {
             while (this.#waiting.length > 0) await this.#tryAgain();
             await this.#forgetLast();
         } finally {
-            process.removeListener('SIGTERM', stop);
+            stops.delete(stop);
+            if (stops.size === 0) process.removeListener('SIGTERM', stopAll);
             this.#signal?.removeEventListener('abort', stop);
             for (const { offer } of this.#waiting) offer.release();
         }
@@ -176,9 +191,10 @@ class Work {
     async #failed(offer, fault) {
         const { tries, delay, dead } = this.#given, { tuple } = offer;
         if (tries === null) throw fault;
-        const failed = Number(tuple.at(-1)), count = plain(BigInt(/** @type {number} */ (tuple.at(-1))) + 1n);
+        const failed = Number(tuple.at(-1)), had = BigInt(/** @type {number} */ (tuple.at(-1)));
+        const count = had < MOST_INTEGER ? plain(had + 1n) : MOST_INTEGER;
         if (count < tries) {
-            const due = performance.now() + Math.min(LONGEST_TIMER, delay * 2 ** failed);
+            const due = performance.now() + (delay > 0 ? Math.min(LONGEST_TIMER, delay * 2 ** failed) : 0);
             this.#waiting.push({ offer, due, next: Object.freeze([...tuple.slice(0, -1), count]) });
             this.#waiting.sort((one, other) => one.due - other.due);
             return;
@@ -276,7 +292,7 @@ class Work {
                     };
                     continue;
                 }
-                if (!(fault instanceof NoConnection || fault instanceof TimedOut)) throw fault;
+                if (!isAway(fault)) throw fault;
                 this.#given.onerror(fault);
                 if (this.#isStopping) throw fault;
                 await this.#pause();
@@ -316,6 +332,14 @@ class Work {
     }
 }
 
+/**
+ * Whether it says that a server is away, or that it has another connection under this number still.
+ * @param {unknown} fault
+ */
+function isAway(fault) {
+    return fault instanceof NoConnection || fault instanceof TimedOut || fault instanceof Refused && fault.reason === 'Busy';
+}
+
 /** A function returned what is no result. */
 class WrongResult extends Error {}
 
@@ -325,11 +349,11 @@ class WrongResult extends Error {}
  */
 function tuplesOf(result) {
     if (result == null) return [];
-    const isArray = Array.isArray(result), isMany = isArray && (result.length === 0 || Array.isArray(result[0]));
-    if (!isArray || isMany && !result.every(Array.isArray)) {
+    const items = Array.isArray(result) ? Array.from(result) : null, isMany = items?.length === 0 || Array.isArray(items?.[0]);
+    if (items === null || isMany && !items.every(Array.isArray)) {
         throw new WrongResult(`a worker's function returns nothing, a tuple or an array of tuples: ${shown(result)}`);
     }
-    return isMany ? result.map(checkedTuple) : [checkedTuple(result)];
+    return isMany ? items.map(checkedTuple) : [checkedTuple(items)];
 }
 
 /** @param {unknown} fault */

@@ -270,9 +270,8 @@ class Space:
     async def again(self, timeout: Optional[float] = None) -> Settled:
         """As `linda_space.Space.again`."""
         inner = self._inner
-        inner._has_pending()
-        ended = await self._call(inner._machine.go_on, timeout, is_again=True) if not inner._machine.in_hand else None
-        return inner._again_as(ended)
+        had = inner._only_in_hand()
+        return had if had is not None else inner._again_as(await self._call(inner._machine.go_on, timeout, is_again=True))
 
     def abandon(self) -> Tuple[int, ...]:
         """As `linda_space.Space.abandon`."""
@@ -476,10 +475,10 @@ class Pool:
 
     # ---- members
 
-    async def _lend(self) -> Space:
-        """A member that is not in use, and has nothing pending."""
+    async def _lend(self, until: float) -> Space:
+        """A member that is not in use, and has nothing pending. Raises TimedOut if none is free by this time."""
         self._inherit()
-        member = await self._next_member()
+        member = await self._next_member(until)
         try:
             await self._finish(member)
         except (NoConnection, TimedOut, Refused) as fault:
@@ -494,14 +493,16 @@ class Pool:
             raise
         return member
 
-    async def _next_member(self) -> Space:
+    async def _next_member(self, until: float) -> Space:
         while True:
             if self._is_closed:
                 raise Closed("the pool was closed")
             if self._cut or self._free:
                 return (self._cut or self._free).popleft()
             if len(self._members) + self._making >= self._size:
-                await self._change()
+                if until <= time.monotonic():
+                    raise TimedOut()
+                await self._change(until)
                 continue
             self._making += 1
             try:
@@ -521,10 +522,12 @@ class Pool:
             self._members.append(member)
             return member
 
-    async def _change(self) -> None:
-        """Waits until a member is free, or there is room for one. Who is cancelled when it was its turn lets the next one have it."""
-        waiter = asyncio.get_running_loop().create_future()
+    async def _change(self, until: float) -> None:
+        """Waits until a member is free, or there is room for one, or it is this time. Who is cancelled when it was its turn lets the next one have it."""
+        loop = asyncio.get_running_loop()
+        waiter = loop.create_future()
         self._waiting.append(waiter)
+        bell = None if until == math.inf else loop.call_later(max(0.0, until - time.monotonic()), self._ring, waiter)
         try:
             await waiter
         except asyncio.CancelledError:
@@ -533,6 +536,15 @@ class Pool:
             else:
                 self._notify()
             raise
+        finally:
+            if bell is not None:
+                bell.cancel()
+
+    def _ring(self, waiter: asyncio.Future[None]) -> None:
+        """The time is up of a call that waits."""
+        if not waiter.done():
+            self._waiting.remove(waiter)
+            waiter.set_result(None)
 
     def _notify(self) -> bool:
         """Wakes one who waits; whether there was one."""
@@ -596,11 +608,13 @@ class Pool:
         self._notify()
 
     @asynccontextmanager
-    async def _lent(self) -> AsyncIterator[Space]:
-        member = await self._lend()
+    async def _lent(self, timeout: Optional[float]) -> AsyncIterator[Tuple[Space, Optional[float]]]:
+        """A member for a call of so many seconds, and how many are left of them."""
+        until = math.inf if timeout is None else time.monotonic() + as_seconds("a timeout", timeout)
+        member = await self._lend(until)
         is_last = is_useless = False
         try:
-            yield member
+            yield member, None if until == math.inf else max(0.0, until - time.monotonic())
         except SpaceError as fault:
             is_last, is_useless = isinstance(fault, (NoConnection, TimedOut)), member._inner._over is not None
             raise
@@ -610,19 +624,19 @@ class Pool:
             else:
                 self._give_back(member, is_last)
 
-    async def _do(self, call: Callable[[Space], Awaitable[Got]]) -> Got:
-        async with self._lent() as member:
-            return await call(member)
+    async def _do(self, call: Callable[[Space, Optional[float]], Awaitable[Got]], timeout: Optional[float]) -> Got:
+        async with self._lent(timeout) as (member, left):
+            return await call(member, left)
 
-    # ---- calls, as those of Space
+    # ---- calls, as those of Space; the wait for a member counts in `timeout`
 
     async def out(self, tag: Value, *fields: Value, timeout: Optional[float] = None) -> Tuple[int, int]:
         """As `Space.out`."""
-        return await self._do(lambda space: space.out(tag, *fields, timeout=timeout))
+        return await self._do(lambda space, left: space.out(tag, *fields, timeout=left), timeout)
 
     async def out_many(self, tuples: Iterable[Sequence[Value]], timeout: Optional[float] = None) -> List[Optional[Tuple[int, Optional[int]]]]:
         """As `Space.out_many`."""
-        return await self._do(lambda space: space.out_many(tuples, timeout))
+        return await self._do(lambda space, left: space.out_many(tuples, left), timeout)
 
     @overload
     async def take(self, tag: Value, *patterns: Pattern, timeout: None = None) -> Values: ...
@@ -632,15 +646,15 @@ class Pool:
 
     async def take(self, tag: Value, *patterns: Pattern, timeout: Optional[float] = None) -> Optional[Values]:
         """As `Space.take`. A tuple that was just being taken when the task was cancelled is put back."""
-        return await self._do(lambda space: space.take(tag, *patterns, timeout=timeout))
+        return await self._do(lambda space, left: space.take(tag, *patterns, timeout=left), timeout)
 
     async def take_many(self, tag: Value, *patterns: Pattern, count: int, timeout: Optional[float] = None) -> List[Values]:
         """As `Space.take_many`."""
-        return await self._do(lambda space: space.take_many(tag, *patterns, count=count, timeout=timeout))
+        return await self._do(lambda space, left: space.take_many(tag, *patterns, count=count, timeout=left), timeout)
 
     async def purge(self, tag: Value, *patterns: Pattern, timeout: Optional[float] = None) -> int:
         """As `Space.purge`."""
-        return await self._do(lambda space: space.purge(tag, *patterns, timeout=timeout))
+        return await self._do(lambda space, left: space.purge(tag, *patterns, timeout=left), timeout)
 
     @overload
     async def read(self, tag: Value, *patterns: Pattern, timeout: None = None) -> Values: ...
@@ -650,15 +664,15 @@ class Pool:
 
     async def read(self, tag: Value, *patterns: Pattern, timeout: Optional[float] = None) -> Optional[Values]:
         """As `Space.read`."""
-        return await self._do(lambda space: space.read(tag, *patterns, timeout=timeout))
+        return await self._do(lambda space, left: space.read(tag, *patterns, timeout=left), timeout)
 
     async def look(self, tag: Value, *patterns: Pattern, timeout: Optional[float] = None) -> Optional[Values]:
         """As `Space.look`."""
-        return await self._do(lambda space: space.look(tag, *patterns, timeout=timeout))
+        return await self._do(lambda space, left: space.look(tag, *patterns, timeout=left), timeout)
 
     async def choose(self, *branches: Event, timeout: Optional[float] = None) -> Outcome:
         """As `Space.choose`."""
-        return await self._do(lambda space: space.choose(*branches, timeout=timeout))
+        return await self._do(lambda space, left: space.choose(*branches, timeout=left), timeout)
 
     @overload
     def hold(self, tag: Value, *patterns: Pattern, timeout: None = None, keep: Optional[float] = None) -> AsyncContextManager[Offer]: ...
@@ -667,10 +681,10 @@ class Pool:
     def hold(self, tag: Value, *patterns: Pattern, timeout: Optional[float], keep: Optional[float] = None) -> AsyncContextManager[Optional[Offer]]: ...
 
     def hold(self, tag: Value, *patterns: Pattern, timeout: Optional[float] = None, keep: Optional[float] = None) -> AsyncContextManager[Any]:
-        """As `Space.hold`: the member is in use until the end of the block."""
+        """As `linda_space.Pool.hold`: the member is in use until the end of the block."""
         return self._hold(tag, patterns, timeout, keep)
 
     @asynccontextmanager
     async def _hold(self, tag: Value, patterns: Tuple[Pattern, ...], timeout: Optional[float], keep: Optional[float]) -> AsyncIterator[Optional[Offer]]:
-        async with self._lent() as member, member.hold(tag, *patterns, timeout=timeout, keep=keep) as offer:
+        async with self._lent(timeout) as (member, left), member.hold(tag, *patterns, timeout=left, keep=keep) as offer:
             yield offer

@@ -57,11 +57,13 @@ class NoConnection(SpaceError):
 
 
 class TimedOut(SpaceError):
-    """The time of a call is up, and something is not known: `servers` have not answered, or have no connection."""
+    """The time of a call is up, and something is not known: `servers` have not answered, or have no connection. If there are none all members of a pool were in
+    use, and nothing was sent."""
 
-    def __init__(self, servers: Sequence[int]) -> None:
+    def __init__(self, servers: Sequence[int] = ()) -> None:
         self.servers = tuple(servers)
-        super().__init__(f"the time is up, and there is no answer of server {', '.join(map(str, self.servers))}")
+        missing = f"there is no answer of server {', '.join(map(str, self.servers))}" if servers else "no member of the pool was free"
+        super().__init__(f"the time is up, and {missing}")
 
 
 class Restored(SpaceError):

@@ -3,7 +3,7 @@
 from __future__ import annotations
 
 from dataclasses import dataclass
-from typing import FrozenSet, List, Tuple, Union
+from typing import Dict, FrozenSet, List, Tuple, Union
 
 from .errors import OutOfRange
 from .limits import MOST_ASKS, MOST_BASES, MOST_DEPTH, MOST_LABEL, MOST_TIME
@@ -126,24 +126,51 @@ class Base:
     above: FrozenSet[int]
 
 
+def below(event: Event) -> Tuple[Event, ...]:
+    """The events of which an event is made; none of a base."""
+    return event.events if isinstance(event, Choose) else (event.event,) if isinstance(event, (Wrap, Nack)) else ()
+
+
+def check_size(event: Event) -> None:
+    """Raises OutOfRange if an event is too deep, or else has too many bases. An event that is in it more than once is looked at once."""
+    sizes: Dict[int, Tuple[int, int, int]] = {}         # by identity how deep its bases are in it, or -1 if it has none; how many they are; how many of them ask
+    left = [event]
+    while left:
+        node = left[-1]
+        members = below(node)
+        missing = [member for member in members if id(member) not in sizes]
+        if missing:
+            left += missing
+            continue
+        left.pop()
+        if isinstance(node, (Choose, Wrap, Nack)):
+            each = [sizes[id(member)] for member in members]
+            deepest = max((size[0] for size in each), default=-1)
+            sizes[id(node)] = deepest + 1 if deepest >= 0 else -1, sum(size[1] for size in each), sum(size[2] for size in each)
+        else:
+            sizes[id(node)] = 0, 1, int(isinstance(node, Asking))
+    deepest, bases, asks = sizes[id(event)]
+    if deepest > MOST_DEPTH:
+        raise OutOfRange(f"a leaf of the event is under more than {MOST_DEPTH} nodes")
+    if bases > MOST_BASES or asks > MOST_ASKS:
+        raise OutOfRange(f"the event has more than {MOST_BASES} bases, or more than {MOST_ASKS} inputs and reads")
+
+
 def bases_and_nacks(event: Event) -> Tuple[List[Base], List[int]]:
     """The bases and the nack numbers of an event, each in tree order. Raises OutOfRange if it is too deep, or else has too many bases."""
+    check_size(event)
     bases: List[Base] = []
     nacks: List[int] = []
-    left: List[Tuple[Event, int, Tuple[int, ...], FrozenSet[int]]] = [(event, 0, (), frozenset())]
+    left: List[Tuple[Event, Tuple[int, ...], FrozenSet[int]]] = [(event, (), frozenset())]
     while left:
-        node, depth, labels, above = left.pop()
+        node, labels, above = left.pop()
         if isinstance(node, Choose):
-            left += [(member, depth + 1, labels, above) for member in reversed(node.events)]
+            left += [(member, labels, above) for member in reversed(node.events)]
         elif isinstance(node, Wrap):
-            left.append((node.event, depth + 1, (node.label, *labels), above))
+            left.append((node.event, (node.label, *labels), above))
         elif isinstance(node, Nack):
             nacks.append(node.number)
-            left.append((node.event, depth + 1, labels, above | {len(nacks) - 1}))
-        elif depth > MOST_DEPTH:
-            raise OutOfRange(f"a leaf of the event is under more than {MOST_DEPTH} nodes")
+            left.append((node.event, labels, above | {len(nacks) - 1}))
         else:
             bases.append(Base(len(bases), node, labels, above))
-    if len(bases) > MOST_BASES or sum(isinstance(base.leaf, Asking) for base in bases) > MOST_ASKS:
-        raise OutOfRange(f"the event has more than {MOST_BASES} bases, or more than {MOST_ASKS} inputs and reads")
     return bases, nacks

@@ -59,6 +59,8 @@ class Link:
     - `due`: when it is to be made, if there is none; `pause`: how long after that the next time is.
     - `until`: when it has been away for too long; `busy_until`: when Busy has been answered for too long, once it was answered.
     - `fault`: why the last connection could not be had, or ended.
+    - `last_sent`: the highest number that was sent on a connection that was up, or that Welcome had at the very first. A later Welcome has no higher one, unless
+      another program used the number.
     """
 
     def __init__(self, server: int, port: Port, fresh: bool, until: float) -> None:
@@ -71,6 +73,7 @@ class Link:
         self.busy_until: Optional[float] = None
         self.came, self.left = bytearray(), bytearray()     # what was read and not heard yet, and what is not written yet
         self.awaited = 0
+        self.last_sent = 0
 
     def frame(self) -> Optional[bytes]:
         """The next frame that came whole, without its length. Raises ValueError if there can be none."""

@@ -3,6 +3,9 @@
 The file of a program has a number a line. It is in the folder `$LINDA_STATE`, else `$XDG_STATE_HOME/linda`, else `~/.local/state/linda`, and its name is the
 program's, with the first 12 digits of the SHA-256 of the program's whole path: `square-1f0c9b3a7d52.numbers`. The server says which of them are in use, so
 several copies of a program may run at once. A last line without an end was cut when it was added, and is passed over.
+
+A server sees only who is connected now. So a number of a file, or of several, is claimed on this machine too (`Claim`): a program that has no connection for a
+while, as when its server is started again, keeps its number.
 """
 
 from __future__ import annotations
@@ -12,6 +15,7 @@ import hashlib
 import logging
 import os
 import random
+import socket
 import sys
 import time
 from pathlib import Path
@@ -60,6 +64,14 @@ class Numbers:
         else:
             self.first = within("a client", client, 0, MOST_CLIENT)
 
+    def key(self, ports: Sequence[object]) -> str:
+        """Under which name these numbers are claimed: those of one file, or of a list for these servers."""
+        if self.path is not None:
+            whole = os.fsencode(os.path.join(os.path.realpath(self.path.parent), self.path.name))
+        else:
+            whole = " ".join(["ports", *map(str, ports)]).encode()
+        return hashlib.sha256(whole).hexdigest()[:32]
+
     def read(self) -> List[int]:
         """The numbers of the file, each once; none if it is not there yet. Raises NoNumber if it cannot be read, or has something else."""
         assert self.path is not None
@@ -94,6 +106,33 @@ class Numbers:
             raise NoNumber(f"the file of client numbers {self.path}: {fault}") from fault
 
 
+class Claim:
+    """A number that this process has until it ends, or `end` is called: no other process of this machine claims it meanwhile. It is the name of a unix socket in
+    Linux's abstract namespace, which needs no file and goes with the process; elsewhere, or if the system refuses that, nothing is claimed. Raises FileExistsError
+    if another one has it."""
+
+    def __init__(self, key: str, number: int) -> None:
+        self._socket: Optional[socket.socket] = None
+        if sys.platform != "linux":
+            return
+        made = None
+        try:
+            made = socket.socket(socket.AF_UNIX, socket.SOCK_STREAM)
+            made.bind(f"\0linda_space/{key}/{number}".encode().ljust(108, b"\0"))     # the whole name, as Node.js binds it
+            self._socket, made = made, None
+        except OSError as fault:
+            if fault.errno == errno.EADDRINUSE:
+                raise FileExistsError(f"number {number} is in use") from fault
+        finally:
+            if made is not None:
+                made.close()
+
+    def end(self) -> None:
+        """Others may claim it."""
+        if self._socket is not None:
+            self._socket.close()
+
+
 def choose_number(space: Space, numbers: Numbers, fresh: bool) -> Course:
     """Greets each server under a number that is to be had."""
     if numbers.path is not None:
@@ -101,8 +140,9 @@ def choose_number(space: Space, numbers: Numbers, fresh: bool) -> Course:
     elif numbers.several is None:
         yield from space._greet(numbers.first, fresh)
     else:
+        key = numbers.key(space._ports)
         until = time.monotonic() + min(BUSY_PATIENCE, space._patience)
-        while not (yield from _of_several(space, numbers.several, fresh, True)):
+        while not (yield from _of_several(space, key, numbers.several, fresh, True)):
             if fresh or time.monotonic() >= until:
                 raise NoNumber(f"none of the client numbers from {numbers.several[0]} to {numbers.several[-1]} is to be had")
             yield from _rest()
@@ -110,23 +150,24 @@ def choose_number(space: Space, numbers: Numbers, fresh: bool) -> Course:
 
 def _of_file(space: Space, numbers: Numbers) -> Course:
     """Under a number of the file, or under a new one."""
-    if (yield from _of_several(space, numbers.read(), False, False)):
+    key = numbers.key(space._ports)
+    if (yield from _of_several(space, key, numbers.read(), False, False)):
         return
     for _ in range(MOST_DRAWS):
         number = random.SystemRandom().randint(LEAST_DRAWN, MOST_CLIENT)
-        if (yield from _try(space, number, True)) is not None:
+        if (yield from _try(space, key, number, True)) is not None:
             numbers.add(number)
             return
     raise NoNumber(f"none of {MOST_DRAWS} new client numbers is to be had")
 
 
-def _of_several(space: Space, numbers: Sequence[int], fresh: bool, stops: bool) -> Generator[float, None, bool]:
+def _of_several(space: Space, key: str, numbers: Sequence[int], fresh: bool, stops: bool) -> Generator[float, None, bool]:
     """Under the first number whose last reply is Taken, else under the first that is to be had; if `stops` none is looked at after one that was never used.
     Whether there was one. A number that was found is kept, with its connections, while others are looked at."""
-    found: Optional[Tuple[Machine, List[Link]]] = None
+    found: Optional[Tuple[Machine, List[Link], Optional[Claim]]] = None
     try:
         for number in numbers:
-            kept = yield from _try(space, number, fresh)
+            kept = yield from _try(space, key, number, fresh)
             if kept is None:
                 continue
             if fresh or any(reply is not None and reply.kind == "taken" for reply in kept):
@@ -135,14 +176,14 @@ def _of_several(space: Space, numbers: Sequence[int], fresh: bool, stops: bool) 
             if found is None:
                 if not was_used and stops:
                     return True
-                found = space._machine, space._set_aside()
+                found = (space._machine, *space._set_aside())
             else:
-                space._let_go_all()
+                space._give_number_up()
             if not was_used and stops:
                 break
         if found is None:
             return False
-        space._let_go_all()
+        space._give_number_up()
         space._take_back(*found)
         found = None
         return True
@@ -150,11 +191,17 @@ def _of_several(space: Space, numbers: Sequence[int], fresh: bool, stops: bool) 
         if found is not None:
             for link in found[1]:
                 space._let_go(link)
+            if found[2] is not None:
+                found[2].end()
 
 
-def _try(space: Space, number: int, fresh: bool) -> Generator[float, None, Optional[List[Optional[Kept]]]]:
+def _try(space: Space, key: str, number: int, fresh: bool) -> Generator[float, None, Optional[List[Optional[Kept]]]]:
     """Greets each server under this number: the replies that they keep, with `fresh` only that there are none. None, and no connection, if it is in use, was given
     up, or with `fresh` was used."""
+    try:
+        space._claim = Claim(key, number)
+    except FileExistsError:
+        return None
     try:
         yield from space._greet(number, fresh, True)
         kept: List[Optional[Kept]] = []
@@ -166,7 +213,7 @@ def _try(space: Space, number: int, fresh: bool) -> Generator[float, None, Optio
     except Refused as fault:
         if fault.name not in ("Busy", "Known", "Left"):
             raise
-    space._let_go_all()
+    space._give_number_up()
     return None
 
 

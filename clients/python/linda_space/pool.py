@@ -3,9 +3,11 @@
 from __future__ import annotations
 
 import logging
+import math
 import os
 import threading
 import time
+import weakref
 from collections import deque
 from contextlib import contextmanager
 from types import TracebackType
@@ -19,14 +21,32 @@ from .offers import Offer
 from .results import Outcome
 from .space import Space
 from .tasks import Put
-from .values import Pattern, Value, Values, within
+from .values import Pattern, Value, Values, as_seconds, within
 
 MOST_MEMBERS = 1_024
 AWAY = 0.5                  # seconds until a member whose server is away is tried again
-FINISH = 2.0                # seconds for which the end of what a member has pending is waited for, before a call is done by it
+FINISH = 2.0                # seconds for which the end of what a member has pending is waited for, before a call is done by it, whatever its timeout
+LOOK = 1.0                  # seconds until a call that waits for a member looks whether one belongs to a call that is gone
 Got = TypeVar("Got")
 
 log = logging.getLogger("linda_space")
+
+
+class Lent(List[Space]):
+    """What a call has of a pool: its member, if it has one, and its time. Once nobody refers to it the call is over, however it was interrupted."""
+    __slots__ = ("__weakref__", "until")
+
+    def __init__(self, members: Iterable[Space] = (), timeout: Optional[float] = None) -> None:
+        super().__init__(members)
+        self.until = math.inf if timeout is None else time.monotonic() + as_seconds("a timeout", timeout)
+
+    def left(self) -> float:
+        """How many seconds are left."""
+        return max(0.0, self.until - time.monotonic())
+
+    def timeout(self) -> Optional[float]:
+        """What is left of the time that the call was given."""
+        return None if self.until == math.inf else self.left()
 
 
 def has_left(member: Any, owed: Mapping[Any, Deque[Values]]) -> bool:
@@ -65,13 +85,14 @@ class Pool:
             raise OutOfRange(f"a pool needs several client numbers: {client!r}")
         self._make: Callable[[], Space] = lambda: Space(ports, client, **how)
         self._size = within("a size", size, 1, MOST_MEMBERS)
-        self._gate = threading.Condition()
+        self._gate = threading.Lock()                       # entered by `with` only: nothing interrupts between that and its block
+        self._waiting: Deque[threading.Lock] = deque()      # calls that wait for a member, each by a lock that is released for it
         self._process = os.getpid()
         self._is_closed = False
         self._members: List[Space] = []
-        self._making: Dict[int, List[Space]] = {}           # calls that make a member
+        self._making: List[weakref.ref[Lent]] = []          # calls that make a member
         self._free: List[Tuple[Space, float]] = []          # each with the time from which on it may be tried
-        self._users: Dict[Space, List[Space]] = {}          # by member the call that has it: so one that is interrupted anywhere gives it back, once
+        self._users: Dict[Space, weakref.ref[Lent]] = {}    # by member the call that has it: so one that is interrupted anywhere gives it back, once
         self._cut: Set[Space] = set()                       # those of them whose last call was interrupted and left something: they are lent first
         self._owed: Dict[Space, Deque[Values]] = {}         # by member what is to be put back
         self._left: Deque[Values] = deque()                 # what members that were of no use any more had to put back
@@ -91,6 +112,7 @@ class Pool:
         self._inherit()
         with self._gate:
             self._is_closed = True
+            self._reclaim()
             members, free = self._members, [member for member, _ in self._free if not member._is_inherited]
             left = list(self._left)
             if free:
@@ -98,7 +120,7 @@ class Pool:
                 left = []
             self._members, self._free = [], []
             self._left.clear()
-            self._gate.notify_all()
+            self._wake(len(self._waiting))
         until = time.monotonic() + FINISH
         try:
             for member in members:
@@ -117,13 +139,14 @@ class Pool:
     def _inherit(self) -> None:
         """In a process that was forked: what the pool owes its parent puts back, and a thread of the parent may have had the gate."""
         if os.getpid() != self._process:
-            self._process, self._gate = os.getpid(), threading.Condition()
+            self._process, self._gate = os.getpid(), threading.Lock()
+            self._waiting.clear()
             self._owed.clear()
             self._left.clear()
 
     # ---- members
 
-    def _lend(self, lent: List[Space]) -> Space:
+    def _lend(self, lent: Lent) -> Space:
         """A member that is not in use, and has nothing pending. What the call had on the way is in `lent`."""
         self._inherit()
         while True:
@@ -151,14 +174,14 @@ class Pool:
         except SpaceError as fault:
             log.warning("a pool is closed: %s", fault)
 
-    def _finish(self, member: Space, until: Optional[float] = None) -> None:
-        """Finishes what an error left pending at a member. What was taken for a call that raised an error is put back."""
+    def _finish(self, member: Space, until: float = math.inf) -> None:
+        """Finishes what an error left pending at a member, by this time. What was taken for a call that raised an error is put back."""
         owed = self._owed.setdefault(member, deque())
         with self._gate:
             owed.extend(self._left)
             self._left.clear()
         while True:
-            timeout = FINISH if until is None else max(0.0, until - time.monotonic())
+            timeout = max(0.0, min(FINISH, until - time.monotonic()))
             what = member.pending
             if what is not None:
                 result = member.again(timeout=timeout)
@@ -184,32 +207,65 @@ class Pool:
         with self._gate:
             return len(self._members) + len(self._making) < self._size or any(since <= time.monotonic() for _, since in self._free)
 
-    def _next_member(self, lent: List[Space]) -> Optional[Space]:
+    def _next_member(self, lent: Lent) -> Optional[Space]:
         """A member that is free, the best of them; None if a new one may be made."""
-        with self._gate:
-            while True:
+        while True:
+            with self._gate:
                 if self._is_closed:
                     raise Closed("the pool was closed")
+                if not self._free:
+                    self._reclaim()
                 now = time.monotonic()
                 ready = [entry for entry in self._free if entry[1] <= now]
                 if ready:
                     return self._take(next((one for one in ready if one[0] in self._cut), ready[-1]), lent)
                 if len(self._members) + len(self._making) < self._size:
-                    self._making[id(lent)] = lent
+                    self._making.append(weakref.ref(lent))
                     return None
                 if self._free:                              # the servers of all that are free were away a moment ago
                     return self._take(self._free[0], lent)
-                self._gate.wait()
+                left = lent.left()
+                if left == 0.0:
+                    raise TimedOut()
+                turn = threading.Lock()
+                turn.acquire()
+                self._waiting.append(turn)
+            try:
+                turn.acquire(timeout=min(LOOK, left))
+            except BaseException:
+                with self._gate:
+                    if turn not in self._waiting:
+                        self._wake(1)                       # it was this one's turn
+                raise
+            finally:
+                with self._gate:
+                    if turn in self._waiting:
+                        self._waiting.remove(turn)
 
-    def _take(self, entry: Tuple[Space, float], lent: List[Space]) -> Space:
+    def _wake(self, count: int) -> None:
+        """Has so many of the calls look again that wait for a member. The gate is closed meanwhile."""
+        for _ in range(min(count, len(self._waiting))):
+            self._waiting.popleft().release()
+
+    def _reclaim(self) -> None:
+        """Frees the members of calls that are gone: an interrupt may come where a call cannot give its own back. The gate is closed meanwhile."""
+        for member, user in list(self._users.items()):
+            if user() is None:
+                if member in self._members and all(one is not member for one, _ in self._free):
+                    self._free.append((member, 0.0))
+                    self._cut.add(member)
+                self._users.pop(member)
+        self._making = [user for user in self._making if user() is not None]
+
+    def _take(self, entry: Tuple[Space, float], lent: Lent) -> Space:
         member = entry[0]
         lent.append(member)
-        self._users[member] = lent
+        self._users[member] = weakref.ref(lent)
         self._free.remove(entry)
         self._cut.discard(member)
         return member
 
-    def _new_member(self, lent: List[Space]) -> Optional[Space]:
+    def _new_member(self, lent: Lent) -> Optional[Space]:
         """A new member; None if there is no number for one, and others are there: then there are no more than these."""
         member = None
         try:
@@ -223,19 +279,27 @@ class Pool:
             with self._gate:
                 if member is not None and not self._is_closed:
                     lent.append(member)
-                    self._users[member] = lent
+                    self._users[member] = weakref.ref(lent)
                     self._members.append(member)
-                self._making.pop(id(lent), None)
-                self._gate.notify_all()
+                self._end_making(lent)
         if member is not None and self._is_closed:
             member.close()
             raise Closed("the pool was closed")
         return member
 
-    def _give_back(self, member: Space, lent: List[Space], since: float = 0.0) -> None:
+    def _end_making(self, lent: Lent) -> None:
+        """The call makes no member any more: another one may. The gate is closed meanwhile."""
+        self._making = [user for user in self._making if user() is not lent]
+        self._wake(len(self._waiting))
+
+    def _has(self, lent: Lent, member: Space) -> bool:
+        user = self._users.get(member)
+        return user is not None and user() is lent
+
+    def _give_back(self, member: Space, lent: Lent, since: float = 0.0) -> None:
         """Unless another call has it by now, or it is free already."""
         with self._gate:
-            if self._users.get(member) is not lent:
+            if not self._has(lent, member):
                 return
             if not self._is_closed:
                 if all(one is not member for one, _ in self._free):
@@ -243,16 +307,16 @@ class Pool:
                 if since == 0.0 and has_left(member, self._owed):
                     self._cut.add(member)
                 self._users.pop(member)
-                self._gate.notify()
+                self._wake(1)
                 return
             self._users.pop(member)
         say_left(member, self._owed.pop(member, ()))
         member.close()
 
-    def _drop(self, member: Space, lent: List[Space]) -> None:
+    def _drop(self, member: Space, lent: Lent) -> None:
         """A member that is of no use any more."""
         with self._gate:
-            if self._users.get(member) is lent:
+            if self._has(lent, member):
                 self._users.pop(member)
             if member in self._members:
                 self._members.remove(member)
@@ -260,17 +324,18 @@ class Pool:
             if not self._is_closed:
                 self._left.extend(owed)
                 owed.clear()
-            self._gate.notify()
+            self._wake(1)
         say_left(member, owed)
         member.close()
 
     @contextmanager
-    def _lent(self) -> Iterator[Space]:
-        lent: List[Space] = []
+    def _lent(self, timeout: Optional[float]) -> Iterator[Tuple[Space, Optional[float]]]:
+        """A member for a call of so many seconds, and how many are left of them. Raises TimedOut if no member is free by then."""
+        lent = Lent(timeout=timeout)
         try:
             member = self._lend(lent)
             try:
-                yield member
+                yield member, lent.timeout()
             except SpaceError as fault:
                 if member._over is not None:                # another program has its number, or a server is an older one
                     self._drop(member, lent)
@@ -280,28 +345,27 @@ class Pool:
         finally:
             self._end_call(lent)
 
-    def _end_call(self, lent: List[Space]) -> None:
+    def _end_call(self, lent: Lent) -> None:
         """What the call has yet is given back."""
         for member in lent:
             self._give_back(member, lent)
-        if id(lent) in self._making:                        # it was interrupted when it was about to make one
+        if any(user() is lent for user in self._making):    # it was interrupted when it was about to make one
             with self._gate:
-                self._making.pop(id(lent), None)
-                self._gate.notify_all()
+                self._end_making(lent)
 
-    def _do(self, call: Callable[[Space], Got]) -> Got:
-        with self._lent() as member:
-            return call(member)
+    def _do(self, call: Callable[[Space, Optional[float]], Got], timeout: Optional[float]) -> Got:
+        with self._lent(timeout) as (member, left):
+            return call(member, left)
 
-    # ---- calls, as those of Space
+    # ---- calls, as those of Space; the wait for a member counts in `timeout`
 
     def out(self, tag: Value, *fields: Value, timeout: Optional[float] = None) -> Tuple[int, int]:
         """As `Space.out`."""
-        return self._do(lambda space: space.out(tag, *fields, timeout=timeout))
+        return self._do(lambda space, left: space.out(tag, *fields, timeout=left), timeout)
 
     def out_many(self, tuples: Iterable[Sequence[Value]], timeout: Optional[float] = None) -> List[Optional[Tuple[int, Optional[int]]]]:
         """As `Space.out_many`."""
-        return self._do(lambda space: space.out_many(tuples, timeout))
+        return self._do(lambda space, left: space.out_many(tuples, left), timeout)
 
     @overload
     def take(self, tag: Value, *patterns: Pattern, timeout: None = None) -> Values: ...
@@ -311,15 +375,15 @@ class Pool:
 
     def take(self, tag: Value, *patterns: Pattern, timeout: Optional[float] = None) -> Optional[Values]:
         """As `Space.take`."""
-        return self._do(lambda space: space.take(tag, *patterns, timeout=timeout))
+        return self._do(lambda space, left: space.take(tag, *patterns, timeout=left), timeout)
 
     def take_many(self, tag: Value, *patterns: Pattern, count: int, timeout: Optional[float] = None) -> List[Values]:
         """As `Space.take_many`."""
-        return self._do(lambda space: space.take_many(tag, *patterns, count=count, timeout=timeout))
+        return self._do(lambda space, left: space.take_many(tag, *patterns, count=count, timeout=left), timeout)
 
     def purge(self, tag: Value, *patterns: Pattern, timeout: Optional[float] = None) -> int:
         """As `Space.purge`."""
-        return self._do(lambda space: space.purge(tag, *patterns, timeout=timeout))
+        return self._do(lambda space, left: space.purge(tag, *patterns, timeout=left), timeout)
 
     @overload
     def read(self, tag: Value, *patterns: Pattern, timeout: None = None) -> Values: ...
@@ -329,15 +393,15 @@ class Pool:
 
     def read(self, tag: Value, *patterns: Pattern, timeout: Optional[float] = None) -> Optional[Values]:
         """As `Space.read`."""
-        return self._do(lambda space: space.read(tag, *patterns, timeout=timeout))
+        return self._do(lambda space, left: space.read(tag, *patterns, timeout=left), timeout)
 
     def look(self, tag: Value, *patterns: Pattern, timeout: Optional[float] = None) -> Optional[Values]:
         """As `Space.look`."""
-        return self._do(lambda space: space.look(tag, *patterns, timeout=timeout))
+        return self._do(lambda space, left: space.look(tag, *patterns, timeout=left), timeout)
 
     def choose(self, *branches: Event, timeout: Optional[float] = None) -> Outcome:
         """As `Space.choose`."""
-        return self._do(lambda space: space.choose(*branches, timeout=timeout))
+        return self._do(lambda space, left: space.choose(*branches, timeout=left), timeout)
 
     @overload
     def hold(self, tag: Value, *patterns: Pattern, timeout: None = None, keep: Optional[float] = None) -> ContextManager[Offer]: ...
@@ -346,10 +410,11 @@ class Pool:
     def hold(self, tag: Value, *patterns: Pattern, timeout: Optional[float], keep: Optional[float] = None) -> ContextManager[Optional[Offer]]: ...
 
     def hold(self, tag: Value, *patterns: Pattern, timeout: Optional[float] = None, keep: Optional[float] = None) -> ContextManager[Any]:
-        """As `Space.hold`: the member is in use until the end of the block."""
+        """As `Space.hold`: the member is in use until the end of the block, and a call of the pool there needs another one. So `size` is above the number of blocks
+        that call it at once, or these calls have a timeout."""
         return self._hold(tag, patterns, timeout, keep)
 
     @contextmanager
     def _hold(self, tag: Value, patterns: Tuple[Pattern, ...], timeout: Optional[float], keep: Optional[float]) -> Iterator[Optional[Offer]]:
-        with self._lent() as member, member.hold(tag, *patterns, timeout=timeout, keep=keep) as offer:
+        with self._lent(timeout) as (member, left), member.hold(tag, *patterns, timeout=left, keep=keep) as offer:
             yield offer

@@ -23,7 +23,7 @@ from .limits import (
 from .keeping import Keeper
 from .links import LONGEST_SLEEP, PIECE, Link, Port, as_port, connect_to, waits
 from .machine import Ended, Machine, Settled
-from .numbers import Client, Numbers, choose_number
+from .numbers import Claim, Client, Numbers, choose_number
 from .offers import Hold, Offer
 from .results import Kept, Outcome, Stored
 from .tasks import Leaving, Passed, Passing, Put, Repeat, Syncing, Taking
@@ -138,6 +138,7 @@ class Space:
         self._machine = Machine(numbers.first, len(ports))
         self._selector = selectors.DefaultSelector()
         self._keeper = Keeper(self)
+        self._claim: Optional[Claim] = None                 # of the number, if it is one of several
         _spaces.add(self)
         return choose_number(self, numbers, bool(fresh))
 
@@ -162,17 +163,18 @@ class Space:
             yield from self._wait(math.inf)
             self._hear_all()
 
-    def _set_aside(self) -> List[Link]:
-        """The links as they are, which are not looked at while the space has others."""
+    def _set_aside(self) -> Tuple[List[Link], Optional[Claim]]:
+        """The links as they are, which are not looked at while the space has others, and the claim of their number."""
         links, self._links = self._links, []
+        claim, self._claim = self._claim, None
         for link in links:
             if link.stream is not None:
                 self._selector.unregister(link.stream)
-        return links
+        return links, claim
 
-    def _take_back(self, machine: Machine, links: List[Link]) -> None:
+    def _take_back(self, machine: Machine, links: List[Link], claim: Optional[Claim]) -> None:
         """The links that were set aside are those of the space again."""
-        self._machine, self._links = machine, links
+        self._machine, self._links, self._claim = machine, links, claim
         for link in links:
             if link.stream is not None:
                 self._selector.register(link.stream, link.awaited, link)
@@ -207,8 +209,15 @@ class Space:
                 return
             self._end()
 
-    def _end(self) -> None:
+    def _give_number_up(self) -> None:
+        """The number that the space has is for others to take."""
         self._let_go_all()
+        claim, self._claim = self._claim, None
+        if claim is not None:
+            claim.end()
+
+    def _end(self) -> None:
+        self._give_number_up()
         self._selector.close()
         self._keeper.wake()
         _spaces.discard(self)
@@ -219,6 +228,8 @@ class Space:
         for link in self._links:
             if link.stream is not None:
                 link.stream.close()
+        if self._claim is not None:
+            self._claim.end()
         self._selector.close()
 
     # ---- what one asks for
@@ -398,11 +409,11 @@ class Space:
     def pending(self) -> Optional[str]:
         """What is pending after an error: "out", "out_many", "last_reply", "leave", "accept"; "take_many", "purge" or "sync" if something was taken, or may have
         been, by a call that an error ended; or None."""
-        if self._machine.in_hand:
-            return "sync"
         task = self._machine.task
         if isinstance(task, (Outs, Takes)):
             return task.name
+        if task is None and self._machine.in_hand:
+            return "sync"
         return {Put: "out", Syncing: "sync", Repeat: "last_reply", Leaving: "leave", Taking: "accept", Passing: "pass"}.get(type(task))
 
     @property
@@ -415,29 +426,30 @@ class Space:
     def again(self, timeout: Optional[float] = None) -> Settled:
         """Goes on with what is pending after an error: sends what is unanswered again, under its number, and waits for its end, which it returns: Stored for an
         out, Outcome for an accept, and for a take whose tuple was taken; Kept for `last_reply`; None for a leave, and for a take that came too late: nothing
-        was taken then; for `out_many`, `take_many` and `purge` what these return. Nothing is done twice by that.
+        was taken then; for `out_many`, `take_many` and `purge` what these return. Nothing is done twice by that. What was taken for an earlier call comes last: then
+        something is still `pending`.
 
         Raises Idle if nothing is pending; Gone for an accept that came too late; else as what it goes on with.
         """
-        self._has_pending()
-        ended = self._call(self._machine.go_on, timeout, is_again=True) if not self._machine.in_hand else None
-        return self._again_as(ended)
+        had = self._only_in_hand()
+        return had if had is not None else self._again_as(self._call(self._machine.go_on, timeout, is_again=True))
 
-    def _has_pending(self) -> None:
+    def _only_in_hand(self) -> Optional[Outcome]:
+        """What was taken for an earlier call, if nothing else is pending."""
         machine = self._machine
-        if machine.task is None and machine.ended is None and not machine.in_hand:
+        if machine.task is not None or machine.ended is not None:
+            return None
+        if not machine.in_hand:
             raise Idle("nothing is pending")
+        return machine.in_hand.popleft()
 
     def _again_as(self, ended: Optional[Ended]) -> Settled:
         """What `again` returns, if what it went on with ended so."""
-        machine = self._machine
         if isinstance(ended, Gone):
             raise ended
         if isinstance(ended, Outcome):
             return ended
-        if ended is not None and not isinstance(ended, (Offer, Passed)):
-            return machine.result(ended)
-        return machine.in_hand.popleft() if machine.in_hand else None
+        return None if ended is None or isinstance(ended, (Offer, Passed)) else self._machine.result(ended)
 
     def abandon(self) -> Tuple[int, ...]:
         """All nack numbers of the synchronization that an error ended before this call, all of which are raised. Nothing was taken for it.
@@ -527,11 +539,12 @@ class Space:
                 self._let_go_all()
                 self._machine.lost_offers = [offer for offer in self._machine.lost_offers if any(offer is it for it in held)]
 
-    def _look(self) -> None:
-        """Reads what came from the servers that hold something: a connection that ended is noticed so. If another thread is in a call, that reads all at once."""
+    def _look(self, servers: Optional[Iterable[int]] = None) -> None:
+        """Reads what came from these servers, or from those that hold something: a connection that ended is noticed so. If another thread is in a call, that reads
+        all at once."""
         if self._thread not in (None, threading.get_ident(), TASK):
             return
-        for server in {server for server, _ in self._machine.held}:
+        for server in {server for server, _ in self._machine.held} if servers is None else servers:
             link = self._links[server]
             while link.stream is not None and link.is_up and self._read(link):
                 pass
@@ -646,8 +659,9 @@ class Space:
             raise
 
     def _tell_lost(self, accepted: Optional[Offer] = None) -> None:
-        """Raises Gone of what was lost and not told yet; of only this offer, if it is being accepted, since that will tell."""
-        self._look()
+        """Raises Gone of what was lost and not told yet; of only this offer, if it is being accepted, since that will tell. Every connection is looked at: by one
+        that has ended nothing is sent, so that what is sent is known."""
+        self._look([link.server for link in self._links if link.is_up])
         if accepted is None and self._machine.lost_offers:
             lost, self._machine.lost_offers = self._machine.lost_offers, []
             raise Gone(lost)
@@ -709,6 +723,7 @@ class Space:
                 links.append(link)
         for link in self._links:
             if link in links:
+                link.last_sent = max(link.last_sent, self._machine.numbers[link.server] - 1 + self._machine.under_way(link.server))
                 self._write(link)
 
     def _hear_all(self) -> None:
@@ -824,14 +839,14 @@ class Space:
 
     def _welcome(self, link: Link, last: int) -> None:
         """A server has welcomed the client. Numbers go on after the last one of an earlier life. A later Welcome changes nothing: its last is the one that was
-        answered, or that of a message that is not answered yet; what is unanswered is sent again."""
+        answered, or that of a message that was sent and is not answered yet; what is unanswered is sent again."""
         machine, server = self._machine, link.server
         answered = machine.numbers[server] - 1
         if not link.was_up:
-            machine.numbers[server] = last + 1
+            machine.numbers[server], link.last_sent = last + 1, last
         elif last < answered:
             self._end_for_good(Restored(server, last, answered))
-        elif last > answered + machine.under_way(server):
+        elif last > max(answered, link.last_sent):
             self._end_for_good(NumberInUse(server, last, answered, machine.client))
         if link.was_up:
             log.info("server %d: connected again as client %d", server, machine.client)

@@ -5,10 +5,10 @@ ghost use Rattle.std.specs.Process.{exit_status};
 ghost use Rattle.linda.specs.Statuses.{status_after_call};
 
 use crate::end;
-use crate::explaining::{is_wanted, tell_line, tell_port, tell_socket};
+use crate::explaining::{explain_line, is_wanted, tell_port, tell_socket};
 use linda_args::{Paths, Ports};
 use linda_call::{CallFault, Manner, call_at_in_manner, call_in_manner};
-use linda_explain::{Keeper, LineSource};
+use linda_explain::{LineSource, RecentLinesReader};
 use linda_shell::LineFault;
 use std::io::Read;
 use std::net::{Net, TcpListener, TcpStream};
@@ -32,7 +32,7 @@ pub(crate) fn run_call<
     ensures { (exit_status result ≡ 0) ⊎ ((exit_status result ≡ 3) ⊎ (exit_status result ≡ 4)) }
 {
     let mut stdin = rt.stdin();
-    let mut lines = Keeper::new(rt.alloc(), &mut stdin);
+    let mut lines = RecentLinesReader::new(rt.alloc(), &mut stdin);
     let ended = call_in_manner(
         threads,
         rt.alloc(),
@@ -55,9 +55,13 @@ pub(crate) fn run_call<
 }
 
 // Says where a line of a client is no command, if that ended the call.
-fn explain_call<R: Read>(rt: &HostRuntime, ended: Result<(), CallFault>, lines: &Keeper<'_, R>) {
+fn explain_call<R: Read>(
+    rt: &HostRuntime,
+    ended: Result<(), CallFault>,
+    lines: &RecentLinesReader<'_, R>,
+) {
     if let Err(CallFault::Line(number, LineFault::NotACommand)) = ended {
-        tell_line(rt, lines, number, LineSource::OfCall);
+        explain_line(rt, lines, number, LineSource::OfCall);
     }
 }
 
@@ -75,7 +79,7 @@ pub(crate) fn run_call_at<
     ensures { (exit_status result ≡ 0) ⊎ ((exit_status result ≡ 3) ⊎ (exit_status result ≡ 4)) }
 {
     let mut stdin = rt.stdin();
-    let mut lines = Keeper::new(rt.alloc(), &mut stdin);
+    let mut lines = RecentLinesReader::new(rt.alloc(), &mut stdin);
     let ended = call_at_in_manner(
         threads,
         rt.alloc(),

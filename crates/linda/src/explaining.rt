@@ -2,13 +2,16 @@
 //! system says of a folder, a port or a socket. It is looked for once the fault was printed, so it
 //! may say nothing.
 
-use linda_explain::{Keeper, LineSource, explain};
+use linda_explain::{LineSource, RecentLinesReader, explain};
+use linda_serve_plan::{ServePlan, StatusPlace};
 use std::fmt::Display;
-use std::fs::File;
-use std::io;
+use std::fs::{self, OpenOptions};
 use std::io::{ErrorKind, IsTerminal, Read};
 use std::net::{Ipv4Addr, Net, SocketAddr, TcpListener, TcpStream};
 use std::os::unix::net::UnixStream;
+
+/// How many bytes the path of a unix socket has at most: some are added while it is made.
+const LONGEST_PATH: usize = 103;
 
 /// Whether a second line is wanted: it was asked for, or standard error is a terminal.
 pub(crate) fn is_wanted(rt: &HostRuntime, is_asked: bool) -> bool {
@@ -16,9 +19,9 @@ pub(crate) fn is_wanted(rt: &HostRuntime, is_asked: bool) -> bool {
 }
 
 /// Says where the line of this number goes wrong, and what was expected there.
-pub(crate) fn tell_line<R: Read>(
+pub(crate) fn explain_line<R: Read>(
     rt: &HostRuntime,
-    keeper: &Keeper<'_, R>,
+    keeper: &RecentLinesReader<'_, R>,
     number: u64,
     lines: LineSource,
 ) {
@@ -29,39 +32,102 @@ pub(crate) fn tell_line<R: Read>(
     }
 }
 
-/// Says why the folder of a store, or a bank in it, cannot be opened.
-pub(crate) fn tell_folder(rt: &HostRuntime, folder: &str) {
-    if tell_path(rt, folder, "", true) && tell_path(rt, folder, "/left.bank", false) {
-        tell_path(rt, folder, "/right.bank", false);
+/// Says why the folder of a store, or a bank in it, cannot be opened; to be served a bank is opened
+/// for writing too.
+pub(crate) fn tell_folder(rt: &HostRuntime, folder: &str, is_served: bool) {
+    if tell_opened(rt, folder, false) {
+        return;
     }
-}
-
-// Says why the file of this name in a folder cannot be opened, or that it is not there, if it has
-// to be. Whether it can be opened, or may be missing.
-fn tell_path(rt: &HostRuntime, folder: &str, name: &str, is_needed: bool) -> bool {
-    let Ok(path) = format!(in rt.alloc(); "{folder}{name}") else {
-        return false;
-    };
-    match File::open(rt, path.as_str()) {
-        Ok(_) => true,
-        Err(error) => {
-            if error.kind() == ErrorKind::NotFound && !is_needed {
-                return true;
-            }
-            tell(rt, path.as_str(), &error);
-            false
+    for name in ["left.bank", "right.bank"] {
+        let Ok(path) = format!(in rt.alloc(); "{folder}/{name}") else {
+            return;
+        };
+        if tell_bank(rt, &path, is_served) {
+            return;
         }
     }
 }
 
-/// Says why a port of this machine cannot be listened on.
+// Says why the file of a bank cannot be opened. Returns whether it said something; a file that is
+// not there is no fault.
+fn tell_bank(rt: &HostRuntime, path: &str, is_served: bool) -> bool {
+    match fs::metadata(rt, path) {
+        Ok(found) if found.is_file() => tell_opened(rt, path, is_served),
+        Ok(_) => tell(rt, path, "not a regular file"),
+        Err(error) => {
+            if error.kind() != ErrorKind::NotFound {
+                return tell(rt, path, error);
+            }
+            fs::symlink_metadata(rt, path).is_ok() && tell(rt, path, "a link to nothing")
+        }
+    }
+}
+
+// Says why a file or a folder cannot be opened. Returns whether it said something.
+fn tell_opened(rt: &HostRuntime, path: &str, is_written: bool) -> bool {
+    let opened = OpenOptions::new()
+        .read(true)
+        .write(is_written)
+        .open(rt, path);
+    match opened {
+        Ok(_) => false,
+        Err(error) => tell(rt, path, error),
+    }
+}
+
+/// Says where a server cannot listen, and why: on the port, at the socket or for its status.
 pub(crate) fn tell_listened<S: Net<Listener = TcpListener, Stream = TcpStream>>(
     rt: &HostRuntime,
     net: &S,
-    port: u16,
+    plan: &ServePlan,
 ) {
-    if let Err(error) = TcpListener::bind(net, of_this_machine(port)) {
-        tell(rt, port, &error);
+    if let Some(port) = plan.port {
+        if tell_bound(rt, net, port) {
+            return;
+        }
+    }
+    if let Some(socket) = &plan.socket {
+        if tell_place(rt, &socket.path) {
+            return;
+        }
+    }
+    match &plan.status {
+        Some(StatusPlace::Port(port)) => {
+            tell_bound(rt, net, *port);
+        }
+        Some(StatusPlace::Path(path)) => {
+            tell_place(rt, path);
+        }
+        None => {}
+    }
+}
+
+// Says why a port of this machine cannot be listened on. Returns whether it said something.
+fn tell_bound<S: Net<Listener = TcpListener, Stream = TcpStream>>(
+    rt: &HostRuntime,
+    net: &S,
+    port: u16,
+) -> bool {
+    match TcpListener::bind(net, of_this_machine(port)) {
+        Ok(_) => false,
+        Err(error) => tell(rt, port, error),
+    }
+}
+
+// Says why no unix socket can be made at a path. Returns whether it said something.
+fn tell_place(rt: &HostRuntime, path: &str) -> bool {
+    if path.len() > LONGEST_PATH {
+        return tell(rt, path, "a longer path than a socket may have");
+    }
+    if fs::symlink_metadata(rt, path).is_ok() {
+        return tell(rt, path, "a file is there, or a socket that is in use");
+    }
+    match path.rsplit_once('/') {
+        Some((folder, _)) => match fs::metadata(rt, folder) {
+            Ok(_) => false,
+            Err(error) => tell(rt, folder, error),
+        },
+        None => false,
     }
 }
 
@@ -72,7 +138,7 @@ pub(crate) fn tell_port<S: Net<Listener = TcpListener, Stream = TcpStream>>(
     port: u16,
 ) {
     if let Err(error) = TcpStream::connect(net, of_this_machine(port)) {
-        tell(rt, port, &error);
+        tell(rt, port, error);
     }
 }
 
@@ -83,7 +149,7 @@ pub(crate) fn tell_socket<S: Net<Listener = TcpListener, Stream = TcpStream>>(
     path: &str,
 ) {
     if let Err(error) = UnixStream::connect(net, path) {
-        tell(rt, path, &error);
+        tell(rt, path, error);
     }
 }
 
@@ -91,9 +157,10 @@ fn of_this_machine(port: u16) -> SocketAddr {
     SocketAddr::from((Ipv4Addr::LOCALHOST, port))
 }
 
-// Prints what the system says of a place.
-fn tell<D: Display + Drop>(rt: &HostRuntime, place: D, error: &io::Error) {
-    if let Ok(said) = format!(in rt.alloc(); "{place}: {error}") {
-        let _ = rt.eprintln(said);
+// Prints what there is to say of a place. Returns true.
+fn tell<D: Display + Drop, E: Display + Drop>(rt: &HostRuntime, place: D, said: E) -> bool {
+    if let Ok(line) = format!(in rt.alloc(); "{place}: {said}") {
+        let _ = rt.eprintln(line);
     }
+    true
 }

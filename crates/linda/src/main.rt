@@ -52,10 +52,9 @@ mod store;
 mod streams;
 
 use call::{run_call, run_call_at};
-use linda_args::{Socket, StatusPlace, Task, VERSION_LINES, asks_for_version, read_task};
+use linda_args::{Task, VERSION_LINES, asks_for_version, read_task};
 use linda_call::Manner;
 use linda_pipe::{PipeFault, REFUSED, pipe};
-use linda_serve::{ServePlan, SocketFile, StatusAt};
 use script::{run_servers, run_traced};
 use std::fmt::Display;
 use std::io::{ErrorKind, Write};
@@ -142,33 +141,7 @@ fn perform<
             let manner = manner_of(*again, *together);
             run_call_at(rt, threads, *client, paths, manner, *explain)
         }
-        Task::Serve {
-            port,
-            dir,
-            sessions,
-            log,
-            lease,
-            threads: by_threads,
-            status,
-            metrics,
-            socket,
-            wait,
-            explain,
-        } => {
-            let plan = ServePlan {
-                port: *port,
-                socket: socket.as_ref().map(place_of),
-                folder: dir,
-                sessions: *sessions,
-                lease: *lease,
-                waits: *wait,
-                by_threads: *by_threads,
-                status: status.as_ref().map(status_of),
-                metrics,
-                version: version(),
-            };
-            run_serve(rt, threads, &plan, *log, *explain)
-        }
+        Task::Serve { plan, log, explain } => run_serve(rt, threads, plan, *log, *explain),
         Task::Inspect {
             dir,
             lists,
@@ -184,34 +157,6 @@ fn manner_of(goes_on: bool, together: bool) -> Manner
     ensures together { result.together ≡ together }
 {
     Manner { goes_on, together }
-}
-
-// Where it is asked how a server does.
-fn status_of(place: &StatusPlace) -> StatusAt<'_> {
-    match place {
-        StatusPlace::Port(port) => StatusAt::Port(*port),
-        StatusPlace::Path(path) => StatusAt::Path(path),
-    }
-}
-
-// The version of the program: what follows its name in the first of the lines of its version.
-fn version() -> &'static str {
-    let line = match VERSION_LINES.split_once('\n') {
-        Some((line, _)) => line,
-        None => VERSION_LINES,
-    };
-    match line.split_once(' ') {
-        Some((_, version)) => version,
-        None => line,
-    }
-}
-
-// Where a server is to listen that the command line gives a socket.
-fn place_of(socket: &Socket) -> SocketFile<'_> {
-    SocketFile {
-        path: &socket.path,
-        mode: socket.mode,
-    }
 }
 
 // Whether the task changes files, or what a server keeps. If what it prints cannot be printed, it

@@ -6,9 +6,9 @@ ghost use Rattle.std.specs.Process.{exit_status};
 ghost use Rattle.linda.specs.Statuses.{status_after_script};
 
 use crate::end;
-use crate::explaining::{is_wanted, tell_line};
+use crate::explaining::{explain_line, is_wanted};
 use crate::status::status_of_script;
-use linda_explain::{Keeper, LineSource};
+use linda_explain::{LineSource, RecentLinesReader};
 use linda_pipe::REFUSED;
 use linda_shell::{LineFault, ScriptFault, run_script, trace_script};
 use std::fs::File;
@@ -22,9 +22,9 @@ pub(crate) fn run_servers(rt: &HostRuntime, servers: u32, explain: bool) -> Exit
     ensures { (exit_status result ≡ 0) ⊎ ((exit_status result ≡ 3) ⊎ (exit_status result ≡ 4)) }
 {
     let mut stdin = rt.stdin();
-    let mut lines = Keeper::new(rt.alloc(), &mut stdin);
+    let mut lines = RecentLinesReader::new(rt.alloc(), &mut stdin);
     let ended = run_script(rt.alloc(), &mut lines, &mut rt.stdout(), servers);
-    let code = end_of_script(rt, ended);
+    let code = report_script_end(rt, ended);
     explain_script(rt, ended, &lines, explain);
     code
 }
@@ -39,9 +39,9 @@ pub(crate) fn run_traced(rt: &HostRuntime, servers: u32, file: &str, explain: bo
         return end(rt, "io", REFUSED);
     };
     let mut stdin = rt.stdin();
-    let mut lines = Keeper::new(rt.alloc(), &mut stdin);
+    let mut lines = RecentLinesReader::new(rt.alloc(), &mut stdin);
     let ended = trace_script(rt.alloc(), &mut lines, &mut rt.stdout(), &mut file, servers);
-    let code = end_of_script(rt, ended);
+    let code = report_script_end(rt, ended);
     explain_script(rt, ended, &lines, explain);
     code
 }
@@ -50,18 +50,18 @@ pub(crate) fn run_traced(rt: &HostRuntime, servers: u32, file: &str, explain: bo
 fn explain_script<R: Read>(
     rt: &HostRuntime,
     ended: Result<(), ScriptFault>,
-    lines: &Keeper<'_, R>,
+    lines: &RecentLinesReader<'_, R>,
     explain: bool,
 ) {
     if let Err(ScriptFault::Line(number, LineFault::NotACommand)) = ended {
         if is_wanted(rt, explain) {
-            tell_line(rt, lines, number, LineSource::OfScript);
+            explain_line(rt, lines, number, LineSource::OfScript);
         }
     }
 }
 
 // Ends as the script ended: well, or with its fault's line on standard error.
-fn end_of_script(rt: &HostRuntime, ended: Result<(), ScriptFault>) -> ExitCode
+fn report_script_end(rt: &HostRuntime, ended: Result<(), ScriptFault>) -> ExitCode
     ensures status { exit_status result ≡ status_after_script ended }
     ensures range { (exit_status result ≡ 0)
         ⊎ ((exit_status result ≡ 3) ⊎ (exit_status result ≡ 4)) }

@@ -8,8 +8,9 @@ use crate::explaining::{is_wanted, tell_folder, tell_listened};
 use linda_inspect::Lists;
 use linda_pipe::REFUSED;
 use linda_serve::{
-    ServePlan, ServingFault, Unwaited, inspect_folder, inspect_folder_as_json, serve_folder,
+    NonBlockingWriter, ServingFault, inspect_folder, inspect_folder_as_json, serve_folder,
 };
+use linda_serve_plan::ServePlan;
 use std::net::{Net, TcpListener, TcpStream};
 use std::process::ExitCode;
 use std::random::RandomSource;
@@ -25,12 +26,12 @@ pub(crate) fn run_serve<
         + Clock
         + RandomSource
         + Sync,
->(rt: &HostRuntime, threads: &S, plan: &ServePlan<'_>, log: bool, explain: bool) -> ExitCode
+>(rt: &HostRuntime, threads: &S, plan: &ServePlan, log: bool, explain: bool) -> ExitCode
     ensures { (exit_status result ≡ 0) ⊎ (exit_status result ≡ 3) }
 {
     let mut stderr = rt.stderr();
     let mut unwaited = if log {
-        Some(Unwaited::new(threads, rt.alloc(), &mut stderr))
+        Some(NonBlockingWriter::new(threads, rt.alloc(), &mut stderr))
     } else {
         None
     };
@@ -57,16 +58,12 @@ pub(crate) fn run_serve<
 fn explain_serve<S: Net<Listener = TcpListener, Stream = TcpStream>>(
     rt: &HostRuntime,
     net: &S,
-    plan: &ServePlan<'_>,
+    plan: &ServePlan,
     cause: ServingFault,
 ) {
     match cause {
-        ServingFault::Disk => tell_folder(rt, plan.folder),
-        ServingFault::Io => {
-            if let Some(port) = plan.port {
-                tell_listened(rt, net, port);
-            }
-        }
+        ServingFault::Disk => tell_folder(rt, &plan.folder, true),
+        ServingFault::Io => tell_listened(rt, net, plan),
         _ => {}
     }
 }
@@ -91,7 +88,7 @@ pub(crate) fn run_inspect(
         Err(cause) => {
             let code = end(rt, cause, REFUSED);
             if cause == ServingFault::Disk && is_wanted(rt, explain) {
-                tell_folder(rt, dir);
+                tell_folder(rt, dir, false);
             }
             code
         }

@@ -66,7 +66,7 @@ exact words (tasks.Run n false) asks = to_run n asks
 exact words (tasks.TracedRun n file explain) asks = absurd asks
 exact words (tasks.Call client ports again together explain) asks = absurd asks
 exact words (tasks.CallAt client paths again together explain) asks = absurd asks
-exact words (tasks.Serve port dir sessions log lease threads status metrics socket wait explain) asks = absurd asks
+exact words (tasks.Serve plan log explain) asks = absurd asks
 exact words (tasks.Inspect dir lists json explain) asks = absurd asks
 
 pipe_found : (m : ArgMatches) (words : List Text) → AsksForPipe words → subcommand_rows_of m ≡ subcommand_of linda words
@@ -157,7 +157,7 @@ with_asks words (tasks.Run n true) a h = record { after = a.after; some = h.0; m
 with_asks words (tasks.TracedRun n file explain) a h = record { after = a.after; some = h.0; most = h.1 }
 with_asks words (tasks.Call client ports again together explain) a h = absurd h
 with_asks words (tasks.CallAt client paths again together explain) a h = absurd h
-with_asks words (tasks.Serve port dir sessions log lease threads status metrics socket wait explain) a h = absurd h
+with_asks words (tasks.Serve plan log explain) a h = absurd h
 with_asks words (tasks.Inspect dir lists json explain) a h = absurd h
 
 -- what is found is asked for, if each task is that is so
@@ -206,7 +206,7 @@ call_asks words o (tasks.Call client ports again together explain) a is same h =
   options = calls_as o (options_in words) same client again together explain h.1.1;
 }
 call_asks words o (tasks.CallAt client paths again together explain) a is same h = absurd h
-call_asks words o (tasks.Serve port dir sessions log lease threads status metrics socket wait explain) a is same h = absurd h
+call_asks words o (tasks.Serve plan log explain) a is same h = absurd h
 call_asks words o (tasks.Inspect dir lists json explain) a is same h = absurd h
 
 pub call_asked : {E : Type 0} (m : ArgMatches) (f : Found) (words : List Text) (result : Result (Option Task) E) → fault_of linda words ≡ []
@@ -223,7 +223,7 @@ serve_asks words o (tasks.Run n explain) a h = absurd h
 serve_asks words o (tasks.TracedRun n file explain) a h = absurd h
 serve_asks words o (tasks.Call client ports again together explain) a h = absurd h
 serve_asks words o (tasks.CallAt client paths again together explain) a h = absurd h
-serve_asks words o (tasks.Serve port dir sessions log lease threads status metrics socket wait explain) a h = record {
+serve_asks words o (tasks.Serve plan log explain) a h = record {
   after = a;
   is_port = h.0.0;
   are_sessions = h.0.1;
@@ -245,7 +245,7 @@ inspect_asks words o (tasks.Run n explain) a same h = absurd h
 inspect_asks words o (tasks.TracedRun n file explain) a same h = absurd h
 inspect_asks words o (tasks.Call client ports again together explain) a same h = absurd h
 inspect_asks words o (tasks.CallAt client paths again together explain) a same h = absurd h
-inspect_asks words o (tasks.Serve port dir sessions log lease threads status metrics socket wait explain) a same h = absurd h
+inspect_asks words o (tasks.Serve plan log explain) a same h = absurd h
 inspect_asks words o (tasks.Inspect dir lists json explain) a same h =
     record { after = a; options = inspects_as o (options_in words) same (string_bytes dir) lists.tuples lists.clients json explain h }
 
@@ -263,7 +263,7 @@ has_servers words (tasks.Run n false) asks = (asks.spells.some, asks.spells.most
 has_servers words (tasks.TracedRun n file explain) asks = (asks.some, asks.most)
 has_servers words (tasks.Call client ports again together explain) asks = (asks.are_ports.0, asks.are_ports.1.0)
 has_servers words (tasks.CallAt client paths again together explain) asks = tt
-has_servers words (tasks.Serve port dir sessions log lease threads status metrics socket wait explain) asks = tt
+has_servers words (tasks.Serve plan log explain) asks = tt
 has_servers words (tasks.Inspect dir lists json explain) asks = tt
 
 -- ---- faults

@@ -1,6 +1,6 @@
 -- Command lines: the task that each asks for, and what is so of each task.
 use Rattle.std.specs.Prelude.{◌≡◌, ◌<◌, ◌≤◌, ◌⊎◌, ◌==◌, ◌&&◌, ◌||◌, ◌^◌, ⊤, ℕ, Bool, true, false}
-use Rattle.std.specs.Prelude.{not, List, [], ◌∷◌, ◌++◌, length, Option, IfSome, IsSome, codes, map}
+use Rattle.std.specs.Prelude.{not, List, [], ◌∷◌, ◌++◌, length, Option, IfSome, IsSome, codes}
 use Rattle.std.specs.Prelude.{unwrap_or}
 use Rattle.std.specs.Option.{is_some, option_map}
 use Rattle.std.specs.String.{string_bytes}
@@ -12,9 +12,9 @@ use Rattle.linda_args.specs.Ports.{ArePorts}
 use Rattle.linda_args.specs.Options.{Options, options_of_rows, IsCallBy, IsInspectBy, IsServeBy}
 use Rattle.linda_args.specs.Rules.{linda}
 use Rattle.linda_args.specs.declared.command.Task.{Task}
-use Rattle.linda_args.specs.declared.command.socket.Socket.{Socket}
-use Rattle.linda_args.specs.declared.command.status.StatusPlace.{StatusPlace}
-use Rattle.linda_args.specs.declared.command.status.StatusPlace.TheVariants as places
+use Rattle.linda_serve_plan.specs.declared.plan.ServePlan.{ServePlan}
+use Rattle.linda_serve_plan.specs.declared.plan.StatusPlace.{StatusPlace}
+use Rattle.linda_serve_plan.specs.declared.plan.StatusPlace.TheVariants as places
 use Rattle.linda_args.specs.declared.command.Task.TheVariants as tasks
 use Rattle.linda_client.specs.declared.limits.TheConstants.{MAX_SERVERS}
 
@@ -94,13 +94,12 @@ pub record AsksForCallAt (words : List (List ℕ)) (client : ℕ) : Type 0 where
 
 -- The words are a program's name and `serve`, and the numbers are such as may stand after it: with
 -- a port, or a socket, or both.
-pub record AsksForServe (words : List (List ℕ)) (port sessions : Option ℕ) (socket : Option Socket)
-    : Type 0 where
+pub record AsksForServe (words : List (List ℕ)) (plan : ServePlan) : Type 0 where
   pub after : IsAfter (codes "serve") words
-  pub is_port : IfSome port (λ p. p < 2 ^ 16)
-  pub are_sessions : IfSome sessions (λ k. k < 2 ^ 32)
-  pub is_mode : IfSome socket (λ s. s.mode < 2 ^ 9)
-  pub is_somewhere : IsSome port ⊎ IsSome socket
+  pub is_port : IfSome plan.port (λ p. p < 2 ^ 16)
+  pub are_sessions : IfSome plan.sessions (λ k. k < 2 ^ 32)
+  pub is_mode : IfSome plan.socket (λ s. s.mode < 2 ^ 9)
+  pub is_somewhere : IsSome plan.port ⊎ IsSome plan.socket
 
 -- The words are a program's name and `inspect`, and folder and flags are as the options say.
 pub record AsksForInspect (words : List (List ℕ)) (dir : List ℕ)
@@ -121,8 +120,7 @@ AsksFor words (tasks.TracedRun n file explain) = AsksForRunWith words n
 AsksFor words (tasks.Call client ports again together explain) =
     AsksForCall words client ports again together explain
 AsksFor words (tasks.CallAt client paths again together explain) = AsksForCallAt words client
-AsksFor words (tasks.Serve port dir sessions log lease threads status metrics socket wait explain) =
-    AsksForServe words port sessions socket
+AsksFor words (tasks.Serve plan log explain) = AsksForServe words plan
 AsksFor words (tasks.Inspect dir lists json explain) =
     AsksForInspect words (string_bytes dir) lists.tuples lists.clients json explain
 
@@ -162,21 +160,18 @@ IsStatusPlace (places.Path path) = ⊤
 
 -- it serves, by such numbers
 abbrev pub IsServe : Task → Type 0
-IsServe (tasks.Serve port dir sessions log lease threads status metrics socket wait explain) =
-    IfSome port (λ p. p < 2 ^ 16) × IfSome sessions (λ k. k < 2 ^ 32)
-    × IfSome lease (λ s. (1 ≤ s) × (s < 2 ^ 32))
-    × IfSome status IsStatusPlace
-    × IfSome socket (λ s. s.mode < 2 ^ 9)
-    × (IsSome port ⊎ IsSome socket)
+IsServe (tasks.Serve plan log explain) =
+    IfSome plan.port (λ p. p < 2 ^ 16) × IfSome plan.sessions (λ k. k < 2 ^ 32)
+    × IfSome plan.lease (λ s. (1 ≤ s) × (s < 2 ^ 32))
+    × IfSome plan.status IsStatusPlace
+    × IfSome plan.socket (λ s. s.mode < 2 ^ 9)
+    × (IsSome plan.port ⊎ IsSome plan.socket)
 IsServe _ = ⊥
 
 -- it serves, with each number, text and flag as the options say
 abbrev pub ServesBy : Options → Task → Type 0
-ServesBy o (tasks.Serve port dir sessions log lease threads status metrics socket wait explain) =
-    IsServe
-    (tasks.Serve port dir sessions log lease threads status metrics socket wait explain)
-    × IsServeBy o port (string_bytes dir) sessions log lease threads status
-    (map string_bytes metrics.items) socket wait explain
+ServesBy o (tasks.Serve plan log explain) =
+    IsServe (tasks.Serve plan log explain) × IsServeBy o plan log explain
 ServesBy o _ = ⊥
 
 -- it inspects, with folder and flags as the options say
@@ -188,8 +183,9 @@ InspectsBy o _ = ⊥
 -- whether it asks for what cannot be kept: a lease beside two threads for each connection, or tags
 -- that are counted and no status
 abbrev pub is_unkept : Task → Bool
-is_unkept (tasks.Serve port dir sessions log lease threads status metrics socket wait explain) =
-    (threads && is_some lease) || (not (is_some status) && not (length metrics.items == 0))
+is_unkept (tasks.Serve plan log explain) =
+    (plan.by_threads && is_some plan.lease)
+    || (not (is_some plan.status) && not (length plan.metrics.items == 0))
 is_unkept _ = false
 
 -- a run and a call have at least one server, and not more than there may be

@@ -2,7 +2,7 @@
 -- them.
 use Rattle.std.specs.Prelude.{◌≡◌, ◌↔◌, ◌<◌, ◌≤◌, ◌^◌, ◌+◌, ◌-◌, ◌*◌, ◌&&◌, ℕ, Bool, true, false}
 use Rattle.std.specs.Prelude.{List, [], ◌∷◌, Option, None, Some, codes, find, unwrap_or, nat_le}
-use Rattle.std.specs.Prelude.{option_and_then, if◌then◌else◌}
+use Rattle.std.specs.Prelude.{map, option_and_then, if◌then◌else◌}
 use Rattle.std.specs.Str.{bytes_eq}
 use Rattle.std.specs.Option.{option_map}
 use Rattle.std.specs.String.{string_bytes}
@@ -12,9 +12,10 @@ use Rattle.clap.specs.Walk.{Row, all_of, first_of, one_of}
 use Rattle.clap.specs.declared.parser.matches.Found.{Found}
 use Rattle.clap.specs.declared.parser.matches.ValueSource.{ValueSource}
 use Rattle.clap.specs.declared.parser.matches.ValueSource.TheVariants as sources
-use Rattle.linda_args.specs.declared.command.socket.Socket.{Socket}
-use Rattle.linda_args.specs.declared.command.status.StatusPlace.{StatusPlace}
-use Rattle.linda_args.specs.declared.command.status.StatusPlace.TheVariants as places
+use Rattle.linda_serve_plan.specs.declared.plan.ServePlan.{ServePlan}
+use Rattle.linda_serve_plan.specs.declared.plan.SocketFile.{SocketFile}
+use Rattle.linda_serve_plan.specs.declared.plan.StatusPlace.{StatusPlace}
+use Rattle.linda_serve_plan.specs.declared.plan.StatusPlace.TheVariants as places
 
 -- What was found for the argument of each name.
 pub record Options : Type 0 where
@@ -92,7 +93,7 @@ mode_in None = Some 384
 mode_in (Some text) = octal_of text
 
 -- The socket has the path and the mode that the options say; there is none without a path.
-abbrev pub IsSocket : Option (List ℕ) → Option (List ℕ) → Option Socket → Type 0
+abbrev pub IsSocket : Option (List ℕ) → Option (List ℕ) → Option SocketFile → Type 0
 IsSocket None mode socket = socket ≡ None
 IsSocket (Some path) mode None = mode_in mode ≡ None
 IsSocket (Some path) mode (Some socket) =
@@ -108,19 +109,17 @@ IsStatus (Some text) port (Some (places.Path path)) = string_bytes path ≡ text
 
 -- What is to serve: each number, text and flag as the options say, a port or a socket, and a lease
 -- of one second at least.
-pub record IsServeBy (o : Options) (port : Option ℕ) (dir : List ℕ) (sessions : Option ℕ)
-    (log : Bool) (lease : Option ℕ) (threads : Bool) (status : Option StatusPlace)
-    (metrics : List (List ℕ)) (socket : Option Socket) (wait explain : Bool) : Type 0 where
-  pub is_port : IsNumber 16 (o.one (codes "port")) port
-  pub is_dir : o.first (codes "dir") ≡ Some dir
-  pub are_sessions : IsNumber 32 (o.one (codes "sessions")) sessions
+pub record IsServeBy (o : Options) (plan : ServePlan) (log explain : Bool) : Type 0 where
+  pub is_port : IsNumber 16 (o.one (codes "port")) plan.port
+  pub is_dir : o.first (codes "dir") ≡ Some (string_bytes plan.folder)
+  pub are_sessions : IsNumber 32 (o.one (codes "sessions")) plan.sessions
   pub is_log : IsFlag (o.one (codes "log")) log
-  pub is_lease : IsNumber 32 (o.one (codes "lease")) lease
-  pub is_threads : IsFlag (o.one (codes "threads")) threads
-  pub is_status : IsStatus (o.first (codes "status")) (o.one (codes "status")) status
-  pub are_metrics : metrics ≡ unwrap_or (o.all (codes "metric")) []
-  pub is_socket : IsSocket (o.first (codes "socket")) (o.first (codes "mode")) socket
-  pub is_wait : IsFlag (o.one (codes "wait")) wait
+  pub is_lease : IsNumber 32 (o.one (codes "lease")) plan.lease
+  pub is_threads : IsFlag (o.one (codes "threads")) plan.by_threads
+  pub is_status : IsStatus (o.first (codes "status")) (o.one (codes "status")) plan.status
+  pub are_metrics : map string_bytes plan.metrics.items ≡ unwrap_or (o.all (codes "metric")) []
+  pub is_socket : IsSocket (o.first (codes "socket")) (o.first (codes "mode")) plan.socket
+  pub is_wait : IsFlag (o.one (codes "wait")) plan.waits
   pub is_explain : IsMark (o.source (codes "explain")) explain
 
 -- What is to inspect: the folder and each flag as the options say.

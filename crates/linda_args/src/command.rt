@@ -32,14 +32,13 @@ use clap::error::ErrorKind;
 use clap::{ArgMatches, Command, Error};
 use inspect::{INSPECT, inspect_command, inspect_of};
 use linda_inspect::Lists;
+use linda_serve_plan::ServePlan;
 pub use paths::Paths;
 use pipe::{PIPE, pipe_command};
 pub use ports::Ports;
 use run::{RUN, run_command, run_of};
 use serve::{SERVE, command_of_paths, serve_command, serve_of};
-pub use socket::Socket;
 use socket::{MODE, SOCKET, mode_found};
-pub use status::StatusPlace;
 use std::alloc::{AllocError, Global};
 pub use version::{VERSION_LINES, asks_for_version};
 use words::{has_option, has_status_path, words_after};
@@ -79,25 +78,11 @@ pub enum Task {
         together: bool,
         explain: bool,
     },
-    /// The store in this folder, for clients that connect to this port, or to any if it is 0, or to
-    /// a unix socket; so many connections if a number is given, with a log or without one, and in
-    /// two threads for each connection or in a few loops.
+    /// The store in a folder, served by this plan: on a port, at a unix socket or on both, with a
+    /// log or without one. Its metrics count no tag if there is no status.
     Serve {
-        /// There is a port, or a socket, or both.
-        port: Option<u16>,
-        dir: String,
-        sessions: Option<u32>,
+        plan: ServePlan,
         log: bool,
-        /// For how many seconds a client may hold a tuple and say nothing, if that is limited.
-        lease: Option<u32>,
-        threads: bool,
-        /// Where the status is served, if it is.
-        status: Option<StatusPlace>,
-        /// The tags whose tuples are counted in the metrics; none if there is no status.
-        metrics: Vec<String>,
-        socket: Option<Socket>,
-        /// It waits while another server has the folder open.
-        wait: bool,
         explain: bool,
     },
     /// What the store in this folder comes to, with these lists; as lines, or as one JSON object.
@@ -199,7 +184,7 @@ fn task_by<'a>(alloc: Global, linda: &mut Command<'a>, words: &'a [String]) -> R
     ensures refused { (kinds : Kinds) → IsRefusedAs (map string_bytes words.entry.now) kinds
         → Refuses kinds result }
 {
-    match found_by(alloc, linda, words)? {
+    match parse_task(alloc, linda, words)? {
         Some(task) => {
             if is_unkept(&task) {
                 return Err(linda.error(ErrorKind::ArgumentConflict, why_unkept(&task))?);
@@ -217,13 +202,10 @@ fn is_unkept(task: &Task) -> bool
     ensures value { result ≡ spec.is_unkept task.now }
 {
     match task {
-        Task::Serve {
-            lease,
-            threads,
-            status,
-            metrics,
-            ..
-        } => (*threads && lease.is_some()) || (status.is_none() && !metrics.is_empty()),
+        Task::Serve { plan, .. } => {
+            (plan.by_threads && plan.lease.is_some())
+                || (plan.status.is_none() && !plan.metrics.is_empty())
+        }
         Task::Pipe => false,
         Task::Run { .. } => false,
         Task::TracedRun { .. } => false,
@@ -236,13 +218,13 @@ fn is_unkept(task: &Task) -> bool
 // Why what it asks for cannot be kept.
 fn why_unkept(task: &Task) -> &'static str {
     match task {
-        Task::Serve { lease, threads, .. } if *threads && lease.is_some() => UNKEPT,
+        Task::Serve { plan, .. } if plan.by_threads && plan.lease.is_some() => UNKEPT,
         _ => UNCOUNTED,
     }
 }
 
 // What the program's command finds that the words ask for.
-fn found_by<'a>(
+fn parse_task<'a>(
     alloc: Global,
     linda: &mut Command<'a>,
     words: &'a [String],

@@ -17,7 +17,7 @@ use linda_rising::RisingMap;
 use linda_tuple::{Template, Tuple};
 
 /// Where tuples are found by their ids.
-pub(crate) trait Stored {
+pub(crate) trait TupleLookup {
     // the tuples by their ids
     ghost rows: { Self → Bagged };
 
@@ -26,7 +26,7 @@ pub(crate) trait Stored {
         ensures { option_copied result ≡ map.get (rows self.now) id };
 }
 
-impl Stored for TuplesById {
+impl TupleLookup for TuplesById {
     ghost rows = { λ t. t };
 
     fn tuple_at(&self, id: u64) -> Option<&Tuple> {
@@ -36,11 +36,11 @@ impl Stored for TuplesById {
 
 /// The tuples of a bag.
 #[derive(Drop)]
-pub(crate) struct InBag<'a, B> {
+pub(crate) struct BagLookup<'a, B> {
     pub(crate) bag: &'a B,
 }
 
-impl<'a, B: Bag> Stored for InBag<'a, B> {
+impl<'a, B: Bag> TupleLookup for BagLookup<'a, B> {
     ghost rows = { λ s. B.contents s.bag.now };
 
     fn tuple_at(&self, id: u64) -> Option<&Tuple> {
@@ -50,7 +50,7 @@ impl<'a, B: Bag> Stored for InBag<'a, B> {
 
 /// The least of these ids, from `from` on, whose tuple the template matches and which is not passed
 /// over; and how many tuples were looked at in vain.
-pub(crate) fn least_among<S: Stored, P: IdSet>(
+pub(crate) fn least_among<S: TupleLookup, P: IdSet>(
     tuples: &S,
     template: &Template,
     passed: &P,
@@ -97,7 +97,7 @@ fn nothing_found() -> Found
 }
 
 // The least of the ids from `from` on whose tuple may answer the template.
-fn least_free<S: Stored, P: IdSet>(
+fn least_free<S: TupleLookup, P: IdSet>(
     tuples: &S,
     template: &Template,
     passed: &P,
@@ -115,7 +115,7 @@ fn least_free<S: Stored, P: IdSet>(
 {
     let mut at = from;
     let mut looks: usize = 0;
-    while let Some(part) = ids.run_from(at) {
+    while let Some(part) = ids.rows_of_block_from(at) {
         let found = least_in(tuples, template, passed, part.rows);
         looks = looks.saturating_add(found.passed);
         if let Some(id) = found.id {
@@ -139,7 +139,7 @@ fn least_free<S: Stored, P: IdSet>(
 }
 
 // The least of these ids whose tuple may answer the template.
-fn least_in<S: Stored, P: IdSet>(
+fn least_in<S: TupleLookup, P: IdSet>(
     tuples: &S,
     template: &Template,
     passed: &P,
@@ -171,7 +171,7 @@ fn least_in<S: Stored, P: IdSet>(
 }
 
 // Whether there is a tuple under the id that may answer the template.
-fn is_free<S: Stored, P: IdSet>(tuples: &S, template: &Template, passed: &P, id: u64) -> bool
+fn is_free<S: TupleLookup, P: IdSet>(tuples: &S, template: &Template, passed: &P, id: u64) -> bool
     ensures { IsTrue result
         ↔ IsFreeMatch (S.rows tuples.now) template.now (P.has passed.now) id }
 {

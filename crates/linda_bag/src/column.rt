@@ -12,7 +12,7 @@ ghost use Rattle.linda_bag.specs.Ids.{IsOf, has_any};
 ghost use Rattle.linda_bag.specs.FreeMatch.{Bagged, IsFreeMatch};
 ghost use Rattle.linda_bag.specs.Columns.{AsksNoValue, IsColumn, StaysColumn};
 
-use crate::among::{InBag, least_among};
+use crate::among::{BagLookup, least_among};
 use crate::bag::{Bag, Found};
 use crate::id_index::{refile, unfile};
 use crate::id_set::IdSet;
@@ -90,7 +90,13 @@ impl Column {
             → IfNone result.id ((k : ℕ) → from ≤ k
             → IsFreeMatch (B.contents bag.now) template.now (P.has passed.now) k → ⊥) }
     {
-        let filed = least_among(&InBag { bag }, template, passed, self.ids.get(value), from);
+        let filed = least_among(
+            &BagLookup { bag },
+            template,
+            passed,
+            self.ids.get(value),
+            from,
+        );
         if is_below(filed.id, self.upto) {
             return filed;
         }

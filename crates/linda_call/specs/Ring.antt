@@ -10,10 +10,10 @@ use Rattle.linda_wire.specs.declared.reply.Reply.{Reply}
 use Rattle.linda_wire.specs.declared.reply.Reply.TheVariants as reply
 use Rattle.linda_net_proxy.specs.declared.server_events.ServerEvent.{ServerEvent}
 use Rattle.linda_net_proxy.specs.declared.server_events.ServerEvent.TheVariants as arrival
-use Rattle.linda_call.specs.declared.calling.ring.Fate.{Fate}
-use Rattle.linda_call.specs.declared.calling.ring.Fate.TheVariants as fate
-use Rattle.linda_call.specs.declared.calling.ring.News.{News}
-use Rattle.linda_call.specs.declared.calling.ring.News.TheVariants as news
+use Rattle.linda_call.specs.declared.calling.ring.PutStatus.{PutStatus}
+use Rattle.linda_call.specs.declared.calling.ring.PutStatus.TheVariants as fate
+use Rattle.linda_call.specs.declared.calling.ring.PutEvent.{PutEvent}
+use Rattle.linda_call.specs.declared.calling.ring.PutEvent.TheVariants as news
 use Rattle.linda_call.specs.declared.calling.ring.Put.{Put}
 
 -- the server whose turn it is after this one: the next of so many, and 0 after the last
@@ -26,14 +26,14 @@ new_put server number tuple =
     record { server = server; number = number; message = Out number tuple; fate = fate.Open }
 
 -- whether a put is not answered
-abbrev pub is_open : Fate → Bool
+abbrev pub is_open : PutStatus → Bool
 is_open fate.Open = true
 is_open (fate.Stored id) = false
 is_open fate.Lost = false
 is_open (fate.Refused code detail) = false
 
 -- whether a put waits: for an answer, or to be reported as refused
-abbrev pub waits : Fate → Bool
+abbrev pub waits : PutStatus → Bool
 waits fate.Open = true
 waits (fate.Stored id) = false
 waits fate.Lost = false
@@ -68,7 +68,7 @@ is_gap arrival.NoConnection = false
 is_gap arrival.Memory = false
 
 -- what comes of puts by a reply
-abbrev pub news_of : ℕ → Reply → Option News
+abbrev pub news_of : ℕ → Reply → Option PutEvent
 news_of server (reply.Welcome last) = None
 news_of server (reply.Stored n id) = Some (news.Stored server n id)
 news_of server (reply.Offer ticket id tuple) = None
@@ -81,7 +81,7 @@ news_of server (reply.Left n) = None
 -- What is known of a put after these news. The tuple of this number is stored; all those below the
 -- number of a Welcome are, and their ids are lost; a server that refuses one does so with all after
 -- it.
-abbrev pub fate_after : News → Put → Fate
+abbrev pub fate_after : PutEvent → Put → PutStatus
 fate_after (news.Stored server number id) p =
     if is_open_at server p && (p.number == number) then fate.Stored id else p.fate
 fate_after (news.Welcomed server last) p =
@@ -90,7 +90,7 @@ fate_after (news.Refused server code detail) p =
     if is_open_at server p then fate.Refused code detail else p.fate
 
 -- what comes of puts by what a server brings
-abbrev pub news_in : ℕ → ServerEvent → Option News
+abbrev pub news_in : ℕ → ServerEvent → Option PutEvent
 news_in server (arrival.Greeted last) = Some (news.Welcomed server last)
 news_in server (arrival.Came r) = news_of server r
 news_in server (arrival.Refused code detail) = None
@@ -99,7 +99,7 @@ news_in server arrival.NoConnection = None
 news_in server arrival.Memory = None
 
 -- the put after these news
-abbrev pub after : News → Put → Put
+abbrev pub after : PutEvent → Put → Put
 after n p = record p { fate = fate_after n p }
 
 -- the message of the put at this place, if it is to be sent again to the server
@@ -113,7 +113,7 @@ abbrev pub last_message : List Put → Option Message
 last_message puts = option_map (λ p. p.message) (slice_get puts (length puts - 1))
 
 -- what is reported next: the server of the first put, and what is known of it, if it is not open
-abbrev pub first_done : List Put → Option (ℕ × Fate)
+abbrev pub first_done : List Put → Option (ℕ × PutStatus)
 first_done [] = None
 first_done (p ∷ ps) = if is_open p.fate then None else Some (p.server, p.fate)
 

@@ -11,8 +11,8 @@ use Rattle.linda_call.specs.Numbers.{answered_in}
 use Rattle.linda_call.specs.declared.calling.standing.Meeting.{Meeting}
 use Rattle.linda_call.specs.declared.calling.standing.Meeting.TheVariants.{Known, Restored, InUse}
 use Rattle.linda_call.specs.declared.calling.standing.ServerStanding.{ServerStanding}
-use Rattle.linda_call.specs.declared.calling.standing.Wants.{Wants}
-use Rattle.linda_call.specs.declared.calling.standing.Wants.TheVariants as wants
+use Rattle.linda_call.specs.declared.calling.standing.AwaitedReply.{AwaitedReply}
+use Rattle.linda_call.specs.declared.calling.standing.AwaitedReply.TheVariants as wants
 
 -- a server that was not met yet
 abbrev pub unmet : ServerStanding
@@ -77,7 +77,7 @@ put_beside s = record s {
 }
 
 -- whether a reply can answer a message that is unanswered
-abbrev pub fits : Wants → Reply → Bool
+abbrev pub fits : AwaitedReply → Reply → Bool
 fits wants.Nothing r = true
 fits wants.Stored (reply.Stored n id) = true
 fits wants.Stored r = false

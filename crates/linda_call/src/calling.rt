@@ -249,12 +249,12 @@ fn play<S: Wait + Clock, R: Read, W: Write>(
     writer: &mut W,
     caller: Caller<'_>,
 ) -> Result<(), CallFault> {
-    let mut lines = Lines {
+    let mut lines = LineRunner {
         caller,
         line: Vec::new(alloc),
         count: Count::first(),
     };
-    lines.caller.meet_all(rt, alloc, writer)?;
+    lines.caller.await_welcomes(rt, alloc, writer)?;
     let mut buffer = [0; BUFFER];
     for _turn in 0..MAX_READS {
         let Ok(count) = reader.read(&mut buffer) else {
@@ -262,7 +262,7 @@ fn play<S: Wait + Clock, R: Read, W: Write>(
         };
         if count == 0 {
             lines.end_line(rt, alloc, writer)?;
-            return lines.caller.finish(rt, alloc, writer);
+            return lines.caller.finish_puts(rt, alloc, writer);
         }
         lines.take(rt, alloc, &buffer[..count], writer)?;
     }
@@ -271,13 +271,13 @@ fn play<S: Wait + Clock, R: Read, W: Write>(
 
 // A client at work, the line that was begun, and its number.
 #[derive(Drop)]
-struct Lines<'a> {
+struct LineRunner<'a> {
     caller: Caller<'a>,
     line: Vec<u8>,
     count: Count,
 }
 
-impl Lines<'_> {
+impl LineRunner<'_> {
     // Takes a piece of the input, and does the lines that end in it. All of them are answered
     // before more is read.
     fn take<S: Wait + Clock, W: Write>(
@@ -298,7 +298,7 @@ impl Lines<'_> {
             self.end_line(rt, alloc, writer)?;
             rest = later;
         }
-        self.caller.finish(rt, alloc, writer)
+        self.caller.finish_puts(rt, alloc, writer)
     }
 
     // Does the line that was begun, and begins the next one. Memory that runs out is reported as a

@@ -16,7 +16,7 @@ use Rattle.linda_event.specs.Limits.{IsWithinLimits, is_too_deep}
 use Rattle.linda_wire.specs.declared.message.Message.TheVariants as messages
 use Rattle.linda_wire.specs.declared.reply.Reply.{Reply}
 use Rattle.linda_wire.specs.declared.reply.Reply.TheVariants as replies
-use Rattle.linda_client.specs.declared.arrived_tuple.Accepted.{Accepted}
+use Rattle.linda_client.specs.declared.arrived_tuple.PendingAccept.{PendingAccept}
 use Rattle.linda_client.specs.declared.arrived_tuple.ArrivedTuple.{ArrivedTuple}
 use Rattle.linda_client.specs.declared.ask.Alarm.{Alarm}
 use Rattle.linda_client.specs.declared.ask.Ask.{Ask}
@@ -42,7 +42,7 @@ use Rattle.linda_client.proofs.ListLaws.{kept_there}
 use Rattle.linda_client.proofs.TestLaws.{apart, both, by_test, neither, not_false}
 
 -- The Accept that is unanswered, if there is one, is answered by the call.
-abbrev pub AcceptAnswered : Option Accepted → Call → Type 0
+abbrev pub AcceptAnswered : Option PendingAccept → Call → Type 0
 AcceptAnswered o call = IfSome o (λ own. (call ≡ Receive own.server (replies.Gone own.n))
     ⊎ ((row : Tuple) × (call ≡ Receive own.server (replies.Taken own.n own.id row))))
 
@@ -54,7 +54,8 @@ IsNotGone c call = IsGone (accepted_in c.task) call → ⊥
 -- saved, and the accepted one is gone.
 pub data Turn (call : Call) (pending : Pending) (rest : List ArrivedTuple) (a : ArrivedTuple) : Type 0 where
   arrives : pending.accepted ≡ None → rest ≡ pending.saved → call ≡ Receive a.server (replies.Offer a.ticket a.id a.tuple) → Turn call pending rest a
-  oldest : (own : Accepted) → pending.accepted ≡ Some own → pending.saved ≡ a ∷ rest → call ≡ Receive own.server (replies.Gone own.n) → Turn call pending rest a
+  oldest : (own : PendingAccept) → pending.accepted ≡ Some own → pending.saved ≡ a ∷ rest → call ≡ Receive own.server (replies.Gone own.n)
+      → Turn call pending rest a
 
 -- The courses of a call.
 pub data Course (c : Client) (call : Call) : Reaction → Type 0 where
@@ -82,7 +83,7 @@ pub data Course (c : Client) (call : Call) : Reaction → Type 0 where
         task =
             Syncing (record { event = pending.event; first = pending.first; accepted = Some (next_accept c a.server a.ticket a.id); saved = rest });
       }))
-  waits : (pending : Pending) (own : Accepted) → c.task ≡ Syncing pending → pending.accepted ≡ Some own
+  waits : (pending : Pending) (own : PendingAccept) → c.task ≡ Syncing pending → pending.accepted ≡ Some own
       → call ≡ Receive own.server (replies.Gone own.n) → pending.saved ≡ []
       → Course c call (no_reaction (record c { task = Syncing (record pending { accepted = None }) }))
   commits : (pending : Pending) (clock : ℕ) (own : Option (ℕ × ℕ)) (base : ℕ) (got : Got)
@@ -97,7 +98,7 @@ pub data Course (c : Client) (call : Call) : Reaction → Type 0 where
   departs : (all : List (ℕ × ℕ)) (server n : ℕ) → c.task ≡ Leaving all → call ≡ Receive server (replies.Left n)
       → unanswered_leaves server n all ≡ [] → Course c call (leave_on c [])
 
-none_of : (o : Option Accepted) → is_some o ≡ false → o ≡ None
+none_of : (o : Option PendingAccept) → is_some o ≡ false → o ≡ None
 none_of None e = refl
 none_of (Some a) e = cc
 
@@ -142,11 +143,11 @@ module _ (c : Client) (is : IsClient c) where
   other : (call : Call) → gone_by call ≡ None → IsNotGone c call
   other call none = by (accepted_in c.task)
     where
-      by : (o : Option Accepted) → IsGone o call → ⊥
+      by : (o : Option PendingAccept) → IsGone o call → ⊥
       by None e = e
       by (Some own) e = none-some (own.server, own.n) (sym none ∙ ap gone_by e)
 
-  another_gone : (own : Accepted) (server n : ℕ) → accepted_in c.task ≡ Some own → is_answer own server n ≡ false
+  another_gone : (own : PendingAccept) (server n : ℕ) → accepted_in c.task ≡ Some own → is_answer own server n ≡ false
       → IsNotGone c (Receive server (replies.Gone n))
   another_gone own server n some differing = subst (λ o. IsGone o (Receive server (replies.Gone n)) → ⊥) (sym some) differs
     where
@@ -225,7 +226,7 @@ module _ (c : Client) (is : IsClient c) where
       (subst (λ t. Course c (Tick now) (no_reaction (record c { clock = max c.clock now; task = t })))
       (task ∙ ap Syncing (sym same)) (rests (max c.clock now) (other (Tick now) refl)))))
 
-  answers_own : (own : Accepted) (server n : ℕ) → is_answer own server n ≡ true → (own.server ≡ server) × (own.n ≡ n)
+  answers_own : (own : PendingAccept) (server n : ℕ) → is_answer own server n ≡ true → (own.server ≡ server) × (own.n ≡ n)
   answers_own own server n e = let parts = both (own.server == server) (own.n == n) e in (eqb-true own.server server parts.0, eqb-true own.n n parts.1)
 
   goes : (server n : ℕ) (o : Option Pending) → pending_in c.task ≡ o → CourseOn c (Receive server (replies.Gone n)) (spec.on_gone c o server n)
@@ -235,7 +236,7 @@ module _ (c : Client) (is : IsClient c) where
       task : c.task ≡ Syncing pending
       task = pending_task c.task pending e
 
-      saved_goes : (own : Accepted) → pending.accepted ≡ Some own
+      saved_goes : (own : PendingAccept) → pending.accepted ≡ Some own
           → Receive server (replies.Gone n) ≡ Receive own.server (replies.Gone own.n) → (saved : List ArrivedTuple) → pending.saved ≡ saved
           → CourseOn c (Receive server (replies.Gone n)) (spec.go_on c pending saved)
       saved_goes own accepted called [] none =
@@ -258,7 +259,7 @@ module _ (c : Client) (is : IsClient c) where
               ((subst (All (λ (x : ArrivedTuple). x.server < servers c)) more of_it.saved) 0 a (omega arith)) there
               (subst (λ o. IsSomeAnd o (λ x. Matches x.template a.tuple)) there first_fits)
 
-      own_goes : (o : Option Accepted) → pending.accepted ≡ o
+      own_goes : (o : Option PendingAccept) → pending.accepted ≡ o
           → CourseOn c (Receive server (replies.Gone n)) (cond (spec.awaits o server n) (spec.go_on c pending pending.saved) (Ok (no_reaction c)))
       own_goes None none = rests c.clock (nothing_gone (Receive server (replies.Gone n)) (ap accepted_in task ∙ none))
       own_goes (Some own) some =
@@ -276,7 +277,7 @@ module _ (c : Client) (is : IsClient c) where
       task : c.task ≡ Syncing pending
       task = pending_task c.task pending e
 
-      fit_takes : (own : Accepted) → pending.accepted ≡ Some own → (is_answer own server n && (own.id == id)) ≡ true
+      fit_takes : (own : PendingAccept) → pending.accepted ≡ Some own → (is_answer own server n && (own.id == id)) ≡ true
           → (o : Option Ask) → ask_at pending own.ticket ≡ o
           → Course c (Receive server (replies.Taken n id row)) (spec.on_taken_for c pending server id row o)
       fit_takes own some answer None there = rests c.clock (other (Receive server (replies.Taken n id row)) refl)
@@ -304,7 +305,7 @@ module _ (c : Client) (is : IsClient c) where
           }))
           (λ _. rests c.clock (other (Receive server (replies.Taken n id row)) refl))
 
-      own_takes : (o : Option Accepted) → pending.accepted ≡ o
+      own_takes : (o : Option PendingAccept) → pending.accepted ≡ o
           → Course c (Receive server (replies.Taken n id row)) (spec.on_taken_for c pending server id row (spec.ask_of_taken pending o server n id))
       own_takes None none = rests c.clock (other (Receive server (replies.Taken n id row)) refl)
       own_takes (Some own) some =

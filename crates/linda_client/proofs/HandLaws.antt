@@ -9,7 +9,7 @@ use Rattle.std.proofs.lemmas.List.Elements.{Contains-append_left}
 use Rattle.linda_tuple.specs.Tuple.{Tuple}
 use Rattle.linda_wire.specs.declared.message.Message.TheVariants as messages
 use Rattle.linda_wire.specs.declared.reply.Reply.TheVariants as replies
-use Rattle.linda_client.specs.declared.arrived_tuple.Accepted.{Accepted}
+use Rattle.linda_client.specs.declared.arrived_tuple.PendingAccept.{PendingAccept}
 use Rattle.linda_client.specs.declared.arrived_tuple.ArrivedTuple.{ArrivedTuple}
 use Rattle.linda_client.specs.declared.ask.Ask.{Ask}
 use Rattle.linda_client.specs.declared.outcome.Got.{Got}
@@ -30,7 +30,7 @@ use Rattle.linda_client.proofs.Course.{rejects, repeats, rests, saves, stores, w
 use Rattle.linda_client.proofs.TestLaws.{both}
 use Rattle.linda_client.proofs.ListLaws.{in_front, none_any, nowhere}
 
-module _ (P : Accepted → Type 0) (call : Call) (c : Client) (pending : Pending) (there : pending_in c.task ≡ Some pending)
+module _ (P : PendingAccept → Type 0) (call : Call) (c : Client) (pending : Pending) (there : pending_in c.task ≡ Some pending)
     (server ticket id : ℕ) (within : server < servers c) (ask : Ask) (asked : ask_at pending ticket ≡ Some ask) where
   task_is : c.task ≡ Syncing pending
   task_is = pending_task c.task pending there
@@ -58,18 +58,18 @@ module _ (P : Accepted → Type 0) (call : Call) (c : Client) (pending : Pending
   leaving_not all leaving = absurd (none-some pending (sym (ap pending_in leaving) ∙ there))
 
   -- The Accept that is answered is that of the offer.
-  gone_answers : (own : Accepted) → pending.accepted ≡ Some own → call ≡ Receive own.server (replies.Gone own.n)
+  gone_answers : (own : PendingAccept) → pending.accepted ≡ Some own → call ≡ Receive own.server (replies.Gone own.n)
       → (a : IsAccepted pending server ticket id) → P a.own → AcceptIsAnswered P call pending server ticket id
   gone_answers own was called a holds =
       let same = same_Some own a.own (sym was ∙ a.there) in
       record {
         accepted = a;
         holds = holds;
-        answer = inl (called ∙ ap (λ s. Receive s (replies.Gone own.n)) (ap (λ (x : Accepted). x.server) same ∙ a.server_is)
-            ∙ ap (λ m. Receive server (replies.Gone m)) (ap (λ (x : Accepted). x.n) same));
+        answer = inl (called ∙ ap (λ s. Receive s (replies.Gone own.n)) (ap (λ (x : PendingAccept). x.server) same ∙ a.server_is)
+            ∙ ap (λ m. Receive server (replies.Gone m)) (ap (λ (x : PendingAccept). x.n) same));
       }
 
-  taken_answers : (own : Accepted) (row : Tuple) → pending.accepted ≡ Some own → call ≡ Receive own.server (replies.Taken own.n own.id row)
+  taken_answers : (own : PendingAccept) (row : Tuple) → pending.accepted ≡ Some own → call ≡ Receive own.server (replies.Taken own.n own.id row)
       → (a : IsAccepted pending server ticket id) → P a.own → AcceptIsAnswered P call pending server ticket id
   taken_answers own row was called a holds =
       let same = same_Some own a.own (sym was ∙ a.there) in
@@ -78,9 +78,9 @@ module _ (P : Accepted → Type 0) (call : Call) (c : Client) (pending : Pending
         holds = holds;
         answer = inr (
           row,
-          called ∙ ap (λ s. Receive s (replies.Taken own.n own.id row)) (ap (λ (x : Accepted). x.server) same ∙ a.server_is)
-              ∙ ap (λ m. Receive server (replies.Taken m own.id row)) (ap (λ (x : Accepted). x.n) same)
-              ∙ ap (λ i. Receive server (replies.Taken a.own.n i row)) (ap (λ (x : Accepted). x.id) same ∙ a.id_is),
+          called ∙ ap (λ s. Receive s (replies.Taken own.n own.id row)) (ap (λ (x : PendingAccept). x.server) same ∙ a.server_is)
+              ∙ ap (λ m. Receive server (replies.Taken m own.id row)) (ap (λ (x : PendingAccept). x.n) same)
+              ∙ ap (λ i. Receive server (replies.Taken a.own.n i row)) (ap (λ (x : PendingAccept). x.id) same ∙ a.id_is),
         );
       }
 
@@ -148,7 +148,7 @@ module _ (P : Accepted → Type 0) (call : Call) (c : Client) (pending : Pending
     accepts_on r after (oldest own was same called) (inr hand) = inr (inr (gone_answers own was called hand.0 hand.1))
 
   -- what is spared is not saved
-  spares_none : (own : Accepted) → IsSaved pending server ticket id → pending.accepted ≡ Some own → is_spared (spared pending) (server, ticket) ≡ true → ⊥
+  spares_none : (own : PendingAccept) → IsSaved pending server ticket id → pending.accepted ≡ Some own → is_spared (spared pending) (server, ticket) ≡ true → ⊥
   spares_none own saved was spares = by (list_any (is_of (own.server, own.ticket)) pending.saved) refl
       (ap (λ o. is_spared (spared_by o pending.saved) (server, ticket)) (sym was) ∙ spares)
     where

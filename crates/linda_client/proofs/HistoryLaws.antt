@@ -8,7 +8,7 @@ use Rattle.linda_tuple.specs.Template.{Template}
 use Rattle.linda_wire.specs.declared.message.Message.{Message}
 use Rattle.linda_wire.specs.declared.message.Message.TheVariants as messages
 use Rattle.linda_client.specs.declared.limits.TheConstants.{MAX_SERVERS}
-use Rattle.linda_client.specs.declared.arrived_tuple.Accepted.{Accepted}
+use Rattle.linda_client.specs.declared.arrived_tuple.PendingAccept.{PendingAccept}
 use Rattle.linda_client.specs.declared.ask.Ask.{Ask}
 use Rattle.linda_client.specs.declared.outcome.Outcome.{Outcome}
 use Rattle.linda_client.specs.declared.outcome.Outcome.TheVariants as outcomes
@@ -50,7 +50,7 @@ used c is s n m there number = All-contains (Used c) (unanswered c.task) (s, m) 
     by (Putting server k row) h = All-cons (Used c) (server, messages.Out k row) [] (one server k (messages.Out k row) refl h.1.1) (All-nil (Used c))
     by (Syncing pending) h = own pending.accepted h.accepted
       where
-        own : (o : Option Accepted) → IfSome o (λ a. IsUsed c a.server a.n) → All (Used c) (option_to_list (accept_packet o))
+        own : (o : Option PendingAccept) → IfSome o (λ a. IsUsed c a.server a.n) → All (Used c) (option_to_list (accept_packet o))
         own None g = All-nil (Used c)
         own (Some a) g = All-cons (Used c) (a.server, messages.Accept a.n a.ticket a.id) []
             (one a.server a.n (messages.Accept a.n a.ticket a.id) refl g.1.1) (All-nil (Used c))
@@ -73,7 +73,7 @@ one_unanswered c is s a b x y = by c.task is.task x y
         second (server, messages.Out k row) (only_one (server, messages.Out k row) (s, a) f) (only_one (server, messages.Out k row) (s, b) g)
     by (Syncing pending) h f g = own pending.accepted f g
       where
-        own : (o : Option Accepted) → Contains (option_to_list (accept_packet o)) (s, a) → Contains (option_to_list (accept_packet o)) (s, b) → a ≡ b
+        own : (o : Option PendingAccept) → Contains (option_to_list (accept_packet o)) (s, a) → Contains (option_to_list (accept_packet o)) (s, b) → a ≡ b
         own None f g = nowhere (s, a) f
         own (Some o) f g = second (o.server, messages.Accept o.n o.ticket o.id)
             (only_one (o.server, messages.Accept o.n o.ticket o.id) (s, a) f) (only_one (o.server, messages.Accept o.n o.ticket o.id) (s, b) g)

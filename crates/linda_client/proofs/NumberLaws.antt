@@ -8,7 +8,7 @@ use Rattle.std.proofs.lemmas.List.Elements.{All-append, All-cons, All-contains, 
 use Rattle.linda_wire.specs.declared.message.Message.{Message}
 use Rattle.linda_wire.specs.declared.message.Message.TheVariants as messages
 use Rattle.linda_wire.specs.declared.reply.Reply.TheVariants as replies
-use Rattle.linda_client.specs.declared.arrived_tuple.Accepted.{Accepted}
+use Rattle.linda_client.specs.declared.arrived_tuple.PendingAccept.{PendingAccept}
 use Rattle.linda_client.specs.declared.arrived_tuple.ArrivedTuple.{ArrivedTuple}
 use Rattle.linda_client.specs.declared.task.Task.TheVariants.{Idle, Syncing, Leaving}
 use Rattle.linda_client.specs.Pending.{Pending}
@@ -94,7 +94,7 @@ module _ (c : Client) (call : Call) where
   answered_of : (pending : Pending) → c.task ≡ Syncing pending → AcceptAnswered pending.accepted call → AllAnswered
   answered_of pending task h = subst (λ t. All (λ p. IsAnswerTo p call) (unanswered t)) (sym task) (by pending.accepted h)
     where
-      by : (o : Option Accepted) → AcceptAnswered o call → All (λ p. IsAnswerTo p call) (option_to_list (accept_packet o))
+      by : (o : Option PendingAccept) → AcceptAnswered o call → All (λ p. IsAnswerTo p call) (option_to_list (accept_packet o))
       by None h = All-nil (λ p. IsAnswerTo p call)
       by (Some own) h = All-cons (λ p. IsAnswerTo p call) (own.server, messages.Accept own.n own.ticket own.id) [] h (All-nil (λ p. IsAnswerTo p call))
 

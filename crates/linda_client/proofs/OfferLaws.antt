@@ -8,7 +8,7 @@ use Rattle.linda_tuple.specs.Tuple.{Tuple}
 use Rattle.linda_tuple.specs.Matching.{is_match}
 use Rattle.linda_wire.specs.declared.reply.Reply.TheVariants as replies
 use Rattle.linda_wire.specs.declared.limits.TheConstants.{NUMBER_LIMIT}
-use Rattle.linda_client.specs.declared.arrived_tuple.Accepted.{Accepted}
+use Rattle.linda_client.specs.declared.arrived_tuple.PendingAccept.{PendingAccept}
 use Rattle.linda_client.specs.declared.arrived_tuple.ArrivedTuple.{ArrivedTuple}
 use Rattle.linda_client.specs.declared.ask.Ask.{Ask}
 use Rattle.linda_client.specs.declared.task.Task.TheVariants.{Syncing}
@@ -21,10 +21,10 @@ use Rattle.linda_client.specs.Offers.{IsSaved, IsTreated}
 use Rattle.linda_client.proofs.TestLaws.{both, by_test, not_false}
 use Rattle.linda_client.proofs.ListLaws.{any_one}
 
-not_some : (o : Option Accepted) → is_some o ≡ false → IsSome o → ⊥
+not_some : (o : Option PendingAccept) → is_some o ≡ false → IsSome o → ⊥
 not_some o none some = false≢true (sym none ∙ some)
 
-some_not : (o : Option Accepted) → is_some o ≡ true → o ≡ None → ⊥
+some_not : (o : Option PendingAccept) → is_some o ≡ true → o ≡ None → ⊥
 some_not o some none = false≢true (sym (ap is_some none) ∙ some)
 
 -- An offer that comes.

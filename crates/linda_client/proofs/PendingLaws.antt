@@ -5,7 +5,7 @@ use Rattle.std.specs.declared.alloc.AllocError.{AllocError}
 use Rattle.std.proofs.lemmas.Bool.{false≢true}
 use Rattle.std.proofs.lemmas.Grind.{get_or_default_zero}
 use Rattle.std.proofs.lemmas.List.Elements.{All-append, All-cons, All-drop, All-nil}
-use Rattle.linda_client.specs.declared.arrived_tuple.Accepted.{Accepted}
+use Rattle.linda_client.specs.declared.arrived_tuple.PendingAccept.{PendingAccept}
 use Rattle.linda_client.specs.declared.arrived_tuple.ArrivedTuple.{ArrivedTuple}
 use Rattle.linda_client.specs.declared.task.Task.TheVariants.{Syncing}
 use Rattle.linda_client.specs.Pending.{FitsOpen, IsOpenInput, IsPending, Pending, save_last, take_oldest}
@@ -35,7 +35,7 @@ saved_so p own a all keeps same fits awaits more =
     (saved_one p a keeps (subst (λ s. FitsOpen s a) (sym same) fits) (subst (λ (s : Pending). is_some s.accepted ≡ true) (sym same) awaits))
 
 -- with an offer accepted for an open input, and the oldest arrival saved no more
-pub taken_so : (p own : Pending) (a : Accepted) (rest : List ArrivedTuple) → IsPending p → p ≡ own → IsOpenInput own a.ticket → rest ≡ drop 1 p.saved
+pub taken_so : (p own : Pending) (a : PendingAccept) (rest : List ArrivedTuple) → IsPending p → p ≡ own → IsOpenInput own a.ticket → rest ≡ drop 1 p.saved
     → IsPending (record p { accepted = Some a; saved = rest })
 taken_so p own a rest keeps same input less = record {
   within = keeps.within;
@@ -47,7 +47,7 @@ taken_so p own a rest keeps same input less = record {
 }
 
 -- the offer that is accepted, as a value that equals the synchronization says
-pub took : (p own : Pending) (a : Accepted) (rest : List ArrivedTuple) → p ≡ own → rest ≡ drop 1 p.saved
+pub took : (p own : Pending) (a : PendingAccept) (rest : List ArrivedTuple) → p ≡ own → rest ≡ drop 1 p.saved
     → record p { accepted = Some a; saved = rest } ≡ take_oldest a own
 took p own a rest same less = ap (λ l. record p { accepted = Some a; saved = l }) less ∙ ap (take_oldest a) same
 
@@ -70,7 +70,7 @@ stays_so c own p q (Ok u) same was failed = tt
 stays_so c own p q (Err e) same was failed = ap (with_pending c) failed ∙ ap (λ t. record c { task = t }) (sym was) ∙ same
 
 -- the client that accepts an offer
-pub accepts_one : (c own : Client) (p q : Pending) (a : Accepted) (next : List ℕ) → c ≡ own
+pub accepts_one : (c own : Client) (p q : Pending) (a : PendingAccept) (next : List ℕ) → c ≡ own
     → c.task ≡ Syncing p → q ≡ take_oldest a p → next ≡ used_at c a.server
     → OfPending own (λ s. record c { next = next; task = Syncing q } ≡ with_pending (use_number own a.server) (take_oldest a s))
 accepts_one c own p q a next same was took up =

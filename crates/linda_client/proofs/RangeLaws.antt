@@ -10,7 +10,7 @@ use Rattle.std.proofs.lemmas.List.{get_or-set_same, length-map, length-replicate
 use Rattle.std.proofs.lemmas.List.Elements.{All-append, All-cons, All-drop, All-nil, All-get_or, All-replicate, All-set, All-weaker}
 use Rattle.linda_wire.specs.declared.limits.TheConstants.{NUMBER_LIMIT}
 use Rattle.linda_client.specs.declared.limits.TheConstants.{MAX_SERVERS}
-use Rattle.linda_client.specs.declared.arrived_tuple.Accepted.{Accepted}
+use Rattle.linda_client.specs.declared.arrived_tuple.PendingAccept.{PendingAccept}
 use Rattle.linda_client.specs.declared.arrived_tuple.ArrivedTuple.{ArrivedTuple}
 use Rattle.linda_client.specs.declared.task.Task.{Task}
 use Rattle.linda_client.specs.declared.task.Task.TheVariants.{Idle, Putting, Syncing, Leaving, Left}
@@ -100,7 +100,7 @@ all_within : (c d : Client) → Rises c d → (saved : List ArrivedTuple) → Al
 all_within c d up saved all = let same = up.same_servers in
     All-weaker (λ (a : ArrivedTuple). a.server < servers c) (λ (a : ArrivedTuple). a.server < servers d) (λ a there. omega arith) saved all
 
-own_used : (c d : Client) → Rises c d → (o : Option Accepted) → IfSome o (λ a. IsUsed c a.server a.n) → IfSome o (λ a. IsUsed d a.server a.n)
+own_used : (c d : Client) → Rises c d → (o : Option PendingAccept) → IfSome o (λ a. IsUsed c a.server a.n) → IfSome o (λ a. IsUsed d a.server a.n)
 own_used c d up None h = tt
 own_used c d up (Some a) h = used_rises c d up a.server a.n h
 
@@ -164,7 +164,7 @@ now_used c d s is within n =
     let same : servers d ≡ servers c = ap length n ∙ length-set c.next s (next_at c s + 1) in
     (omega arith, (range.0, omega arith))
 
-some_not_none : (o : Option Accepted) → is_some o ≡ true → o ≡ None → ⊥
+some_not_none : (o : Option PendingAccept) → is_some o ≡ true → o ≡ None → ⊥
 some_not_none o e none = false≢true (sym (ap is_some none) ∙ e)
 
 -- A client that leaves is as every client is.
@@ -220,7 +220,7 @@ saving_so c own p q a (Err e) is same was within keeps saved failed =
     subst (λ s. IsClient (with_pending c s)) (sym failed) (subst (λ t. IsClient (record c { task = t })) was is)
 
 -- a client that accepts an offer
-now_accepts : (c : Client) (p : Pending) (a : Accepted) (rest : List ArrivedTuple) → IsClient c
+now_accepts : (c : Client) (p : Pending) (a : PendingAccept) (rest : List ArrivedTuple) → IsClient c
     → c.task ≡ Syncing p → a.server < servers c → a.n ≡ next_at c a.server → next_at c a.server ≢ NUMBER_LIMIT
     → IsPending (record p { accepted = Some a; saved = rest }) → All (λ (x : ArrivedTuple). x.server < servers c) rest
     → IsClient (with_pending (use_number c a.server) (record p { accepted = Some a; saved = rest }))
@@ -234,7 +234,7 @@ now_accepts c p a rest is was within next more keeps there =
     })
 
 -- a client that accepts an offer, as a value that equals it says
-pub accepting_so : (c own : Client) (p q : Pending) (a : Accepted) (next : List ℕ) → IsClient c → c ≡ own
+pub accepting_so : (c own : Client) (p q : Pending) (a : PendingAccept) (next : List ℕ) → IsClient c → c ≡ own
     → c.task ≡ Syncing p → a.server < servers own → a.n ≡ next_at own a.server → a.n < NUMBER_LIMIT → IsPending q
     → q ≡ take_oldest a p → next ≡ used_at c a.server → IsClient (record c { next = next; task = Syncing q })
 accepting_so c own p q a next is same was within number room keeps took up =

@@ -3,7 +3,7 @@ use Rattle.std.proofs.Common.{◌≡◌, ℕ, ◌+◌, ◌<◌, [], ◌∷◌, r
 use Rattle.std.specs.Prelude.{Option, Some, None, All, IfSome, IsSomeAnd, Ok, option_to_list}
 use Rattle.std.proofs.lemmas.List.Elements.{All-append, All-cons, All-map, All-nil, All-weaker}
 use Rattle.linda_wire.specs.declared.message.Message.TheVariants as messages
-use Rattle.linda_client.specs.declared.arrived_tuple.Accepted.{Accepted}
+use Rattle.linda_client.specs.declared.arrived_tuple.PendingAccept.{PendingAccept}
 use Rattle.linda_client.specs.declared.task.Task.{Task}
 use Rattle.linda_client.specs.declared.task.Task.TheVariants.{Idle, Putting, Syncing, Leaving, Left}
 use Rattle.linda_client.specs.Pending.{Pending}
@@ -41,7 +41,7 @@ module _ (c : Client) (is : IsClient c) where
   unanswered_sound (Putting server n row) h = one c (server, messages.Out n row) (h.0, tt)
   unanswered_sound (Syncing pending) h = by pending.accepted h.accepted
     where
-      by : (o : Option Accepted) → IfSome o (λ a. IsUsed c a.server a.n) → All (IsSoundPacket c) (option_to_list (accept_packet o))
+      by : (o : Option PendingAccept) → IfSome o (λ a. IsUsed c a.server a.n) → All (IsSoundPacket c) (option_to_list (accept_packet o))
       by None used = All-nil (IsSoundPacket c)
       by (Some a) used = one c (a.server, messages.Accept a.n a.ticket a.id) (used.0, tt)
   unanswered_sound (Leaving all) h = All-map (IsSoundPacket c) (λ p. (p.0, messages.Leave p.1)) all

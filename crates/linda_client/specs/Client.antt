@@ -6,7 +6,7 @@ use Rattle.linda_wire.specs.declared.limits.TheConstants.{NUMBER_LIMIT}
 use Rattle.linda_client.specs.declared.limits.TheConstants.{MAX_SERVERS}
 use Rattle.linda_client.specs.declared.task.Task.{Task}
 use Rattle.linda_client.specs.declared.task.Task.TheVariants.{Idle, Putting, Syncing, Leaving, Left}
-use Rattle.linda_client.specs.declared.arrived_tuple.Accepted.{Accepted}
+use Rattle.linda_client.specs.declared.arrived_tuple.PendingAccept.{PendingAccept}
 use Rattle.linda_client.specs.declared.arrived_tuple.ArrivedTuple.{ArrivedTuple}
 use Rattle.linda_client.specs.declared.ask.Ask.{Ask}
 use Rattle.linda_client.specs.Pending.{Pending, IsPending, ask_at, ticket_count}
@@ -62,7 +62,7 @@ pending_in (Leaving leaves) = None
 pending_in Left = None
 
 -- the accepted offer that no server has answered yet, if there is one
-abbrev pub accepted_in : Task → Option Accepted
+abbrev pub accepted_in : Task → Option PendingAccept
 accepted_in Idle = None
 accepted_in (Putting server n row) = None
 accepted_in (Syncing pending) = pending.accepted

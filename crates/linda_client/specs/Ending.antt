@@ -7,7 +7,7 @@ use Rattle.linda_event.specs.Trees.{Tree, Kind, input, read, alarm, always}
 use Rattle.linda_event.specs.Paths as paths
 use Rattle.linda_wire.specs.declared.message.Message.TheVariants as messages
 use Rattle.linda_wire.specs.declared.reply.Reply.TheVariants as replies
-use Rattle.linda_client.specs.declared.arrived_tuple.Accepted.{Accepted}
+use Rattle.linda_client.specs.declared.arrived_tuple.PendingAccept.{PendingAccept}
 use Rattle.linda_client.specs.declared.outcome.Got.{Got}
 use Rattle.linda_client.specs.declared.outcome.Got.TheVariants.{Took, Copied, Alarm, Always}
 use Rattle.linda_client.specs.declared.outcome.Outcome.{Outcome}
@@ -96,7 +96,7 @@ pub record IsEnd (c : Client) (pending : Pending) (r : Reaction) : Type 0 where
 -- of this number gets.
 pub record IsTaking (c : Client) (call : Call) (base server id : ℕ) (row : Tuple) : Type 0 where
   pub pending : Pending
-  pub own : Accepted
+  pub own : PendingAccept
   pub pending_is : pending_in c.task ≡ Some pending
   pub accepted : pending.accepted ≡ Some own
   pub answers : call ≡ Receive own.server (replies.Taken own.n own.id row)

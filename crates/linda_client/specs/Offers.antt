@@ -5,7 +5,7 @@ use Rattle.std.specs.Prelude.{true}
 use Rattle.linda_tuple.specs.Tuple.{Tuple}
 use Rattle.linda_wire.specs.declared.message.Message.TheVariants as messages
 use Rattle.linda_wire.specs.declared.reply.Reply.TheVariants as replies
-use Rattle.linda_client.specs.declared.arrived_tuple.Accepted.{Accepted}
+use Rattle.linda_client.specs.declared.arrived_tuple.PendingAccept.{PendingAccept}
 use Rattle.linda_client.specs.declared.arrived_tuple.ArrivedTuple.{ArrivedTuple}
 use Rattle.linda_client.specs.declared.ask.Ask.{Ask}
 use Rattle.linda_client.specs.Pending.{Pending, ask_at, is_fit}
@@ -23,7 +23,7 @@ pub record IsSaved (pending : Pending) (server ticket id : ℕ) : Type 0 where
 
 -- It is the accepted one, which is not answered yet.
 pub record IsAccepted (pending : Pending) (server ticket id : ℕ) : Type 0 where
-  pub own : Accepted
+  pub own : PendingAccept
   pub there : pending.accepted ≡ Some own
   pub server_is : own.server ≡ server
   pub ticket_is : own.ticket ≡ ticket
@@ -46,13 +46,13 @@ pub record IsTreated (c : Client) (server ticket id : ℕ) (row : Tuple) (r : Re
       (λ later. later.accepted ≡ Some (next_accept c server ticket id))
 
 -- An offer is in hand: it is saved, or accepted, by an Accept of which P holds.
-abbrev pub InHand : (Accepted → Type 0) → Pending → ℕ → ℕ → ℕ → Type 0
+abbrev pub InHand : (PendingAccept → Type 0) → Pending → ℕ → ℕ → ℕ → Type 0
 InHand P pending server ticket id = IsSaved pending server ticket id
     ⊎ ((a : IsAccepted pending server ticket id) × P a.own)
 
 -- It is in hand then too: the synchronization goes on, and it is saved, or accepted, by an Accept
 -- of which P holds or by one of the next number.
-pub record StaysInHand (P : Accepted → Type 0) (c : Client) (pending : Pending)
+pub record StaysInHand (P : PendingAccept → Type 0) (c : Client) (pending : Pending)
     (server ticket id : ℕ)
     (r : Reaction) : Type 0 where
   pub later : Pending
@@ -62,7 +62,7 @@ pub record StaysInHand (P : Accepted → Type 0) (c : Client) (pending : Pending
   pub hand : InHand (λ a. P a ⊎ (a.n ≡ next_at c server)) later server ticket id
 
 -- The Accept of it is answered by this call.
-pub record AcceptIsAnswered (P : Accepted → Type 0) (call : Call) (pending : Pending)
+pub record AcceptIsAnswered (P : PendingAccept → Type 0) (call : Call) (pending : Pending)
     (server ticket id : ℕ) : Type 0 where
   pub accepted : IsAccepted pending server ticket id
   pub holds : P accepted.own
@@ -71,7 +71,8 @@ pub record AcceptIsAnswered (P : Accepted → Type 0) (call : Call) (pending : P
 
 -- What becomes of an offer that is in hand: its ticket is cancelled at its server, it stays in
 -- hand, or its Accept is answered.
-abbrev pub Becomes : (Accepted → Type 0) → Call → Client → Pending → ℕ → ℕ → ℕ → Reaction → Type 0
+abbrev pub Becomes : (PendingAccept → Type 0) → Call → Client → Pending → ℕ → ℕ → ℕ → Reaction
+    → Type 0
 Becomes P call c pending server ticket id r =
     Contains r.packets (server, messages.Cancel ticket)
     ⊎ (StaysInHand P c pending server ticket id r

@@ -4,7 +4,7 @@ use Rattle.std.specs.Prelude.{Option, Some, None, map, filter, flat_map, option_
 use Rattle.std.specs.List.{enumerate_from, list_any, range_with_len}
 use Rattle.linda_wire.specs.declared.message.Message.{Message}
 use Rattle.linda_wire.specs.declared.message.Message.TheVariants as messages
-use Rattle.linda_client.specs.declared.arrived_tuple.Accepted.{Accepted}
+use Rattle.linda_client.specs.declared.arrived_tuple.PendingAccept.{PendingAccept}
 use Rattle.linda_client.specs.declared.arrived_tuple.ArrivedTuple.{ArrivedTuple}
 use Rattle.linda_client.specs.declared.ask.Ask.{Ask}
 use Rattle.linda_client.specs.declared.task.Task.{Task}
@@ -41,7 +41,7 @@ is_of pair a = (a.server == pair.0) && (a.ticket == pair.1)
 
 -- the server and the ticket of the accepted offer, if there is one, unless an offer of them is
 -- saved
-abbrev pub spared_by : Option Accepted → List ArrivedTuple → Option (ℕ × ℕ)
+abbrev pub spared_by : Option PendingAccept → List ArrivedTuple → Option (ℕ × ℕ)
 spared_by None saved = None
 spared_by (Some a) saved =
     (if list_any (is_of (a.server, a.ticket)) saved then None else Some (a.server, a.ticket))
@@ -70,7 +70,7 @@ abbrev pub cancels : ℕ → Pending → List Packet
 cancels count pending = cancels_but count (spared pending) pending
 
 -- the Accept that is not answered yet, if there is one
-abbrev pub accept_packet : Option Accepted → Option Packet
+abbrev pub accept_packet : Option PendingAccept → Option Packet
 accept_packet None = None
 accept_packet (Some a) = Some (a.server, messages.Accept a.n a.ticket a.id)
 

@@ -9,7 +9,7 @@ use Rattle.linda_wire.specs.declared.limits.TheConstants.{NUMBER_LIMIT}
 use Rattle.linda_event.specs.Trees.{Tree}
 use Rattle.linda_event.specs.Limits.{IsWithinLimits}
 use Rattle.linda_client.specs.declared.arrived_tuple.ArrivedTuple.{ArrivedTuple}
-use Rattle.linda_client.specs.declared.arrived_tuple.Accepted.{Accepted}
+use Rattle.linda_client.specs.declared.arrived_tuple.PendingAccept.{PendingAccept}
 use Rattle.linda_client.specs.declared.ask.Ask.{Ask}
 use Rattle.linda_client.specs.Ask.{asks}
 
@@ -18,7 +18,7 @@ use Rattle.linda_client.specs.Ask.{asks}
 pub record Pending : Type 0 where
   pub event : Tree
   pub first : ℕ
-  pub accepted : Option Accepted
+  pub accepted : Option PendingAccept
   pub saved : List ArrivedTuple
 
 -- What is asked by a ticket, if it is open: the k-th input or read base, from 0, has the first
@@ -46,7 +46,7 @@ abbrev pub is_saved : Pending → ArrivedTuple → Bool
 is_saved pending arrival = list_any (same_arrival arrival) pending.saved
 
 -- whether the accepted offer, if there is one, was accepted by message n to this server
-abbrev pub is_answer : Accepted → ℕ → ℕ → Bool
+abbrev pub is_answer : PendingAccept → ℕ → ℕ → Bool
 is_answer a server n = (a.server == server) && (a.n == n)
 
 -- The ticket is open, and it is that of an input.
@@ -63,7 +63,7 @@ abbrev pub drop_oldest : Pending → Pending
 drop_oldest pending = record pending { saved = drop 1 pending.saved }
 
 -- An offer is accepted: that oldest one, if it saved some.
-abbrev pub take_oldest : Accepted → Pending → Pending
+abbrev pub take_oldest : PendingAccept → Pending → Pending
 take_oldest a pending = record (drop_oldest pending) { accepted = Some a }
 
 -- It saves an arrival, after those that it saved before.

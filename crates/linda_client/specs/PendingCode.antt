@@ -6,11 +6,11 @@ use Rattle.linda_tuple.specs.Codes.{tuple_code}
 use Rattle.linda_event.specs.Trees.{Tree}
 use Rattle.linda_event.specs.Codes.{tree_code}
 use Rattle.linda_client.specs.declared.arrived_tuple.ArrivedTuple.{ArrivedTuple}
-use Rattle.linda_client.specs.declared.arrived_tuple.Accepted.{Accepted}
+use Rattle.linda_client.specs.declared.arrived_tuple.PendingAccept.{PendingAccept}
 use Rattle.linda_client.specs.Pending.{Pending}
 
 -- the code of an accepted offer
-abbrev pub accepted_code : Coded Accepted
+abbrev pub accepted_code : Coded PendingAccept
 accepted_code =
     code_by (ℕ × (ℕ × (ℕ × ℕ))) (coded× coded_ℕ (coded× coded_ℕ (coded× coded_ℕ coded_ℕ)))
     (λ a. (a.server, (a.n, (a.ticket, a.id))))
@@ -26,7 +26,7 @@ arrival_code =
 -- the code of a pending synchronization
 abbrev pub pending_code : Coded Pending
 pending_code =
-    code_by (Tree × (ℕ × (Option Accepted × List ArrivedTuple)))
+    code_by (Tree × (ℕ × (Option PendingAccept × List ArrivedTuple)))
     (coded× tree_code
     (coded× coded_ℕ (coded× (coded_option accepted_code) (coded_list arrival_code))))
     (λ s. (s.event, (s.first, (s.accepted, s.saved))))

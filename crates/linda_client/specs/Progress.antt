@@ -5,7 +5,7 @@ use Rattle.linda_event.specs.Trees.{Tree}
 use Rattle.linda_wire.specs.declared.message.Message.{Message}
 use Rattle.linda_wire.specs.declared.message.Message.TheVariants as messages
 use Rattle.linda_wire.specs.declared.reply.Reply.TheVariants as replies
-use Rattle.linda_client.specs.declared.arrived_tuple.Accepted.{Accepted}
+use Rattle.linda_client.specs.declared.arrived_tuple.PendingAccept.{PendingAccept}
 use Rattle.linda_client.specs.declared.arrived_tuple.ArrivedTuple.{ArrivedTuple}
 use Rattle.linda_client.specs.declared.task.Task.TheVariants.{Idle}
 use Rattle.linda_client.specs.Ask.{asks}
@@ -29,11 +29,11 @@ abbrev pub IsSoundPacket : Client → Packet → Type 0
 IsSoundPacket new p = (p.0 < servers new) × AsksOpenly new p.1
 
 -- What is accepted is what an arrival offers, under the next number of its server.
-abbrev pub accept_of : Client → ArrivedTuple → Accepted
+abbrev pub accept_of : Client → ArrivedTuple → PendingAccept
 accept_of c a = next_accept c a.server a.ticket a.id
 
 -- The call says that the unanswered Accept's offer is gone.
-abbrev pub IsGone : Option Accepted → Call → Type 0
+abbrev pub IsGone : Option PendingAccept → Call → Type 0
 IsGone None call = ⊥
 IsGone (Some own) call = call ≡ Receive own.server (replies.Gone own.n)
 
@@ -56,7 +56,7 @@ pub record AcceptsOffer (c : Client) (call : Call) (pending later : Pending) : T
 -- The accepted offer is gone: exactly the oldest that was saved, if any was, is saved no more, and
 -- is accepted.
 pub record LosesOffer (c : Client) (call : Call) (pending later : Pending) : Type 0 where
-  pub own : Accepted
+  pub own : PendingAccept
   pub before : pending.accepted ≡ Some own
   pub comes : call ≡ Receive own.server (replies.Gone own.n)
   pub accepted : later.accepted ≡ option_map (accept_of c) (slice_get pending.saved 0)

@@ -13,7 +13,7 @@ use Rattle.linda_event.specs.Limits.{is_ask, is_too_deep}
 use Rattle.linda_wire.specs.declared.message.Message.TheVariants as messages
 use Rattle.linda_wire.specs.declared.reply.Reply.{Reply}
 use Rattle.linda_wire.specs.declared.reply.Reply.TheVariants as replies
-use Rattle.linda_client.specs.declared.arrived_tuple.Accepted.{Accepted}
+use Rattle.linda_client.specs.declared.arrived_tuple.PendingAccept.{PendingAccept}
 use Rattle.linda_client.specs.declared.arrived_tuple.ArrivedTuple.{ArrivedTuple}
 use Rattle.linda_client.specs.declared.ask.Ask.{Ask}
 use Rattle.linda_client.specs.declared.ask.Alarm.{Alarm}
@@ -128,7 +128,7 @@ on_stored c server n id =
     (if is_out_of c.task server n then finish c [] (outcomes.Stored server id) else no_reaction c)
 
 -- what is accepted by the next message to this server, for a ticket and an id
-abbrev pub next_accept : Client → ℕ → ℕ → ℕ → Accepted
+abbrev pub next_accept : Client → ℕ → ℕ → ℕ → PendingAccept
 next_accept c server ticket id =
     record { server = server; n = next_at c server; ticket = ticket; id = id }
 
@@ -181,7 +181,7 @@ on_arrival c (Some pending) remove a = on_arrival_for c pending remove a (ask_at
 
 -- what the offer that is taken was asked by, if it is that of the unanswered Accept: the same
 -- server, number and id
-abbrev pub ask_of_taken : Pending → Option Accepted → ℕ → ℕ → ℕ → Option Ask
+abbrev pub ask_of_taken : Pending → Option PendingAccept → ℕ → ℕ → ℕ → Option Ask
 ask_of_taken pending None server n id = None
 ask_of_taken pending (Some a) server n id =
     (if is_answer a server n && (a.id == id) then ask_at pending a.ticket else None)
@@ -220,7 +220,7 @@ go_on c pending (a ∷ rest) =
     on_saved c (record pending { accepted = None; saved = rest }) a (ask_at pending a.ticket)
 
 -- whether a synchronization awaits the answer to its Accept of this server and number
-abbrev pub awaits : Option Accepted → ℕ → ℕ → Bool
+abbrev pub awaits : Option PendingAccept → ℕ → ℕ → Bool
 awaits None server n = false
 awaits (Some a) server n = is_answer a server n
 

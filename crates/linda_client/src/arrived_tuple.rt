@@ -22,7 +22,7 @@ pub(crate) struct ArrivedTuple {
 
 /// The offer that the client accepted by its message `n`, which the server has not answered yet.
 #[derive(Clone, Copy)]
-pub(crate) struct Accepted {
+pub(crate) struct PendingAccept {
     pub(crate) server: u32,
     pub(crate) n: u64,
     pub(crate) ticket: u64,
@@ -31,7 +31,7 @@ pub(crate) struct Accepted {
 
 /// An arrival as a reply reports it, before it is kept.
 #[derive(Clone, Copy)]
-pub(crate) struct Arriving<'a> {
+pub(crate) struct ArrivedTupleRef<'a> {
     pub(crate) server: u32,
     pub(crate) ticket: u64,
     pub(crate) id: u64,
@@ -47,7 +47,7 @@ impl ArrivedTuple {
     }
 
     /// Whether the arrival is the same as another: of one server, for one ticket, of one id.
-    pub(crate) fn is(&self, arriving: Arriving) -> bool
+    pub(crate) fn is_same_arrival(&self, arriving: ArrivedTupleRef) -> bool
         ensures { result ≡ same_arrival (arrival_of arriving.entry) self.now }
     {
         arriving.server == self.server && arriving.ticket == self.ticket && arriving.id == self.id
@@ -56,14 +56,14 @@ impl ArrivedTuple {
 
 impl ArrivedTuple {
     /// The arrival, as it was reported.
-    pub(crate) fn arriving(&self) -> Arriving<'_>
+    pub(crate) fn arriving(&self) -> ArrivedTupleRef<'_>
         ensures { arrival_of result ≡ self.now }
     {
-        Arriving::new(self.server, self.ticket, self.id, &self.tuple)
+        ArrivedTupleRef::new(self.server, self.ticket, self.id, &self.tuple)
     }
 }
 
-impl Accepted {
+impl PendingAccept {
     /// Whether an answer to message `n` of this server is for the accepted offer.
     pub(crate) fn is_answer(&self, server: u32, n: u64) -> bool
         ensures { result ≡ is_answer self.now server n }
@@ -83,13 +83,13 @@ impl Accepted {
     }
 }
 
-impl<'a> Arriving<'a> {
+impl<'a> ArrivedTupleRef<'a> {
     /// The arrival of this tuple.
-    pub(crate) fn new(server: u32, ticket: u64, id: u64, tuple: &'a Tuple) -> Arriving<'a>
+    pub(crate) fn new(server: u32, ticket: u64, id: u64, tuple: &'a Tuple) -> ArrivedTupleRef<'a>
         ensures { arrival_of result
             ≡ record { server = server; ticket = ticket; id = id; tuple = tuple.now } }
     {
-        Arriving {
+        ArrivedTupleRef {
             server,
             ticket,
             id,

@@ -25,7 +25,7 @@ ghost use Rattle.linda_client.specs.Pending.{FitsOpen, IsOpenInput, let_go};
 ghost use Rattle.linda_client.specs.Pending.{save_last, take_oldest, ticket_count};
 ghost use Rattle.linda_client.specs.React.{leave, new_client, on_left, out_server, put, use_number};
 
-use crate::arrived_tuple::{Accepted, ArrivedTuple};
+use crate::arrived_tuple::{ArrivedTuple, PendingAccept};
 use crate::fault::ClientFault;
 use crate::leaves::Leaves;
 use crate::limits::MAX_SERVERS;
@@ -227,7 +227,7 @@ impl Client {
 
     // An offer is accepted, under the next number of its server: the oldest that is saved, if some
     // are.
-    fn accept(&mut self, accepted: Accepted)
+    fn accept(&mut self, accepted: PendingAccept)
         requires server { accepted.server < servers self.old }
         requires number { accepted.n ≡ next_at self.old accepted.server }
         requires room { accepted.n < NUMBER_LIMIT }

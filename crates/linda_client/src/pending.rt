@@ -17,7 +17,7 @@ ghost use Rattle.linda_client.specs.Pending.{ticket_count};
 ghost use Rattle.linda_client.specs.React.{ask_of_taken, awaits};
 ghost use Rattle.linda_client.specs.Reaction.{commitment};
 
-use crate::arrived_tuple::{Accepted, ArrivedTuple, Arriving};
+use crate::arrived_tuple::{ArrivedTuple, ArrivedTupleRef, PendingAccept};
 use crate::ask::{Alarm, Ask, first_due};
 use crate::outcome::{Bindings, Got, Outcome};
 use crate::packet::{push_asked, push_cancelled};
@@ -40,7 +40,7 @@ pub(crate) struct Pending {
     /// The alarms of the event, in tree order.
     alarms: Vec<Alarm>,
     first: u64,
-    accepted: Option<Accepted>,
+    accepted: Option<PendingAccept>,
     saved: VecDeque<ArrivedTuple>,
 }
 
@@ -110,7 +110,7 @@ impl Pending {
     }
 
     /// The offer that was accepted and is not answered yet.
-    pub(crate) fn accepted(&self) -> Option<Accepted>
+    pub(crate) fn accepted(&self) -> Option<PendingAccept>
         ensures accepted { result ≡ self.now.accepted }
         ensures keeps { IsPending self.now }
     {
@@ -118,10 +118,12 @@ impl Pending {
     }
 
     /// Whether the arrival is saved already: the same server, ticket and id.
-    pub(crate) fn is_saved(&self, arriving: Arriving) -> bool
+    pub(crate) fn is_saved(&self, arriving: ArrivedTupleRef) -> bool
         ensures { result ≡ is_saved self.now (arrival_of arriving.entry) }
     {
-        self.saved.iter().any(|saved| saved.is(arriving))
+        self.saved
+            .iter()
+            .any(|saved| saved.is_same_arrival(arriving))
     }
 
     /// What the tuple was asked by that a server took for the client's message `n`, if that is the
@@ -184,7 +186,7 @@ impl Pending {
         ensures { result ≡ spared self.now }
     {
         match self.accepted {
-            Some(own) if !self.has_saved_of(own.server, own.ticket) => Some((
+            Some(own) if !self.has_saved_arrival(own.server, own.ticket) => Some((
                 own.server, own.ticket,
             )),
             _ => None,
@@ -192,7 +194,7 @@ impl Pending {
     }
 
     // Whether an arrival of this server and ticket is saved.
-    fn has_saved_of(&self, server: u32, ticket: u64) -> bool
+    fn has_saved_arrival(&self, server: u32, ticket: u64) -> bool
         ensures { result ≡ list_any (is_of (server, ticket)) self.now.saved }
     {
         self.saved.iter().any(|saved| saved.is_of(server, ticket))
@@ -279,7 +281,7 @@ impl Pending {
     }
 
     /// Notes that an offer was accepted: the oldest that is saved, if some are.
-    pub(crate) fn accept(&mut self, accepted: Accepted)
+    pub(crate) fn accept(&mut self, accepted: PendingAccept)
         requires { IsOpenInput self.old accepted.ticket }
         ensures accepted { self.new ≡ take_oldest accepted self.old }
         ensures keeps { IsPending self.new }

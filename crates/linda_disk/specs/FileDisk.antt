@@ -3,7 +3,7 @@ use Rattle.std.specs.Prelude.{ℕ}
 use Rattle.linda_disk.specs.declared.file_disk.FileDisk.{FileDisk}
 use Rattle.linda_disk.specs.View.{View}
 use Rattle.linda_disk.specs.DiskHistory.{DiskHistory, view_of}
-use Rattle.linda_disk.specs.Known as known
+use Rattle.linda_disk.specs.FileState as known
 
 -- what it held when it was made, and the calls since
 abbrev pub history : FileDisk → DiskHistory

@@ -9,5 +9,5 @@ pub mod DiskHistoryLaws
 pub mod Trouble
 pub mod MemDisk
 pub mod Past
-pub mod Known
+pub mod FileState
 pub mod FileDisk

@@ -2,8 +2,8 @@
 
 use crate::disk::Disk;
 use crate::fault::DiskFault;
+use crate::file_state::{FRONT, FileState};
 use crate::file_trouble::{FileCall, FileTrouble};
-use crate::known::{FRONT, Known};
 use crate::turn::one_more;
 use std::alloc::Global;
 use std::fs::File;
@@ -21,7 +21,7 @@ pub struct FileDisk {
     failures: u64,
     // The first failure of a call of the system since the last sync that was done.
     trouble: Option<FileTrouble>,
-    known: Known,
+    known: FileState,
 }
 
 impl FileDisk {
@@ -64,7 +64,7 @@ impl FileDisk {
         ensures calls { IfOk result (λ d. (disk.history d).calls ≡ []) }
         ensures failures { IfOk result (λ d. disk.failures d ≡ 0) }
     {
-        let known = Known::read_file(alloc, &file, most)?;
+        let known = FileState::read_file(alloc, &file, most)?;
         Ok(FileDisk {
             file,
             failures: 0,

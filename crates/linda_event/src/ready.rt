@@ -10,7 +10,7 @@ use crate::event::Event;
 
 /// Whether some base of the event is ready at this clock: an alarm whose time has come, or a value.
 /// Takes no memory, and time linear in the event.
-pub fn is_any_ready(event: &Event, clock: u64) -> bool
+pub fn has_ready_base(event: &Event, clock: u64) -> bool
     ensures { result ≡ list_any (is_ready clock) (bases_of (tree_of event.now)) }
 {
     match event {
@@ -21,13 +21,13 @@ pub fn is_any_ready(event: &Event, clock: u64) -> bool
         Event::Never => false,
         Event::Choose(members) => {
             for member in members {
-                if is_any_ready(member, clock) {
+                if has_ready_base(member, clock) {
                     return true;
                 }
             }
             false
         }
-        Event::Wrap(_, below) => is_any_ready(below, clock),
-        Event::Nack(_, below) => is_any_ready(below, clock),
+        Event::Wrap(_, below) => has_ready_base(below, clock),
+        Event::Nack(_, below) => has_ready_base(below, clock),
     }
 }

@@ -82,7 +82,7 @@ impl ClientGate {
         }
         match read_head(&self.head) {
             ProxyHead::Short => Ok(()),
-            ProxyHead::Allows(numbers, len) => self.begin(numbers, len, out),
+            ProxyHead::Allows(numbers, len) => self.start_passing(numbers, len, out),
             ProxyHead::Refused => {
                 self.is_refused = true;
                 Err(PassFault::NoHead)
@@ -91,7 +91,7 @@ impl ClientGate {
     }
 
     // The head is whole: what came after it is read.
-    fn begin(
+    fn start_passing(
         &mut self,
         numbers: ClientNumbers,
         len: usize,

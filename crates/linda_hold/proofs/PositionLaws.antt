@@ -12,7 +12,7 @@ use Rattle.linda_hold.specs.declared.asked.Asked.{Asked}
 use Rattle.linda_hold.specs.declared.group.Group.{Group}
 use Rattle.linda_hold.specs.FirstValue.{later_of}
 use Rattle.linda_hold.specs.Group.{HasGroup, is_reached}
-use Rattle.linda_hold.specs.Positions.{HasEarly, if_early, early_at, early_of, is_met_by, is_met_below}
+use Rattle.linda_hold.specs.FirstValueIndex.{HasEarly, if_early, early_at, early_of, is_met_by, is_met_below}
 
 -- No tuple answers a request that is not there.
 pub none_reached : (first : Option Atom) → is_reached first None ≡ false

@@ -29,7 +29,7 @@ use Rattle.linda_hold.specs.Waits.{Wait, waits_of}
 use Rattle.linda_hold.specs.Arrivals.{may_meet}
 use Rattle.linda_hold.specs.FirstValue.{first_of, if_later, value_from}
 use Rattle.linda_hold.specs.Group.{if_unkeyed, is_reached, keyed_at}
-use Rattle.linda_hold.specs.Positions.{is_met, is_met_by}
+use Rattle.linda_hold.specs.FirstValueIndex.{is_met, is_met_by}
 use Rattle.linda_hold.specs.TicketIndex.{Requests, IsCount, client_of}
 use Rattle.linda_hold.specs.TagIndex.{Waiting, count_of, alike}
 use Rattle.linda_hold.specs.Index.{requests_of}

@@ -8,7 +8,7 @@ pub mod Codes
 pub mod Arrivals
 pub mod FirstValue
 pub mod Group
-pub mod Positions
+pub mod FirstValueIndex
 pub mod Keys
 pub mod Numbered
 pub mod Ages

@@ -7,8 +7,8 @@ use Rattle.linda_bag.specs.declared.tag_index.TagIndex.{TagIndex}
 use Rattle.linda_bag.specs.Filing.{Rows}
 use Rattle.linda_bag.specs.TagIndex.{HasTags, with_head}
 use Rattle.linda_hold.specs.declared.asked.Asked.{Asked}
-use Rattle.linda_hold.specs.declared.positions.Positions.{Positions}
-use Rattle.linda_hold.specs.Positions.{HasPositions, is_met}
+use Rattle.linda_hold.specs.declared.first_value_index.FirstValueIndex.{FirstValueIndex}
+use Rattle.linda_hold.specs.FirstValueIndex.{HasPositions, is_met}
 use Rattle.linda_hold.specs.Waits.{Wait}
 
 -- The wait under each number, if there is one.
@@ -23,7 +23,7 @@ abbrev pub count_of : Asked → ℕ
 count_of asked = length asked.template.fields
 
 -- The heads have the numbers of what these requests ask.
-abbrev pub HasAsked : TagIndex Positions → Rows Asked → Type 0
+abbrev pub HasAsked : TagIndex FirstValueIndex → Rows Asked → Type 0
 HasAsked tag_index asked = HasTags tag_of count_of HasPositions tag_index asked
 
 -- what asks for a tuple of this tag and of as many fields

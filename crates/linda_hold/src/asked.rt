@@ -56,14 +56,14 @@ impl Asked {
     }
 
     /// Whether this is a read that the tuple answers.
-    pub(crate) fn is_read_of(&self, tuple: &Tuple) -> bool
+    pub(crate) fn is_read_matching(&self, tuple: &Tuple) -> bool
         ensures { result ≡ (not self.now.remove && is_match self.now.template tuple.now) }
     {
         !self.remove && matches(&self.template, tuple)
     }
 
     /// Whether this is an input that the tuple answers.
-    pub(crate) fn is_input_of(&self, tuple: &Tuple) -> bool
+    pub(crate) fn is_input_matching(&self, tuple: &Tuple) -> bool
         ensures { result ≡ (self.now.remove && is_match self.now.template tuple.now) }
     {
         self.remove && matches(&self.template, tuple)

@@ -4,8 +4,8 @@ ghost use Rattle.std.specs.Prelude.{◌≡◌, map, IfOk};
 ghost use Rattle.std.specs.Option.{option_map};
 ghost use Rattle.linda_hold.specs.Waits.{is_awaited, longest, readers};
 
-use crate::arrivals::Arrivals;
 use crate::request::Request;
+use crate::wait_candidates::WaitCandidates;
 use linda_tuple::{Tuple, matches};
 use std::alloc::{AllocError, Global};
 
@@ -18,11 +18,11 @@ pub struct Awaiting {
 }
 
 /// The first input of these that the tuple answers.
-pub(crate) fn first_input(mut waits: Arrivals<'_>, tuple: &Tuple) -> Option<Request>
+pub(crate) fn first_input(mut waits: WaitCandidates<'_>, tuple: &Tuple) -> Option<Request>
     ensures { result ≡ option_map (λ w. w.0) (longest tuple.now waits.entry) }
 {
     while let Some((request, asked)) = waits.next() {
-        if asked.is_input_of(tuple) {
+        if asked.is_input_matching(tuple) {
             return Some(*request);
         }
     }
@@ -30,7 +30,7 @@ pub(crate) fn first_input(mut waits: Arrivals<'_>, tuple: &Tuple) -> Option<Requ
 }
 
 /// Whether the tuple answers some request of these.
-pub(crate) fn is_answering_one(mut waits: Arrivals<'_>, tuple: &Tuple) -> bool
+pub(crate) fn is_answering_one(mut waits: WaitCandidates<'_>, tuple: &Tuple) -> bool
     ensures { result ≡ is_awaited tuple.now waits.entry }
 {
     while let Some((_, asked)) = waits.next() {
@@ -48,7 +48,7 @@ pub(crate) fn is_answering_one(mut waits: Arrivals<'_>, tuple: &Tuple) -> bool
 /// `AllocError` if memory runs out.
 pub(crate) fn awaiting_among(
     alloc: Global,
-    mut waits: Arrivals<'_>,
+    mut waits: WaitCandidates<'_>,
     tuple: &Tuple,
 ) -> Result<Awaiting, AllocError>
     ensures readers { IfOk result (λ a.
@@ -59,9 +59,9 @@ pub(crate) fn awaiting_among(
     let mut readers = Vec::new(alloc);
     let mut longest = None;
     while let Some((request, asked)) = waits.next() {
-        if asked.is_read_of(tuple) {
+        if asked.is_read_matching(tuple) {
             readers.push(*request)?;
-        } else if longest.is_none() && asked.is_input_of(tuple) {
+        } else if longest.is_none() && asked.is_input_matching(tuple) {
             longest = Some(*request);
         }
     }

@@ -167,7 +167,7 @@ impl Holds {
         ensures { IfOk result (λ v. v.items ≡ held_in client (map.entries self.now)) }
     {
         let ids = self.ticket_index.of_client(alloc, client)?;
-        copied(alloc, &ids)
+        to_sorted_vec(alloc, &ids)
     }
 
     /// How many tuples are held for the client. It walks over none of them, and takes no memory.
@@ -237,7 +237,7 @@ fn all_ids(alloc: Global, by_id: &RisingMap<Request>) -> Result<BTreeSet<u64>, A
 {
     let mut ids = BTreeSet::new(alloc);
     let mut from = 0;
-    while let Some(part) = by_id.run_from(from) {
+    while let Some(part) = by_id.rows_of_block_from(from) {
         put_ids(&mut ids, part.rows)?;
         let Some(next) = part.next else {
             return Ok(ids);
@@ -259,7 +259,7 @@ fn put_ids(ids: &mut BTreeSet<u64>, rows: &[(u64, Request)]) -> Result<(), Alloc
 }
 
 // The numbers of the set, rising.
-fn copied(alloc: Global, numbers: &BTreeSet<u64>) -> Result<Vec<u64>, AllocError>
+fn to_sorted_vec(alloc: Global, numbers: &BTreeSet<u64>) -> Result<Vec<u64>, AllocError>
     ensures keys { IfOk result (λ v. v.items ≡ numbers.now.keys) }
     ensures ordered { set.IsOrdered nat_cmp numbers.now }
 {

@@ -11,19 +11,19 @@
 #![tactic(auto)]
 
 mod ages;
-mod arrivals;
 mod asked;
 mod awaiting;
+mod first_value_index;
 mod group;
 mod holds;
 mod index;
 mod keys;
 mod long;
 mod numbers;
-mod positions;
 mod request;
 mod tag_index;
 mod ticket_index;
+mod wait_candidates;
 mod waits;
 
 pub use asked::Asked;

@@ -4,7 +4,7 @@
 ghost use Rattle.std.specs.Prelude.{length};
 
 use crate::asked::Asked;
-use crate::positions::Positions;
+use crate::first_value_index::FirstValueIndex;
 use crate::request::Request;
 use linda_bag::Tagged;
 use linda_tuple::Atom;
@@ -13,7 +13,7 @@ use linda_tuple::Atom;
 pub(crate) type Wait = (Request, Asked);
 
 /// The numbers of requests, by what they ask for.
-pub(crate) type TagIndex = linda_bag::TagIndex<Positions>;
+pub(crate) type TagIndex = linda_bag::TagIndex<FirstValueIndex>;
 
 impl Tagged for Asked {
     ghost use Rattle.linda_hold.specs.FirstValue as firsts;

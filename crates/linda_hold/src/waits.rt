@@ -12,7 +12,6 @@ ghost use Rattle.linda_hold.specs.Waits.{readers, waits_of, without, without_cli
 ghost use Rattle.linda_hold.specs.Waits.{without_readers};
 
 use crate::ages::{Age, Ages};
-use crate::arrivals::Arrivals;
 use crate::asked::Asked;
 use crate::awaiting::{Awaiting, awaiting_among, first_input, is_answering_one};
 use crate::index::Index;
@@ -20,6 +19,7 @@ use crate::keys::Keys;
 use crate::long::LongWait;
 use crate::request::Request;
 use crate::tag_index::Wait;
+use crate::wait_candidates::WaitCandidates;
 use indexmap::IndexMap;
 use linda_tuple::Tuple;
 use std::alloc::{AllocError, Global};
@@ -288,15 +288,15 @@ impl Waits {
             a.longest ≡ option_map (λ w. w.0) (longest tuple.now self.now)) }
         ensures distinct { AreDistinct self.now }
     {
-        awaiting_among(alloc, self.arrivals(tuple), tuple)
+        awaiting_among(alloc, self.candidates(tuple), tuple)
     }
 
     // The requests that the tuple may answer.
-    fn arrivals<'a>(&'a self, tuple: &'a Tuple) -> Arrivals<'a>
+    fn candidates<'a>(&'a self, tuple: &'a Tuple) -> WaitCandidates<'a>
         ensures met { result ≡ filter (may_meet tuple.now) self.now }
         ensures distinct { AreDistinct self.now }
     {
-        Arrivals::new(&self.by_arrival, &self.index.tag_index, tuple, self.next)
+        WaitCandidates::new(&self.by_arrival, &self.index.tag_index, tuple, self.next)
     }
 
     /// Whether some request waits that the tuple answers. It looks only at those that ask for its
@@ -305,7 +305,7 @@ impl Waits {
     pub fn is_awaited(&self, tuple: &Tuple) -> bool
         ensures { result ≡ is_awaited tuple.now self.now }
     {
-        is_answering_one(self.arrivals(tuple), tuple)
+        is_answering_one(self.candidates(tuple), tuple)
     }
 
     /// The input that has waited longest of those that the tuple answers. It looks at no others
@@ -313,7 +313,7 @@ impl Waits {
     pub fn longest(&self, tuple: &Tuple) -> Option<Request>
         ensures { result ≡ option_map (λ w. w.0) (longest tuple.now self.now) }
     {
-        first_input(self.arrivals(tuple), tuple)
+        first_input(self.candidates(tuple), tuple)
     }
 
     /// How many requests of the client wait. It walks over none of them, and takes no memory.

@@ -32,4 +32,4 @@ pub use limits::{GATE_BYTES, LENGTH_PLACE, MAX_DEEDS, MAX_RECORDS, MIN_BYTES, PI
 pub use making::{push_heading, spell_front, spell_heading};
 pub use record::{Record, spell_deeds};
 pub use size::records_for;
-pub use whole::{Whole, fill};
+pub use whole::{Whole, write_body};

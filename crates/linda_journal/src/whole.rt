@@ -30,7 +30,7 @@ pub struct Whole<D: Disk> {
 /// # Errors
 ///
 /// `Device` where the device failed, `Memory` where the disk found none; each hands the disk back.
-pub fn fill<D: Disk>(
+pub fn write_body<D: Disk>(
     closed: Closed<D>,
     generation: u64,
     bytes: &[u8],

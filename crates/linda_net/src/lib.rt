@@ -16,9 +16,9 @@ pub use linda_net_proxy::{
 };
 pub use linda_net_pump::{Intake, pump};
 pub use linda_net_relays::{Limits, ListeningSockets};
-pub use linda_net_watch::{Listener, PageQuery, PageResult, Status, StatusPages, Watcher};
+pub use linda_net_watch::{Listener, PageQuery, PageStatus, Status, StatusPages, Watcher};
 pub use linda_shared::{
-    ClientPage, Gauge, KindPage, ListedClient, ListedKind, ListedReply, ListedTuple, Longest,
-    MOST_KINDS, Shared, SharedFault, TakenCount, TuplePage, TupleQuery,
+    ClientPage, Gauge, KindPage, ListedClient, ListedKind, ListedReply, ListedTuple,
+    LongestWaitsAndHolds, MOST_KINDS, Shared, SharedFault, TakenCount, TuplePage, TupleQuery,
 };
 pub use serving::{serve, serve_loop, serve_watched};

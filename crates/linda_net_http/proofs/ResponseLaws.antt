@@ -1,7 +1,7 @@
 -- Answers that are written one part after another, and put behind what waits.
 use Rattle.std.proofs.Common.{◌≡◌, ℕ, Bool, true, false, List, ◌++◌, ap, ◌∙◌, append_assoc, sym, Result, Ok, Err, IfOk}
 use Rattle.std.proofs.lemmas.Bool.{false≢true}
-use Rattle.linda_net_http.specs.declared.pages.PageResult.{PageResult}
+use Rattle.linda_net_http.specs.declared.pages.PageStatus.{PageStatus}
 use Rattle.linda_net_http.specs.Response.{IsReply}
 use Rattle.linda_net_http.specs.HttpExchange.{ServesAt}
 
@@ -11,7 +11,7 @@ then_written (Ok x) old mid new one other first second = second ∙ ap (λ b. b 
 then_written (Err e) old mid new one other first second = tt
 
 -- What was not answered before is answered by a text that is put behind what waited.
-pub served : (tells : List ℕ → List ℕ → PageResult → List ℕ → List ℕ → Type 0) (was : Bool) (sent old new text : List ℕ)
+pub served : (tells : List ℕ → List ℕ → PageStatus → List ℕ → List ℕ → Type 0) (was : Bool) (sent old new text : List ℕ)
     → was ≡ false → IsReply tells sent true text → new ≡ old ++ text → ServesAt tells was true sent old new
 served tells true sent old new text open_before reply put = absurd (false≢true (sym open_before))
 served tells false sent old new text open_before reply put = (text, reply, put)

@@ -7,8 +7,8 @@ use Rattle.linda_net_http.specs.declared.response.Code.TheVariants as codes_of
 use Rattle.linda_net_http.specs.declared.head.HeadResult.{HeadResult}
 use Rattle.linda_net_http.specs.declared.head.HeadResult.TheVariants as heads
 use Rattle.linda_net_http.specs.declared.pages.PageQuery.{PageQuery}
-use Rattle.linda_net_http.specs.declared.pages.PageResult.{PageResult}
-use Rattle.linda_net_http.specs.declared.pages.PageResult.TheVariants as tolds
+use Rattle.linda_net_http.specs.declared.pages.PageStatus.{PageStatus}
+use Rattle.linda_net_http.specs.declared.pages.PageStatus.TheVariants as statuses
 use Rattle.linda_net_http.specs.Head.{IsHeadOf}
 
 -- What text is that is no page.
@@ -18,36 +18,36 @@ plain = codes "text/plain"
 -- The number of a code, its words, and what has to be said with it.
 abbrev pub line_of : Code → List ℕ
 line_of codes_of.Found = codes "200 OK"
-line_of codes_of.Wrong = codes "400 Bad Request"
-line_of codes_of.NotNow = codes "503 Service Unavailable"
+line_of codes_of.BadQuery = codes "400 Bad Request"
+line_of codes_of.Unavailable = codes "503 Service Unavailable"
 line_of codes_of.Malformed = codes "400 Bad Request"
-line_of codes_of.Missing = codes "404 Not Found"
-line_of codes_of.OnlyRead = codes "405 Method Not Allowed\r\nAllow: GET, HEAD"
-line_of codes_of.Foreign = codes "403 Forbidden"
+line_of codes_of.NotFound = codes "404 Not Found"
+line_of codes_of.MethodNotAllowed = codes "405 Method Not Allowed\r\nAllow: GET, HEAD"
+line_of codes_of.Forbidden = codes "403 Forbidden"
 
 -- The text that is answered with a code, after what was spelled.
 abbrev pub text_of : Code → List ℕ
 text_of codes_of.Found = []
-text_of codes_of.Wrong = []
-text_of codes_of.NotNow = []
+text_of codes_of.BadQuery = []
+text_of codes_of.Unavailable = []
 text_of codes_of.Malformed = codes "no request of HTTP/1\n"
-text_of codes_of.Missing = codes "no such page\n"
-text_of codes_of.OnlyRead = codes "only GET and HEAD\n"
-text_of codes_of.Foreign = codes "only for the hosts 127.0.0.1, localhost and [::1]\n"
+text_of codes_of.NotFound = codes "no such page\n"
+text_of codes_of.MethodNotAllowed = codes "only GET and HEAD\n"
+text_of codes_of.Forbidden = codes "only for the hosts 127.0.0.1, localhost and [::1]\n"
 
 -- The code of what was said to somebody who asked for a page.
-abbrev pub code_of : PageResult → Code
-code_of (tolds.Page kind) = codes_of.Found
-code_of tolds.Wrong = codes_of.Wrong
-code_of tolds.NotNow = codes_of.NotNow
-code_of tolds.Nothing = codes_of.Missing
+abbrev pub code_of : PageStatus → Code
+code_of (statuses.Page kind) = codes_of.Found
+code_of statuses.BadQuery = codes_of.BadQuery
+code_of statuses.Unavailable = codes_of.Unavailable
+code_of statuses.NotFound = codes_of.NotFound
 
 -- Of which kind is what was said.
-abbrev pub kind_of : PageResult → List ℕ
-kind_of (tolds.Page kind) = kind.now
-kind_of tolds.Wrong = plain
-kind_of tolds.NotNow = plain
-kind_of tolds.Nothing = plain
+abbrev pub kind_of : PageStatus → List ℕ
+kind_of (statuses.Page kind) = kind.now
+kind_of statuses.BadQuery = plain
+kind_of statuses.Unavailable = plain
+kind_of statuses.NotFound = plain
 
 -- How long a page is, and what all answers end with before their page.
 unfoldable pub length_text : ℕ → List ℕ
@@ -73,23 +73,23 @@ abbrev pub refusal_text : Code → List ℕ
 refusal_text code = answer_text code plain (text_of code) true
 
 -- The answer to a path and a query, of pages that say this of them and spell such a page.
-abbrev pub IsPage : (List ℕ → List ℕ → PageResult → List ℕ → List ℕ → Type 0)
+abbrev pub IsPage : (List ℕ → List ℕ → PageStatus → List ℕ → List ℕ → Type 0)
     → PageQuery → Bool → List ℕ → Type 0
 IsPage tells asked is_whole text =
-    (told : PageResult) × (page : List ℕ) × tells asked.path.now asked.query.now told [] page
+    (told : PageStatus) × (page : List ℕ) × tells asked.path.now asked.query.now told [] page
     × (text ≡ answer_text (code_of told) (kind_of told) (page ++ text_of (code_of told)) is_whole)
 
 -- The answer to a head.
-abbrev pub Answers : (List ℕ → List ℕ → PageResult → List ℕ → List ℕ → Type 0)
+abbrev pub Answers : (List ℕ → List ℕ → PageStatus → List ℕ → List ℕ → Type 0)
     → HeadResult → List ℕ → Type 0
 Answers tells heads.Partly text = ⊥
 Answers tells heads.Nothing text = text ≡ refusal_text codes_of.Malformed
-Answers tells heads.Foreign text = text ≡ refusal_text codes_of.Foreign
-Answers tells heads.Other text = text ≡ refusal_text codes_of.OnlyRead
+Answers tells heads.Foreign text = text ≡ refusal_text codes_of.Forbidden
+Answers tells heads.Other text = text ≡ refusal_text codes_of.MethodNotAllowed
 Answers tells (heads.Page asked is_whole) text = IsPage tells asked is_whole text
 
 -- What was sent is answered by this text, or is no whole head yet.
-abbrev pub IsReply : (List ℕ → List ℕ → PageResult → List ℕ → List ℕ → Type 0)
+abbrev pub IsReply : (List ℕ → List ℕ → PageStatus → List ℕ → List ℕ → Type 0)
     → List ℕ → Bool → List ℕ → Type 0
 IsReply tells sent false text = IsHeadOf sent heads.Partly
 IsReply tells sent true text = (head : HeadResult) × IsHeadOf sent head × Answers tells head text

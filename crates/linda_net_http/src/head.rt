@@ -36,7 +36,7 @@ pub(crate) enum HeadResult<'a> {
 }
 
 /// What these bytes come to, which a connection sent so far.
-pub(crate) fn read_head(sent: &[u8]) -> HeadResult<'_>
+pub(crate) fn parse_head(sent: &[u8]) -> HeadResult<'_>
     ensures { IsHeadOf sent.now result }
 {
     let front = front(sent);

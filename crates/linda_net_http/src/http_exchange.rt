@@ -4,7 +4,7 @@ ghost use Rattle.std.specs.Prelude.{◌≡◌, ◌<◌, ◌≤◌, ◌↔◌, []
 ghost use Rattle.linda_net_http.specs.HttpExchange.{HasHeard, IsServed};
 
 use crate::pages::PageSource;
-use crate::reply::reply;
+use crate::reply::write_response;
 use crate::unsent_bytes::UnsentBytes;
 use std::alloc::{AllocError, Global};
 use std::sync::Wait;
@@ -64,7 +64,7 @@ impl HttpExchange {
         if self.is_answered {
             return Ok(());
         }
-        if reply(rt, pages, &self.head, page, text)? {
+        if write_response(rt, pages, &self.head, page, text)? {
             self.out.put(text.as_bytes())?;
             self.is_answered = true;
         }

@@ -2,7 +2,7 @@
 
 ghost use Rattle.std.specs.Prelude.{ℕ, List, IfOk};
 ghost use Rattle.std.specs.String.{string_bytes};
-ghost use Rattle.linda_net_http.specs.declared.pages.PageResult.{PageResult};
+ghost use Rattle.linda_net_http.specs.declared.pages.PageStatus.{PageStatus};
 
 use std::alloc::AllocError;
 use std::sync::Wait;
@@ -18,21 +18,21 @@ pub struct PageQuery<'a> {
 
 /// What was said to somebody who asked for a page.
 #[derive(Clone, Copy)]
-pub enum PageResult {
+pub enum PageStatus {
     /// The page, which is of this kind.
     Page(&'static str),
     /// There is such a page, but not for this query: what was spelled says why.
-    Wrong,
+    BadQuery,
     /// There is such a page, but not now: what was spelled says why.
-    NotNow,
+    Unavailable,
     /// There is no such page.
-    Nothing,
+    NotFound,
 }
 
 /// Who has the pages that are asked for.
 pub trait PageSource {
     // What is said of a path and a query, what was there, and what is there then.
-    ghost tells: { Self → List ℕ → List ℕ → PageResult → List ℕ → List ℕ → Type 0 };
+    ghost tells: { Self → List ℕ → List ℕ → PageStatus → List ℕ → List ℕ → Type 0 };
 
     /// Writes the page that is asked for after what is there, and returns of which kind it is; or
     /// why there is none.
@@ -45,7 +45,7 @@ pub trait PageSource {
         rt: &R,
         asked: PageQuery<'_>,
         page: &mut String,
-    ) -> Result<PageResult, AllocError>
+    ) -> Result<PageStatus, AllocError>
         ensures { IfOk result (λ told. tells self.now asked.entry.path.now asked.entry.query.now
             told (string_bytes page.old) (string_bytes page.new)) };
 }

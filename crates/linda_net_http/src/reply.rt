@@ -4,7 +4,7 @@ ghost use Rattle.std.specs.Prelude.{◌≡◌, IfOk};
 ghost use Rattle.std.specs.String.{string_bytes};
 ghost use Rattle.linda_net_http.specs.Response.{IsPage, IsReply, answer_text, refusal_text};
 
-use crate::head::{HeadResult, read_head};
+use crate::head::{HeadResult, parse_head};
 use crate::pages::{PageQuery, PageSource};
 use crate::response::{Code, Response};
 use std::alloc::AllocError;
@@ -17,7 +17,7 @@ use std::time::Clock;
 /// # Errors
 ///
 /// Memory ran out: some of the answer may be there.
-pub(crate) fn reply<R: Wait + Clock, P: PageSource>(
+pub(crate) fn write_response<R: Wait + Clock, P: PageSource>(
     rt: &R,
     pages: &P,
     sent: &[u8],
@@ -27,11 +27,11 @@ pub(crate) fn reply<R: Wait + Clock, P: PageSource>(
     ensures { IfOk result (λ is_answered.
         IsReply (P.tells pages.now) sent.now is_answered (string_bytes text.new)) }
 {
-    match read_head(sent) {
+    match parse_head(sent) {
         HeadResult::Partly => return Ok(false),
         HeadResult::Page { asked, is_whole } => spell_page(rt, pages, asked, is_whole, page, text)?,
-        HeadResult::Other => spell_refusal(Code::OnlyRead, text)?,
-        HeadResult::Foreign => spell_refusal(Code::Foreign, text)?,
+        HeadResult::Other => spell_refusal(Code::MethodNotAllowed, text)?,
+        HeadResult::Foreign => spell_refusal(Code::Forbidden, text)?,
         HeadResult::Nothing => spell_refusal(Code::Malformed, text)?,
     }
     Ok(true)

@@ -5,7 +5,7 @@ ghost use Rattle.std.specs.String.{string_bytes};
 ghost use Rattle.linda_net_http.specs.Response.{code_of, fields_text, head_text, kind_of};
 ghost use Rattle.linda_net_http.specs.Response.{length_text, line_of, plain, text_of};
 
-use crate::pages::PageResult;
+use crate::pages::PageStatus;
 use std::alloc::AllocError;
 
 /// What text is that is no page.
@@ -15,12 +15,12 @@ const PLAIN: &str = "text/plain";
 #[derive(Clone, Copy)]
 pub(crate) enum Code {
     Found,
-    Wrong,
-    NotNow,
+    BadQuery,
+    Unavailable,
     Malformed,
-    Missing,
-    OnlyRead,
-    Foreign,
+    NotFound,
+    MethodNotAllowed,
+    Forbidden,
 }
 
 /// An answer, before its page.
@@ -34,7 +34,7 @@ pub(crate) struct Response {
 
 impl Response {
     /// This was said to somebody who asked for a page, or only for what goes before it.
-    pub(crate) fn said(told: PageResult, is_whole: bool) -> Response
+    pub(crate) fn said(told: PageStatus, is_whole: bool) -> Response
         ensures code { result.code ≡ code_of told }
         ensures kind { result.kind.now ≡ kind_of told }
         ensures whole { result.is_whole ≡ is_whole }
@@ -65,12 +65,12 @@ impl Response {
     {
         match self.code {
             Code::Found => "",
-            Code::Wrong => "",
-            Code::NotNow => "",
+            Code::BadQuery => "",
+            Code::Unavailable => "",
             Code::Malformed => "no request of HTTP/1\n",
-            Code::Missing => "no such page\n",
-            Code::OnlyRead => "only GET and HEAD\n",
-            Code::Foreign => "only for the hosts 127.0.0.1, localhost and [::1]\n",
+            Code::NotFound => "no such page\n",
+            Code::MethodNotAllowed => "only GET and HEAD\n",
+            Code::Forbidden => "only for the hosts 127.0.0.1, localhost and [::1]\n",
         }
     }
 
@@ -114,35 +114,35 @@ fn line_of(code: Code) -> &'static str
 {
     match code {
         Code::Found => "200 OK",
-        Code::Wrong => "400 Bad Request",
-        Code::NotNow => "503 Service Unavailable",
+        Code::BadQuery => "400 Bad Request",
+        Code::Unavailable => "503 Service Unavailable",
         Code::Malformed => "400 Bad Request",
-        Code::Missing => "404 Not Found",
-        Code::OnlyRead => "405 Method Not Allowed\r\nAllow: GET, HEAD",
-        Code::Foreign => "403 Forbidden",
+        Code::NotFound => "404 Not Found",
+        Code::MethodNotAllowed => "405 Method Not Allowed\r\nAllow: GET, HEAD",
+        Code::Forbidden => "403 Forbidden",
     }
 }
 
 // The code of what was said to somebody who asked for a page.
-fn code_of(told: PageResult) -> Code
+fn code_of(told: PageStatus) -> Code
     ensures { result ≡ code_of told }
 {
     match told {
-        PageResult::Page(_) => Code::Found,
-        PageResult::Wrong => Code::Wrong,
-        PageResult::NotNow => Code::NotNow,
-        PageResult::Nothing => Code::Missing,
+        PageStatus::Page(_) => Code::Found,
+        PageStatus::BadQuery => Code::BadQuery,
+        PageStatus::Unavailable => Code::Unavailable,
+        PageStatus::NotFound => Code::NotFound,
     }
 }
 
 // Of which kind is what was said.
-fn kind_of(told: PageResult) -> &'static str
+fn kind_of(told: PageStatus) -> &'static str
     ensures { result.now ≡ kind_of told }
 {
     match told {
-        PageResult::Page(kind) => kind,
-        PageResult::Wrong => PLAIN,
-        PageResult::NotNow => PLAIN,
-        PageResult::Nothing => PLAIN,
+        PageStatus::Page(kind) => kind,
+        PageStatus::BadQuery => PLAIN,
+        PageStatus::Unavailable => PLAIN,
+        PageStatus::NotFound => PLAIN,
     }
 }

@@ -132,7 +132,7 @@ impl<S: Socket, L: Ledger> Connection<S, L> {
 
     // Whether nothing more is read from it.
     fn is_ending(&self) -> bool {
-        !matches!(self.session.end_of(), SessionEnd::Never)
+        !matches!(self.session.end_state(), SessionEnd::Never)
     }
 
     /// Its client is seen to hold a tuple, or none. Returns whether it is late: it holds one, and
@@ -290,8 +290,8 @@ impl<S: Socket, L: Ledger> Connection<S, L> {
 
     // A reply is counted if its client is still sent something.
     fn count(&self, counters: &Counters, reply: &Reply) {
-        if !self.session.end_of().is_closed() {
-            counters.sends(reply);
+        if !self.session.end_state().is_closed() {
+            counters.count_reply(reply);
         }
     }
 
@@ -331,10 +331,10 @@ impl<S: Socket, L: Ledger> Connection<S, L> {
         ensures { Flushes self.old.session self.new.session }
     {
         if !self.is_waiting() {
-            if let SessionEnd::Ending(Some(word)) = self.session.end_of() {
-                counters.sends(&word.reply());
+            if let SessionEnd::Ending(Some(word)) = self.session.end_state() {
+                counters.count_reply(&word.reply());
             }
-            if let SessionEnd::Ending(word) = self.session.end_of() {
+            if let SessionEnd::Ending(word) = self.session.end_state() {
                 self.stream.note(ConnectionNotice::Ended(word));
             }
         }

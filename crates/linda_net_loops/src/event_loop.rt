@@ -199,7 +199,7 @@ impl<L: Ledger> Loop<L> {
         self.is_closed = news.is_closed;
         for stream in self.streams.drain(..) {
             if self.is_ending || !self.sessions.let_in(self.poll.registry(), stream) {
-                directory.counters.ends();
+                directory.counters.count_end();
                 inbox.loses();
             }
         }

@@ -93,7 +93,9 @@ fn serve_calls<D: Disk, S: Socket, L: Ledger, R: Wait + Clock>(
             LoopCall::Greet(key, message) => {
                 let greeting = shared.admit(rt, &message);
                 if let Ok(Admission::Refused(code, _)) = &greeting {
-                    directory.counters.turns_away(rt, &message, *code);
+                    directory
+                        .counters
+                        .count_refused_greeting(rt, &message, *code);
                 }
                 is_up = !is_down(&greeting) && is_up;
                 sessions.note_greeting(key, &message, &greeting);
@@ -139,13 +141,15 @@ fn serve<D: Disk, S: Socket, L: Ledger, R: Wait + Clock>(
     // All that was asked is served, and there is room for as much again.
     ensures { group.new ≡ group_of group.old.room [] [] }
 {
-    let asked = std::mem::replace(group, sessions.no_group());
+    let asked = std::mem::replace(group, sessions.empty_group());
     let mut sink = sink(rt, sessions, directory);
-    directory.counters.serves(asked.len());
+    directory.counters.count_group(asked.len());
     let begin = Instant::now(rt).ok();
     let (served, is_up) = shared.serve_group(rt, asked, &mut sink);
     let locked = micros_since(rt, sink.begin);
-    directory.counters.spends(micros_since(rt, begin));
+    directory
+        .counters
+        .add_serving_micros(micros_since(rt, begin));
     wake_others(rt, &sink);
     *group = sessions.hear_all(served, way);
     (is_up, locked)

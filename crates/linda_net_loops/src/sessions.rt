@@ -37,13 +37,13 @@ pub(crate) struct Sessions<S: Socket, L: Ledger> {
     // Connections that may have something, and those that may have to be written to: each at most
     // once, so there is always room.
     ready: VecDeque<usize>,
-    touched: Vec<usize>,
+    to_write: Vec<usize>,
     /// Clients that come and go: at most one for each connection.
     pub(crate) calls: VecDeque<LoopCall>,
     // Where replies are put that other loops handed to this one.
     handed: Vec<Sent>,
     // How many bytes clients were given since this was asked last.
-    told: u64,
+    bytes_sent: u64,
     buffer: Vec<u8>,
 }
 
@@ -57,19 +57,19 @@ impl<S: Socket, L: Ledger> Sessions<S, L> {
             connections: Slab::new(alloc),
             clients: BTreeMap::new(alloc),
             ready: VecDeque::new(alloc),
-            touched: Vec::new(alloc),
+            to_write: Vec::new(alloc),
             calls: VecDeque::new(alloc),
             handed: Vec::new(alloc),
-            told: 0,
+            bytes_sent: 0,
             buffer,
         })
     }
 
     /// A group for the place of one that is being served.
-    pub(crate) fn no_group(&self) -> MessageGroup<usize, L>
+    pub(crate) fn empty_group(&self) -> MessageGroup<usize, L>
         ensures { result ≡ group_of 0 [] [] }
     {
-        MessageGroup::without_room(self.alloc)
+        MessageGroup::placeholder(self.alloc)
     }
 
     /// Which of the loops it is.
@@ -117,7 +117,7 @@ impl<S: Socket, L: Ledger> Sessions<S, L> {
     fn make_room(&mut self) -> Result<(), AllocError> {
         let count = self.connections.len().saturating_add(1);
         self.ready.reserve(count)?;
-        self.touched.reserve(count)?;
+        self.to_write.reserve(count)?;
         self.calls.reserve(count)
     }
 
@@ -147,7 +147,7 @@ impl<S: Socket, L: Ledger> Sessions<S, L> {
     // The connection is looked at when others are written to.
     fn touch(&mut self, key: usize) {
         if let Some(connection) = self.connections.get_mut(key) {
-            if !connection.is_touched && self.touched.push(key).is_ok() {
+            if !connection.is_touched && self.to_write.push(key).is_ok() {
                 connection.is_touched = true;
             }
         }

@@ -20,7 +20,7 @@ const SPAN: u64 = 1_000;
 
 /// Refusals of one client number, each soon after the one before.
 #[derive(Clone, Copy, Debug, PartialEq, Eq)]
-pub(crate) struct RefusalRun {
+pub(crate) struct BusyRun {
     pub(crate) client: u32,
     /// When the first of them came, and when the last one came, in milliseconds.
     pub(crate) first: u64,
@@ -31,14 +31,14 @@ pub(crate) struct RefusalRun {
 #[derive(Clone, Copy, Debug, PartialEq, Eq)]
 pub(crate) struct RefusalVerdict {
     /// The run that it belongs to.
-    pub(crate) run: RefusalRun,
+    pub(crate) run: BusyRun,
     /// Whether it counts.
     pub(crate) counts: bool,
 }
 
 /// What a refusal of the client comes to, at this millisecond, after the run before, if there is
 /// one.
-pub(crate) fn judged(client: u32, before: Option<RefusalRun>, now: u64) -> RefusalVerdict
+pub(crate) fn judged(client: u32, before: Option<BusyRun>, now: u64) -> RefusalVerdict
     ensures { result ≡ judged client before now }
 {
     let Some(run) = before else {
@@ -51,7 +51,7 @@ pub(crate) fn judged(client: u32, before: Option<RefusalRun>, now: u64) -> Refus
         return begun(client, now, true);
     }
     RefusalVerdict {
-        run: RefusalRun {
+        run: BusyRun {
             client: run.client,
             first: run.first,
             last: now,
@@ -65,7 +65,7 @@ fn begun(client: u32, now: u64, counts: bool) -> RefusalVerdict
     ensures { result ≡ begun client now counts }
 {
     RefusalVerdict {
-        run: RefusalRun {
+        run: BusyRun {
             client,
             first: now,
             last: now,
@@ -76,16 +76,16 @@ fn begun(client: u32, now: u64, counts: bool) -> RefusalVerdict
 
 /// The runs of the client numbers that were refused last, in the order of their last refusals.
 #[derive(Drop)]
-pub(crate) struct RefusalRuns {
-    runs: Vec<RefusalRun>,
+pub(crate) struct BusyRuns {
+    runs: Vec<BusyRun>,
 }
 
-impl RefusalRuns {
+impl BusyRuns {
     /// Nobody was refused. Takes no memory until somebody is.
-    pub(crate) fn new(alloc: Global) -> RefusalRuns
+    pub(crate) fn new(alloc: Global) -> BusyRuns
         ensures { result.runs.items ≡ [] }
     {
-        RefusalRuns {
+        BusyRuns {
             runs: Vec::new(alloc),
         }
     }
@@ -110,14 +110,14 @@ impl RefusalRuns {
 }
 
 // The client has no run.
-fn forget(runs: &mut Vec<RefusalRun>, client: u32)
+fn forget(runs: &mut Vec<BusyRun>, client: u32)
     ensures { runs.new.items ≡ others client runs.old.items }
 {
     runs.retain(|run| run.client != client);
 }
 
 // There is room for one run more: if there are as many as are remembered, the first goes.
-fn make_room(runs: &mut Vec<RefusalRun>)
+fn make_room(runs: &mut Vec<BusyRun>)
     ensures { runs.new.items ≡ newest runs.old.items }
 {
     if runs.len() >= MOST {
@@ -126,7 +126,7 @@ fn make_room(runs: &mut Vec<RefusalRun>)
 }
 
 // The run of the client, if there is one.
-fn run_of(runs: &[RefusalRun], client: u32) -> Option<RefusalRun>
+fn run_of(runs: &[BusyRun], client: u32) -> Option<BusyRun>
     ensures { result ≡ run_of client runs.now }
 {
     let Some((first, rest)) = runs.split_first() else {

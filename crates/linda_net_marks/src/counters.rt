@@ -5,7 +5,7 @@ ghost use Rattle.linda_net_marks.specs.Counting.{no_tally};
 ghost use Rattle.linda_wire.specs.declared.refusal.Refusal.TheVariants as refusals;
 ghost use Rattle.linda_wire.specs.Refusal.{refused};
 
-use crate::busy::RefusalRuns;
+use crate::busy::BusyRuns;
 use crate::elapsed::millis_of;
 use crate::notice::Notice;
 use crate::refusals::{RefusalCounters, RefusalReason, RefusalValues, why_of};
@@ -83,7 +83,7 @@ pub struct Counters {
 struct Busy {
     // When the first one was refused.
     since: Option<Instant>,
-    runs: RefusalRuns,
+    runs: BusyRuns,
 }
 
 impl Counters {
@@ -103,50 +103,51 @@ impl Counters {
             snapshot: Mutex::new(None),
             busy: Mutex::new(Busy {
                 since: None,
-                runs: RefusalRuns::new(alloc),
+                runs: BusyRuns::new(alloc),
             }),
         }
     }
 
     /// A connection came.
-    pub fn comes(&self) {
+    pub fn count_connection(&self) {
         let _ = self.came.fetch_add(1, Ordering::SeqCst);
     }
 
     /// A connection is over.
-    pub fn ends(&self) {
+    pub fn count_end(&self) {
         let _ = self.over.fetch_add(1, Ordering::SeqCst);
     }
 
     /// A connection is ended since its client holds a tuple and said nothing for too long.
-    pub fn lapses(&self) {
+    pub fn count_lapse(&self) {
         let _ = self.late.fetch_add(1, Ordering::SeqCst);
     }
 
     /// A connection is closed since no thread can be had.
-    pub fn closes(&self) {
+    pub fn count_unserved(&self) {
         let _ = self.closed.fetch_add(1, Ordering::SeqCst);
     }
 
     /// A connection cannot be had.
-    pub fn misses(&self) {
+    pub fn count_missed(&self) {
         let _ = self.missed.fetch_add(1, Ordering::SeqCst);
     }
 
     /// A group of so many messages is served.
-    pub fn serves(&self, count: usize) {
+    pub fn count_group(&self, count: usize) {
         let _ = self.groups.fetch_add(1, Ordering::SeqCst);
         let _ = self.messages.fetch_add(count as u64, Ordering::SeqCst);
     }
 
     /// A group took so many microseconds.
-    pub fn spends(&self, micros: u64) {
+    pub fn add_serving_micros(&self, micros: u64) {
         let _ = self.took.fetch_add(micros, Ordering::SeqCst);
     }
 
     /// This reply goes out: if it says that the bank is full, or refuses its client for what an
-    /// operator may mend, that is counted; but that a number is in use is counted by `turns_away`.
-    pub fn sends(&self, reply: &Reply) {
+    /// operator may mend, that is counted; but that a number is in use is counted by
+    /// `count_refused_greeting`.
+    pub fn count_reply(&self, reply: &Reply) {
         if tells_full(reply) {
             let _ = self.refused.fetch_add(1, Ordering::SeqCst);
         }
@@ -159,7 +160,7 @@ impl Counters {
 
     /// A greeting is refused with this code. If the number is in use, and was asked for again and
     /// again for a second, that is counted.
-    pub fn turns_away<R: Wait + Clock>(&self, rt: &R, greeting: &Message, code: u8) {
+    pub fn count_refused_greeting<R: Wait + Clock>(&self, rt: &R, greeting: &Message, code: u8) {
         let Message::Hello { client, .. } = greeting else {
             return;
         };

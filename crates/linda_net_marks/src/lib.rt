@@ -3,7 +3,7 @@
 //! - `Counters` has the counts, which threads share; a `CounterValues` is what they come to.
 //! - A `Notice` is what is reported of them, and `RefusalReason` says why a client was refused.
 //! - `word_of` is what a client is told last if the server has a fault.
-//! - Only a client number that is refused Busy again and again counts (`RefusalRuns`).
+//! - Only a client number that is refused Busy again and again counts (`BusyRuns`).
 #![tactic(auto)]
 
 mod bounds;

@@ -14,8 +14,8 @@ use Rattle.linda_net_proxy.specs.declared.fault.ProxyFault.{ProxyFault}
 use Rattle.linda_net_proxy.specs.declared.fault.ProxyFault.TheVariants.{Unreachable, Lost, Refused}
 use Rattle.linda_net_proxy.specs.declared.fault.ProxyFault.TheVariants.{NotAServer, Memory}
 use Rattle.linda_net_proxy.specs.declared.course.GreetingCourse.{GreetingCourse}
-use Rattle.linda_net_proxy.specs.declared.course.GreetingStep.{GreetingStep}
-use Rattle.linda_net_proxy.specs.declared.course.GreetingStep.TheVariants.{Again, Later, Over}
+use Rattle.linda_net_proxy.specs.declared.course.RetryDecision.{RetryDecision}
+use Rattle.linda_net_proxy.specs.declared.course.RetryDecision.TheVariants.{Again, Later, Over}
 use Rattle.linda_net_proxy.specs.declared.course.TheConstants.{FIRST_TRIES, MAX_TRIES}
 
 -- The Hello of a client, in the version that is spoken here.
@@ -59,19 +59,19 @@ met c = record c { is_met = true; left = MAX_TRIES }
 
 -- The tries are over: they begin anew once that is asked for, or the server is given up if it never
 -- was met.
-abbrev pub spent : GreetingCourse → GreetingStep × GreetingCourse
+abbrev pub spent : GreetingCourse → RetryDecision × GreetingCourse
 spent c = if c.is_met then (Later, met c) else (Over, c)
 
 -- one more greeting has failed
-abbrev pub failed : GreetingCourse → GreetingStep × GreetingCourse
+abbrev pub failed : GreetingCourse → RetryDecision × GreetingCourse
 failed c = if nat_lt 1 c.left then (Again, record c { left = c.left - 1 }) else spent c
 
 -- one more greeting has failed, of which the Hello may have reached the server
-abbrev pub lost : GreetingCourse → GreetingStep × GreetingCourse
+abbrev pub lost : GreetingCourse → RetryDecision × GreetingCourse
 lost c = if c.is_met then failed c else (Again, met c)
 
 -- What follows of a fault, and the course after it.
-abbrev pub after : GreetingCourse → ProxyFault → GreetingStep × GreetingCourse
+abbrev pub after : GreetingCourse → ProxyFault → RetryDecision × GreetingCourse
 after c Unreachable = if is_again c Unreachable then failed c else (Over, c)
 after c Lost = lost c
 after c (Refused code detail) = if is_again c (Refused code detail) then failed c else (Over, c)

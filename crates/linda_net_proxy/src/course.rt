@@ -17,7 +17,7 @@ pub const FIRST_TRIES: u32 = 2_000;
 
 /// What follows of a greeting that failed.
 #[derive(Clone, Copy, Debug, PartialEq, Eq)]
-pub(crate) enum GreetingStep {
+pub(crate) enum RetryDecision {
     /// It is made again.
     Again,
     /// There is no connection. The server is greeted again once that is asked for.
@@ -65,15 +65,15 @@ impl GreetingCourse {
     }
 
     /// A greeting has failed so. What follows.
-    pub(crate) fn fail(&mut self, fault: ProxyFault) -> GreetingStep
+    pub(crate) fn fail(&mut self, fault: ProxyFault) -> RetryDecision
         ensures { (result, self.new) ≡ spec.after self.old fault }
     {
         if fault == ProxyFault::Lost && !self.is_met {
             self.welcome();
-            return GreetingStep::Again;
+            return RetryDecision::Again;
         }
         if !self.may_try_again(fault) {
-            return GreetingStep::Over;
+            return RetryDecision::Over;
         }
         self.count()
     }
@@ -94,18 +94,18 @@ impl GreetingCourse {
     }
 
     // One more greeting has failed. What follows.
-    fn count(&mut self) -> GreetingStep
+    fn count(&mut self) -> RetryDecision
         ensures { (result, self.new) ≡ spec.failed self.old }
     {
         if self.left > 1 {
             self.left -= 1;
-            return GreetingStep::Again;
+            return RetryDecision::Again;
         }
         if self.is_met {
             self.left = MAX_TRIES;
-            return GreetingStep::Later;
+            return RetryDecision::Later;
         }
-        GreetingStep::Over
+        RetryDecision::Over
     }
 }
 

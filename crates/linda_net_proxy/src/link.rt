@@ -2,7 +2,7 @@
 
 ghost use Rattle.std.specs.Prelude.{◌≡◌, None, Some};
 
-use crate::course::{GreetingCourse, GreetingStep, arrival_of};
+use crate::course::{GreetingCourse, RetryDecision, arrival_of};
 use crate::fault::ProxyFault;
 use crate::inbox::EventInbox;
 use crate::proxy::{Proxy, end, send};
@@ -152,19 +152,19 @@ impl ServerLink {
         &self,
         rt: &R,
         inbox: &EventInbox,
-        next: GreetingStep,
+        next: RetryDecision,
         fault: ProxyFault,
     ) -> bool {
         match next {
-            GreetingStep::Again => {
+            RetryDecision::Again => {
                 thread::sleep(rt, Duration::from_millis(1));
                 true
             }
-            GreetingStep::Later => {
+            RetryDecision::Later => {
                 inbox.bring(rt, self.server, ServerEvent::NoConnection);
                 self.wait_retry(rt, inbox)
             }
-            GreetingStep::Over => {
+            RetryDecision::Over => {
                 inbox.bring(rt, self.server, arrival_of(fault));
                 false
             }

@@ -110,16 +110,16 @@ impl Acceptor {
                         return;
                     }
                     self.left = one_less(self.left);
-                    directory.counters.comes();
+                    directory.counters.count_connection();
                     if !directory.hand(rt, stream) {
-                        directory.counters.ends();
+                        directory.counters.count_end();
                     }
                 }
                 Err(error) => {
                     if error.kind() == ErrorKind::WouldBlock {
                         self.may_accept = false;
                     } else {
-                        directory.counters.misses();
+                        directory.counters.count_missed();
                         self.has_missed = true;
                     }
                     return;

@@ -125,7 +125,7 @@ impl Session {
         if !self.may_take() {
             return None;
         }
-        let found = match front_of(self.alloc, &mut self.held, &mut self.feed) {
+        let found = match next_in_line(self.alloc, &mut self.held, &mut self.feed) {
             Ok(found) => found,
             Err(fault) => {
                 self.end(word_of(fault));
@@ -336,7 +336,7 @@ impl Session {
     }
 
     /// Whether it goes on.
-    pub fn end_of(&self) -> SessionEnd
+    pub fn end_state(&self) -> SessionEnd
         ensures { result ≡ self.now.ends }
     {
         self.end
@@ -365,7 +365,7 @@ impl Session {
 }
 
 // The message at the front: the one that was kept, or the next one that was received.
-fn front_of(
+fn next_in_line(
     alloc: Global,
     held: &mut Option<Message>,
     feed: &mut Feed,

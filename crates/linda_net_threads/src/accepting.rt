@@ -1,6 +1,6 @@
 //! Connections that come, each with two threads of its own.
 
-use crate::connection::{ThreadConnection, write_news};
+use crate::connection::{ThreadConnection, write_unsolicited};
 use crate::reader::read_messages;
 use linda_disk::Disk;
 use linda_net_marks::{ACCEPT_PAUSE, Counters, one_less};
@@ -52,7 +52,7 @@ fn begin_all<'s, E, D: Disk + Send, L: Ledger + Send + Sync, R: Threads + Wait +
                 left = one_less(left);
             }
             Err(_) => {
-                counters.misses();
+                counters.count_missed();
                 thread::sleep(rt, Duration::from_millis(ACCEPT_PAUSE));
             }
         }
@@ -71,11 +71,11 @@ fn begin<'s, E, D: Disk + Send, L: Ledger + Send + Sync, R: Threads + Wait + Clo
     counters: &'s Counters,
     stream: TcpStream,
 ) {
-    counters.comes();
+    counters.count_connection();
     let begun = scope.spawn(move || converse(rt, alloc, shared, counters, stream));
     if begun.is_err() {
-        counters.closes();
-        counters.ends();
+        counters.count_unserved();
+        counters.count_end();
     }
 }
 
@@ -91,12 +91,12 @@ fn converse<D: Disk + Send, L: Ledger + Send + Sync, R: Threads + Wait + Clock +
     let connection = ThreadConnection::new(alloc, stream);
     let lent = &connection;
     thread::scope(thread::scope_env(), rt, |scope| {
-        let news = move || write_news(rt, alloc, shared, counters, lent);
+        let news = move || write_unsolicited(rt, alloc, shared, counters, lent);
         if scope.spawn(news).is_ok() {
             read_messages(rt, alloc, shared, counters, lent);
         } else {
-            counters.closes();
+            counters.count_unserved();
         }
     });
-    counters.ends();
+    counters.count_end();
 }

@@ -63,7 +63,7 @@ impl<L: Ledger> ThreadConnection<L> {
     /// refused here, that comes after what the server sent it before.
     pub(crate) fn next<R: Wait>(&self, rt: &R, alloc: Global, counters: &Counters) -> TalkEvent {
         let mut guard = self.talk.lock(rt);
-        guard.tell_news(rt, alloc, counters);
+        guard.send_unsolicited(rt, alloc, counters);
         let next = guard.next(alloc, counters);
         guard.write(rt, &self.stream);
         next
@@ -117,7 +117,7 @@ impl<L: Ledger> ThreadConnection<L> {
     ) {
         let mut guard = self.talk.lock(rt);
         match taken {
-            Ok(()) => guard.tell_news(rt, alloc, counters),
+            Ok(()) => guard.send_unsolicited(rt, alloc, counters),
             Err(word) => guard.end(word),
         }
         guard.all_came_back();
@@ -127,7 +127,7 @@ impl<L: Ledger> ThreadConnection<L> {
     /// Writes what is there for the client. Says whether the connection can go on.
     pub(crate) fn flush<R: Wait>(&self, rt: &R, alloc: Global, counters: &Counters) -> bool {
         let mut guard = self.talk.lock(rt);
-        guard.tell_news(rt, alloc, counters);
+        guard.send_unsolicited(rt, alloc, counters);
         guard.write(rt, &self.stream);
         !guard.has_failed()
     }
@@ -174,7 +174,7 @@ impl<L: Ledger> ThreadConnection<L> {
 /// Writes what others' messages send to the client of this connection, until no more comes or it
 /// cannot be written. A connection that is not greeted yet is looked at once a second: where the
 /// server is down, nothing more is read.
-pub(crate) fn write_news<D: Disk, L: Ledger, R: Wait + Clock>(
+pub(crate) fn write_unsolicited<D: Disk, L: Ledger, R: Wait + Clock>(
     rt: &R,
     alloc: Global,
     shared: &Shared<D, L>,

@@ -41,14 +41,14 @@ impl<D: Disk, L: Ledger, R: Wait + Clock> Reader<'_, D, L, R> {
                 TalkEvent::Greeting(message) => self.greet(&message),
                 TalkEvent::Run(messages) => self.submit(&messages),
                 TalkEvent::Busy => {}
-                TalkEvent::None => self.read(&mut buffer),
+                TalkEvent::None => self.receive_piece(&mut buffer),
                 TalkEvent::End => return,
             }
         }
     }
 
     // Reads the next piece: nothing only if no more comes.
-    fn read(&mut self, buffer: &mut [u8; PIECE]) {
+    fn receive_piece(&mut self, buffer: &mut [u8; PIECE]) {
         let mut stream = self.connection.stream();
         match stream.read(buffer) {
             Ok(len) => self.connection.received(self.rt, &buffer[..len]),
@@ -69,7 +69,8 @@ impl<D: Disk, L: Ledger, R: Wait + Clock> Reader<'_, D, L, R> {
         match self.shared.greet(self.rt, message) {
             Ok(greeted) => {
                 if let Greeted::Refused(code, _) = &greeted {
-                    self.counters.turns_away(self.rt, message, *code);
+                    self.counters
+                        .count_refused_greeting(self.rt, message, *code);
                 }
                 let _ = self.settle(greeted);
             }

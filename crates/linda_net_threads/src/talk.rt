@@ -71,7 +71,7 @@ impl<L: Ledger> Talk<L> {
 
     /// Whether it failed.
     pub(crate) fn has_failed(&self) -> bool {
-        matches!(self.session.end_of(), SessionEnd::Broken)
+        matches!(self.session.end_state(), SessionEnd::Broken)
     }
 
     /// What it has next.
@@ -86,7 +86,7 @@ impl<L: Ledger> Talk<L> {
         match route {
             Route::Greet => TalkEvent::Greeting(message),
             Route::Busy => {
-                counters.sends(&Refusal::Busy.reply());
+                counters.count_reply(&Refusal::Busy.reply());
                 TalkEvent::Busy
             }
             Route::Goes(_) => TalkEvent::Run(self.run(alloc, message)),
@@ -166,7 +166,7 @@ impl<L: Ledger> Talk<L> {
     }
 
     /// Takes in what is there for the client, in order.
-    pub(crate) fn tell_news<R: Wait>(&mut self, rt: &R, alloc: Global, counters: &Counters) {
+    pub(crate) fn send_unsolicited<R: Wait>(&mut self, rt: &R, alloc: Global, counters: &Counters) {
         let replies = match &mut self.outlet {
             Some(outlet) => outlet.drain(rt, alloc),
             None => return,
@@ -199,9 +199,9 @@ impl<L: Ledger> Talk<L> {
     /// If there is a last word, takes in what is there for the client, and then that. Nothing goes
     /// out after it.
     pub(crate) fn close<R: Wait>(&mut self, rt: &R, alloc: Global, counters: &Counters) {
-        if let SessionEnd::Ending(Some(word)) = self.session.end_of() {
-            self.tell_news(rt, alloc, counters);
-            counters.sends(&word.reply());
+        if let SessionEnd::Ending(Some(word)) = self.session.end_state() {
+            self.send_unsolicited(rt, alloc, counters);
+            counters.count_reply(&word.reply());
         }
         self.session.finish();
     }
@@ -213,8 +213,8 @@ impl<L: Ledger> Talk<L> {
 
     // A reply is counted if it still goes out.
     fn count(&self, counters: &Counters, reply: &Reply) {
-        if !self.session.end_of().is_closed() {
-            counters.sends(reply);
+        if !self.session.end_state().is_closed() {
+            counters.count_reply(reply);
         }
     }
 

@@ -50,7 +50,7 @@ pub(crate) fn snapshot<D: Disk, L: Ledger, R: Wait + Clock>(
             Ok(Progress::Going) => thread::sleep(rt, pause()),
         }
         let now = shared.gauge(rt).used;
-        most = step_after(used, now);
+        most = next_step_bytes(used, now);
         used = now;
     }
     None
@@ -78,7 +78,7 @@ fn copy_clients<D: Disk, L: Ledger, R: Wait + Clock>(
 // About how many bytes the next step writes, if the bank in use had so many bytes before the last
 // one and has so many now: twice as many as it has more. So with each step less is left to write,
 // however fast records come.
-fn step_after(before: usize, now: usize) -> usize
+fn next_step_bytes(before: usize, now: usize) -> usize
     ensures { result ≡ max 262_144 (min (2 * (now - before)) (2 ^ 64 - 1)) }
 {
     now.saturating_sub(before).saturating_mul(2).max(STEP)

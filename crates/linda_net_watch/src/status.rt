@@ -6,7 +6,7 @@
 mod status_server;
 
 use linda_disk::Disk;
-pub use linda_net_http::{Listener, PageQuery, PageResult};
+pub use linda_net_http::{Listener, PageQuery, PageStatus};
 use linda_net_marks::CounterValues;
 use linda_shared::Shared;
 pub use status_server::StatusServer;
@@ -30,7 +30,7 @@ pub trait StatusPages {
         tally: &CounterValues,
         asked: PageQuery<'_>,
         page: &mut String,
-    ) -> Result<PageResult, AllocError>;
+    ) -> Result<PageStatus, AllocError>;
 }
 
 /// Where it is asked how the server does, and who has the pages.
@@ -52,7 +52,7 @@ impl StatusPages for Unasked {
         _tally: &CounterValues,
         _asked: PageQuery<'_>,
         _page: &mut String,
-    ) -> Result<PageResult, AllocError> {
-        Ok(PageResult::Nothing)
+    ) -> Result<PageStatus, AllocError> {
+        Ok(PageStatus::NotFound)
     }
 }

@@ -95,7 +95,7 @@ impl<N: Node> Exchange<N> {
         ensures count { OnOk result (self.new.lines ≤ self.old.lines + 1) }
     {
         if !self.line.is_empty() {
-            self.take_kept(alloc)?;
+            self.take_buffered_line(alloc)?;
         }
         Ok(())
     }
@@ -116,7 +116,7 @@ impl<N: Node> Exchange<N> {
             }
             rest = later;
         }
-        self.keep(rest)?;
+        self.buffer_line(rest)?;
         Ok(true)
     }
 
@@ -135,12 +135,12 @@ impl<N: Node> Exchange<N> {
         if self.line.is_empty() {
             return self.take_line(alloc, end);
         }
-        self.keep(end)?;
-        self.take_kept(alloc)
+        self.buffer_line(end)?;
+        self.take_buffered_line(alloc)
     }
 
     // Moves a text that has no line feed to the unfinished line.
-    fn keep(&mut self, text: &[u8]) -> Result<(), PipeFault>
+    fn buffer_line(&mut self, text: &[u8]) -> Result<(), PipeFault>
         requires few { self.old.lines + 1 < 2 ^ 64 }
         requires no_feed { HasNoFeed text.now }
         ensures ok { OnOk result ((first : seen.Node) (read sent : List ℕ)
@@ -158,7 +158,7 @@ impl<N: Node> Exchange<N> {
     }
 
     // Takes the unfinished line, which is whole now.
-    fn take_kept(&mut self, alloc: Global) -> Result<bool, PipeFault>
+    fn take_buffered_line(&mut self, alloc: Global) -> Result<bool, PipeFault>
         requires { self.old.lines + 1 < 2 ^ 64 }
         ensures leads { (first : seen.Node) (text sent : List ℕ)
             → IsUnderway N.shown first text sent self.old

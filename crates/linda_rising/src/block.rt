@@ -137,7 +137,7 @@ impl<T> Block<T> {
     }
 
     /// The rows from the id on.
-    pub(crate) fn run_from(&self, id: u64) -> &[(u64, T)]
+    pub(crate) fn rows_of_block_from(&self, id: u64) -> &[(u64, T)]
         ensures run { IsRun id result.now }
         ensures all { (q : ℕ) → id ≤ q → at result.now q ≡ at self.now.1 q }
     {

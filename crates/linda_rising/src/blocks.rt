@@ -32,7 +32,7 @@ pub struct Run<'a, T> {
 }
 
 /// The rows from the id on that are in one block with the first of them.
-pub(crate) fn run_from<T>(blocks: &VecDeque<Block<T>>, id: u64) -> Option<Run<'_, T>>
+pub(crate) fn rows_of_block_from<T>(blocks: &VecDeque<Block<T>>, id: u64) -> Option<Run<'_, T>>
     requires { IsRising blocks.now.items }
     ensures run { IfSome result (λ run.
         Begins (at (all_rows blocks.now.items)) id run.rows.now run.next) }
@@ -43,14 +43,14 @@ pub(crate) fn run_from<T>(blocks: &VecDeque<Block<T>>, id: u64) -> Option<Run<'_
     }
     let place = place_of(blocks, id);
     let block = &blocks[place];
-    let rows = block.run_from(id);
+    let rows = block.rows_of_block_from(id);
     if !rows.is_empty() {
         let next = from_of(blocks, place + 1);
         return Some(Run { rows, next });
     }
     if place + 1 < blocks.len() {
         let block = &blocks[place + 1];
-        let rows = block.run_from(id);
+        let rows = block.rows_of_block_from(id);
         let next = from_of(blocks, place + 2);
         return Some(Run { rows, next });
     }

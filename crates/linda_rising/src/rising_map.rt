@@ -69,11 +69,11 @@ impl<T> RisingMap<T> {
 
     /// Some rows from the id on: the first of them, and all that follow it in its block. Takes one
     /// search, so a walk takes one for some hundred rows.
-    pub fn run_from(&self, id: u64) -> Option<Run<'_, T>>
+    pub fn rows_of_block_from(&self, id: u64) -> Option<Run<'_, T>>
         ensures run { IfSome result (λ run. Begins (map.get self.now) id run.rows.now run.next) }
         ensures none { IfNone result ((q : ℕ) → id ≤ q → map.get self.now q ≡ None) }
     {
-        blocks::run_from(&self.blocks, id)
+        blocks::rows_of_block_from(&self.blocks, id)
     }
 
     /// The least id that is not below `id` and has a row, with that row.
@@ -84,7 +84,7 @@ impl<T> RisingMap<T> {
             → map.get self.now k ≡ None) }
         ensures none { IfNone result ((k : ℕ) → id ≤ k → map.get self.now k ≡ None) }
     {
-        match self.run_from(id) {
+        match self.rows_of_block_from(id) {
             Some(found) => {
                 let first = &found.rows[0];
                 Some((first.0, &first.1))

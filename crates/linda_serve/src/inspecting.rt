@@ -7,7 +7,7 @@ ghost use Rattle.std.specs.Prelude.{◌≡◌};
 ghost use Rattle.linda_serve.specs.Faults.{inspected_as};
 
 use crate::serving::ServingFault;
-use banks::{Banks, read_banks};
+use banks::{BankBytes, read_banks};
 use linda_inspect::{InspectFault, Lists, write_json, write_report};
 use linda_server::MAX_LIMIT;
 use std::alloc::Global;
@@ -32,7 +32,7 @@ pub fn inspect_folder<F: Files<File = File>, W: Write>(
     folder: &str,
     lists: Lists,
 ) -> Result<(), ServingFault> {
-    let Banks { left, right } = read_banks(files, alloc, folder)?;
+    let BankBytes { left, right } = read_banks(files, alloc, folder)?;
     let told = write_report(alloc, writer, left, right, MAX_LIMIT, lists);
     ended(told, writer.flush().is_ok())
 }
@@ -49,7 +49,7 @@ pub fn inspect_folder_as_json<F: Files<File = File>, W: Write>(
     folder: &str,
     lists: Lists,
 ) -> Result<(), ServingFault> {
-    let Banks { left, right } = read_banks(files, alloc, folder)?;
+    let BankBytes { left, right } = read_banks(files, alloc, folder)?;
     let Ok(mut out) = BufWriter::with_capacity(alloc, PIECE, writer) else {
         return Err(ServingFault::Memory);
     };

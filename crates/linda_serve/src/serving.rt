@@ -8,18 +8,18 @@ mod heap;
 mod listeners;
 mod log;
 mod minutes;
+mod non_blocking_writer;
 mod socket;
 mod stamp;
 mod start;
 mod status;
 mod store;
-mod unwaited;
 mod waiting;
 
 ghost use Rattle.std.specs.Prelude.{◌≡◌, ◌<◌, false, OnErr, OnOk};
 ghost use Rattle.linda_shared_accounts.specs.declared.limits.TheConstants.{PARTS};
 
-use banks::Banks;
+use banks::WatchedBanks;
 pub use fault::ServingFault;
 use fault::served;
 use heap::keep_heap;
@@ -28,13 +28,14 @@ use linda_net::{
     CounterValues, Gauge, Limits, Listener, ListeningSockets, Shared, SharedFault, serve_loop,
     serve_watched,
 };
+use linda_serve_plan::{ServePlan, StatusPlace};
 use linda_server::Durable;
 pub use linda_server::InUse;
 use linda_shared_accounts::PARTS;
 use linda_status::About;
-use listeners::{by_threads, kept_open, listen, own_file, port_of, tell_ready};
+use listeners::{bind_listeners, by_threads, keep_socket_open, own_file, port_of, tell_ready};
 pub use log::{Cause, Log};
-pub use socket::SocketFile;
+pub use non_blocking_writer::NonBlockingWriter;
 use socket::remove;
 pub use stamp::stamp_of;
 use start::{BankTrouble, Begun, Course};
@@ -52,43 +53,7 @@ use std::thread::Threads;
 use std::time::Clock;
 pub use store::open_store;
 pub(crate) use store::{LEFT, RIGHT};
-pub use unwaited::Unwaited;
 use waiting::open_when_free;
-
-/// What is served, where, and for how long.
-#[derive(Clone, Copy, Debug)]
-pub struct ServePlan<'a> {
-    /// The port of this machine, or 0 for any that is free, if it listens on one.
-    pub port: Option<u16>,
-    /// The unix socket, if it listens on one; only loops serve it.
-    pub socket: Option<SocketFile<'a>>,
-    /// The folder of the store.
-    pub folder: &'a str,
-    /// After how many connections it ends, if it does.
-    pub sessions: Option<u32>,
-    /// For how many seconds a client may hold a tuple and say nothing, if that is limited; only
-    /// loops keep it.
-    pub lease: Option<u32>,
-    /// Whether it waits while another server has the folder open.
-    pub waits: bool,
-    /// Whether each connection has two threads; else a few loops serve all of them.
-    pub by_threads: bool,
-    /// Where the server says over HTTP how it does, if it does.
-    pub status: Option<StatusAt<'a>>,
-    /// The texts for which it says there how many tuples have them for their tag.
-    pub metrics: &'a [String],
-    /// The version of the program, which is said there.
-    pub version: &'a str,
-}
-
-/// Where a server says over HTTP how it does.
-#[derive(Clone, Copy, Debug)]
-pub enum StatusAt<'a> {
-    /// On this port of this machine.
-    Port(u16),
-    /// At a unix socket with this path, which its owner may connect to.
-    Path(&'a str),
-}
 
 /// Serves the store in a folder to clients that connect to a port of this machine, to a unix
 /// socket, or to either, and writes `ready PORT` once it listens; without a port `ready PATH`. If
@@ -130,19 +95,19 @@ pub fn serve_folder<
     alloc: Global,
     writer: &mut W,
     sink: Option<&mut E>,
-    plan: &ServePlan<'_>,
+    plan: &ServePlan,
 ) -> Result<(), ServingFault> {
     let mut log = Log::new(alloc, sink)?;
     let begun = open_when_free(files, rt, alloc, &mut log, plan)?;
     let Begun { mut server, course } = begun;
     choose_keys(rt, &mut server);
-    log.watch(Banks::open(files, alloc, plan.folder)?);
-    let listeners = listen(files, rt, alloc, plan)?;
-    let kept = kept_open(&listeners);
-    let own = own_file(files, plan.socket);
-    let asked = listen_for_status(files, rt, alloc, plan.status);
+    log.watch(WatchedBanks::open(files, alloc, &plan.folder)?);
+    let listeners = bind_listeners(files, rt, alloc, plan)?;
+    let kept = keep_socket_open(&listeners);
+    let own = own_file(files, plan.socket.as_ref());
+    let asked = listen_for_status(files, rt, alloc, plan.status.as_ref());
     let held = kept_status(&asked);
-    let own_status = own_file_of_status(files, &asked, plan.status);
+    let own_status = own_file_of_status(files, &asked, plan.status.as_ref());
     let ended = tell_and_serve::<Brand, S, W, E>(
         rt,
         alloc,
@@ -155,12 +120,12 @@ pub fn serve_folder<
         asked,
         plan,
     );
-    if let Some(StatusAt::Path(path)) = plan.status {
+    if let Some(StatusPlace::Path(path)) = &plan.status {
         remove(files, path, own_status);
     }
     drop(held);
-    if let Some(socket) = plan.socket {
-        remove(files, socket.path, own);
+    if let Some(socket) = &plan.socket {
+        remove(files, &socket.path, own);
     }
     drop(kept);
     ended
@@ -213,7 +178,7 @@ fn tell_and_serve<
     blank: Blank,
     listeners: ListeningSockets,
     asked: Result<Option<Listener>, ServingFault>,
-    plan: &ServePlan<'_>,
+    plan: &ServePlan,
 ) -> Result<(), ServingFault>
     requires up { server.down ≡ false }
     requires blank { (blank.name ≡ L.name) × (blank.parts ≡ L.parts) × (L.parts ≡ PARTS) }
@@ -224,14 +189,14 @@ fn tell_and_serve<
     let shared: Shared<FileDisk, L> = share(rt, alloc, server, &course, blank)?;
     keep_heap(alloc);
     let port = port_of(&listeners)?;
-    let path = plan.socket.map(|socket| socket.path);
+    let path = path_of(plan);
     let about = About {
         version: plan.version,
-        folder: plan.folder,
+        folder: &plan.folder,
         port,
         socket: path,
     };
-    let status = status_at(rt, alloc, asked, about, plan.metrics);
+    let status = status_at(rt, alloc, asked, about, &plan.metrics);
     log.tell_opened(rt, port, path, bank, &shared.gauge(rt));
     tell_start(rt, &mut log, &course, &shared.gauge(rt));
     tell_ready(alloc, writer, port, path)?;
@@ -255,6 +220,14 @@ fn tell_and_serve<
         }
     };
     tell_end(rt, watcher.into_inner(), shared, ended, &tally)
+}
+
+// The path of the socket of a plan, if it has one.
+fn path_of(plan: &ServePlan) -> Option<&str> {
+    match &plan.socket {
+        Some(socket) => Some(&socket.path),
+        None => None,
+    }
 }
 
 // Writes what a start came to: that a snapshot was taken, or why it could not be.

@@ -20,7 +20,7 @@ use Rattle.linda_disk.specs.declared.disk.Disk.{Ghosts}
 use Rattle.linda_journal.specs.declared.bank.Bank.{Bank}
 use Rattle.linda_journal.specs.Renewal.{IsFilled}
 use Rattle.linda_snap.specs.declared.bank_writer.BankWriter.{BankWriter}
-use Rattle.linda_snap.specs.SnapshotWriter.{Tuples}
+use Rattle.linda_snap.specs.SnapshotEncoder.{Tuples}
 use Rattle.linda_snap.specs.BankWriter.{Follows, IsSafeFor}
 use Rattle.linda_server.specs.declared.disks.Disks.{Disks}
 use Rattle.linda_server.specs.declared.disks.Disks.TheVariants.{InUse, Shut, Away}

@@ -157,7 +157,7 @@ pub(crate) fn with_deeds_logged(
         None => Ok(None),
         Some(next) => {
             let NextBank { mut writer, at } = next;
-            match writer.note(alloc, deeds) {
+            match writer.buffer_deeds(alloc, deeds) {
                 Ok(true) => Ok(Some(NextBank { writer, at })),
                 Ok(false) => Ok(None),
                 Err(fault) => Err(fault),

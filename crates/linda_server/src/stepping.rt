@@ -22,7 +22,7 @@ use crate::renewal::of_switch;
 use linda_bag::Bag;
 use linda_disk::{Disk, DiskFault};
 use linda_journal::{Bank, Filling, shut};
-use linda_snap::{BankWriter, BookCopy, Chunk, take_over};
+use linda_snap::{BankChunk, BankWriter, BookCopy, take_over};
 use linda_store_state::State;
 use std::alloc::Global;
 
@@ -154,11 +154,11 @@ pub(crate) fn advance<B: Bag, D: Disk>(
     let NextBank { mut writer, at } = next;
     match writer.next(alloc, state, most) {
         Err(_) => Err(ServeFault::Memory),
-        Ok(Chunk::More(bytes)) => match write_on(disks, at, &bytes) {
+        Ok(BankChunk::More(bytes)) => match write_on(disks, at, &bytes) {
             Err(fault) => Err(of_disk(fault)),
             Ok(at) => Ok(Some(NextBank { writer, at })),
         },
-        Ok(Chunk::Last(bytes)) => match end(disks, at, &writer, &bytes) {
+        Ok(BankChunk::Last(bytes)) => match end(disks, at, &writer, &bytes) {
             Err(fault) => Err(fault),
             Ok(()) => Ok(None),
         },

@@ -4,7 +4,7 @@ ghost use Rattle.std.specs.Prelude.{◌≡◌, map, All, length, IfOk};
 ghost use Rattle.std.specs.Arc.{arc_value};
 ghost use Rattle.linda_shared.specs.Addressed.{up_to};
 
-use linda_shared_queue::{Address, Mailbox};
+use linda_shared_queue::{Mailbox, ReplySlot};
 use linda_wire::Message;
 use std::alloc::{AllocError, Global};
 use std::sync::Arc;
@@ -16,14 +16,14 @@ pub(crate) fn addressed<L: Ledger>(
     mailbox: &Arc<Mailbox<L>, Global>,
     place: usize,
     message: &Message,
-) -> Result<(Message, Address<L>), AllocError>
+) -> Result<(Message, ReplySlot<L>), AllocError>
     ensures message { IfOk result (λ m. m.0 ≡ message.now) }
     ensures to { IfOk result (λ m. (m.1.client ≡ (arc_value mailbox.now).client)
         × (m.1.place ≡ place)) }
 {
     let copy = message.try_clone(alloc)?;
     let mailbox = Arc::try_clone(mailbox)?;
-    Ok((copy, Address::new(place, mailbox)))
+    Ok((copy, ReplySlot::new(place, mailbox)))
 }
 
 /// A copy of each message, in order, with the address of the place in its client's mailbox at which
@@ -32,7 +32,7 @@ pub(crate) fn address_all<L: Ledger>(
     alloc: Global,
     mailbox: &Arc<Mailbox<L>, Global>,
     messages: &[Message],
-) -> Result<Vec<(Message, Address<L>)>, AllocError>
+) -> Result<Vec<(Message, ReplySlot<L>)>, AllocError>
     ensures messages { IfOk result (λ all. map (λ m. m.0) all.items ≡ messages.now) }
     ensures places { IfOk result (λ all.
         map (λ m. m.1.place) all.items ≡ up_to (length messages.now)) }

@@ -9,12 +9,12 @@ ghost use Rattle.linda_shared_queue.specs.Queue.{line, fits, asks_next};
 ghost use Rattle.linda_shared.specs.Batch.{batch_of, parcel, has_copy};
 ghost use Rattle.linda_shared.specs.Group.{group_of};
 
-use crate::given::settle;
 use crate::group::MessageGroup;
 use crate::served::ServedGroup;
+use crate::settle::settle;
 use linda_disk::Disk;
 use linda_shared_held::Held;
-use linda_shared_queue::{Address, Answer, Queue, Router, Waiting};
+use linda_shared_queue::{Answer, Queue, ReplySlot, Router, Waiting};
 use linda_store_step::MAX_BATCH;
 use std::alloc::{AllocError, Global};
 use std::marker::Model;
@@ -26,8 +26,8 @@ use std::sync::ledger::Ledger;
 /// that its answer goes to.
 #[derive(Drop)]
 pub(crate) struct LeaderBatch<L: Ledger> {
-    group: MessageGroup<Address<L>, L>,
-    pub(crate) answers: Vec<Answer<Address<L>, L>>,
+    group: MessageGroup<ReplySlot<L>, L>,
+    pub(crate) answers: Vec<Answer<ReplySlot<L>, L>>,
 }
 
 impl<L: Ledger> Model for LeaderBatch<L> {
@@ -89,7 +89,7 @@ impl<L: Ledger> LeaderBatch<L> {
         ensures kept { result ≡ true → All IsTrue self.new.answers }
         ensures down { result ≡ false → held.new.server.down ≡ true }
     {
-        let group = std::mem::replace(&mut self.group, MessageGroup::without_room(alloc));
+        let group = std::mem::replace(&mut self.group, MessageGroup::placeholder(alloc));
         let served = group.serve(alloc, held);
         self.group = write_all(alloc, served, &mut self.answers);
         settle(&mut self.answers, held)
@@ -106,9 +106,9 @@ impl<L: Ledger> LeaderBatch<L> {
 // Writes each answer with a copy, and gives the room back.
 fn write_all<L: Ledger>(
     alloc: Global,
-    served: ServedGroup<Address<L>, L>,
-    answers: &mut Vec<Answer<Address<L>, L>>,
-) -> MessageGroup<Address<L>, L>
+    served: ServedGroup<ReplySlot<L>, L>,
+    answers: &mut Vec<Answer<ReplySlot<L>, L>>,
+) -> MessageGroup<ReplySlot<L>, L>
     requires { vec_len answers.old + length served.answers ≤ vec_capacity answers.old }
     ensures group { result ≡ group_of served.room [] [] }
     ensures answers { (vec_len answers.new ≡ vec_len answers.old + length served.answers)

@@ -69,7 +69,7 @@ impl<A: Drop, L: Ledger> MessageGroup<A, L> {
 
     /// Nothing is asked, and there is no room. It takes no memory: for the place of a group that
     /// is being served.
-    pub fn without_room(alloc: Global) -> MessageGroup<A, L>
+    pub fn placeholder(alloc: Global) -> MessageGroup<A, L>
         ensures { result ≡ group_of 0 [] [] }
     {
         MessageGroup {

@@ -14,12 +14,12 @@
 mod addressed;
 mod batch;
 mod gate;
-mod given;
 mod greeted;
 mod group;
 mod locked;
 mod seat;
 mod served;
+mod settle;
 mod shared;
 mod thread_safety;
 mod worker;
@@ -31,8 +31,8 @@ pub use group::MessageGroup;
 pub use linda_shared_accounts::{Account, Ack, MOST_ASKED, Receipt, SharedFault};
 pub use linda_shared_held::{Admission, Gauge, Progress, Report};
 pub use linda_shared_listing::{
-    ClientPage, Gathered, KindPage, ListedClient, ListedKind, ListedReply, ListedTuple, Longest,
-    MOST_KINDS, MOST_LOOKED, TakenCount, TuplePage, TupleQuery,
+    ClientPage, Gathered, KindPage, ListedClient, ListedKind, ListedReply, ListedTuple,
+    LongestWaitsAndHolds, MOST_KINDS, MOST_LOOKED, TakenCount, TuplePage, TupleQuery,
 };
 pub use linda_shared_outbox::Sent;
 pub use linda_shared_queue::{Outlet, hear_answer, outlet_crosses};

@@ -53,7 +53,7 @@ impl<D: Disk, L: Ledger> Locked<D, L> {
             × (self.new.is_given_up ≡ self.old.is_given_up) }
     {
         self.held.forget(alloc);
-        self.held.let_go(let_go_after(messages));
+        self.held.free_forgotten(let_go_after(messages));
     }
 
     /// Takes what is posted out of the server's outboxes.

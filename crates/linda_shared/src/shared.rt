@@ -1,5 +1,19 @@
 //! A server that threads share.
 
+// Locks the server, calls it, lets it go, and ends all that wait if it is down. Gives what the call
+// gave, and whether the server is down.
+macro_rules! with_locked {
+    ($shared:expr, $rt:expr, |$locked:ident| $call:expr) => {{
+        let mut guard = $shared.locked.lock($rt);
+        let $locked = &mut *guard;
+        let answer = $call;
+        let is_down = $locked.held.is_down();
+        drop(guard);
+        $shared.end_if_down($rt, is_down);
+        (answer, is_down)
+    }};
+}
+
 mod batch;
 mod end;
 mod greet;
@@ -82,7 +96,7 @@ impl<D: Disk, L: Ledger> Shared<D, L> {
     /// The server counts as down from now on: for whoever sees that what it writes is not kept.
     pub fn give_up<R: Wait>(&self, rt: &R) {
         self.locked.lock(rt).held.give_up();
-        self.end_where(rt, true);
+        self.end_if_down(rt, true);
     }
 
     /// Whether a snapshot is due.
@@ -137,11 +151,7 @@ impl<D: Disk, L: Ledger> Shared<D, L> {
     ///
     /// `Down`: the server is down. `Full`: nothing changed.
     pub fn snapshot<R: Wait>(&self, rt: &R) -> Result<(), SharedFault> {
-        let mut guard = self.locked.lock(rt);
-        let answer = guard.held.snapshot(self.alloc);
-        let is_down = guard.held.is_down();
-        drop(guard);
-        self.end_where(rt, is_down);
+        let (answer, _) = with_locked!(self, rt, |locked| locked.held.snapshot(self.alloc));
         answer
     }
 
@@ -165,11 +175,7 @@ impl<D: Disk, L: Ledger> Shared<D, L> {
     ///
     /// `Down`: the server is down. `Full`: nothing changed.
     pub fn begin_snapshot<R: Wait>(&self, rt: &R) -> Result<(), SharedFault> {
-        let mut guard = self.locked.lock(rt);
-        let answer = guard.held.begin_snapshot(self.alloc);
-        let is_down = guard.held.is_down();
-        drop(guard);
-        self.end_where(rt, is_down);
+        let (answer, _) = with_locked!(self, rt, |locked| locked.held.begin_snapshot(self.alloc));
         answer
     }
 
@@ -179,11 +185,11 @@ impl<D: Disk, L: Ledger> Shared<D, L> {
     ///
     /// `Down`: the server is down.
     pub fn continue_snapshot<R: Wait>(&self, rt: &R, most: usize) -> Result<Progress, SharedFault> {
-        let mut guard = self.locked.lock(rt);
-        let answer = guard.held.continue_snapshot(self.alloc, most);
-        let is_down = guard.held.is_down();
-        drop(guard);
-        self.end_where(rt, is_down);
+        let (answer, _) = with_locked!(
+            self,
+            rt,
+            |locked| locked.held.continue_snapshot(self.alloc, most)
+        );
         answer
     }
 
@@ -194,11 +200,7 @@ impl<D: Disk, L: Ledger> Shared<D, L> {
     ///
     /// `Down`: the server is down.
     pub fn preallocate<R: Wait>(&self, rt: &R, to: usize) -> Result<bool, SharedFault> {
-        let mut guard = self.locked.lock(rt);
-        let answer = guard.held.preallocate(self.alloc, to);
-        let is_down = guard.held.is_down();
-        drop(guard);
-        self.end_where(rt, is_down);
+        let (answer, _) = with_locked!(self, rt, |locked| locked.held.preallocate(self.alloc, to));
         answer
     }
 
@@ -209,8 +211,8 @@ impl<D: Disk, L: Ledger> Shared<D, L> {
         self.locked.lock(rt).forget(self.alloc, MAX_GROUP);
     }
 
-    // Where the server is down no reply comes any more.
-    fn end_where<R: Wait>(&self, rt: &R, is_down: bool) {
+    // No reply comes any more if the server is down.
+    fn end_if_down<R: Wait>(&self, rt: &R, is_down: bool) {
         if is_down {
             self.router.lock(rt).end_all(rt);
         }

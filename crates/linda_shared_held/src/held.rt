@@ -18,9 +18,9 @@ mod measure;
 mod preallocation;
 mod recall;
 mod serve;
+mod settle;
 mod steps;
 mod take;
-mod tell;
 
 ghost use Rattle.std.specs.Prelude.{◌≡◌, ℕ, ◌+◌, ◌<◌, ◌≤◌, ◌++◌, [], false, length};
 ghost use Rattle.std.specs.Prelude.{map, reverse};
@@ -50,10 +50,10 @@ use linda_shared_outbox::Outboxes;
 use linda_store_state::State;
 use linda_wire::Message;
 use recall::Recall;
+use settle::{fail_all, settle_all};
 use std::alloc::Global;
 use std::sync::ledger::{Blank, Ledger};
 use take::take;
-use tell::{fail_all, settle_all};
 
 /// The server, the receipts of its deeds since the base, and the ledger of who was told of how
 /// many.

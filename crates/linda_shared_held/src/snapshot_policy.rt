@@ -43,7 +43,7 @@ impl SnapshotPolicy {
 
     /// A snapshot is tried at so many records and bytes: if it is refused, then again once there
     /// are 1,024 records more or 32 MiB of them, or one more and a deed was refused for room.
-    pub(crate) fn tries(&mut self, records: usize, used: usize)
+    pub(crate) fn record_attempt(&mut self, records: usize, used: usize)
         ensures { self.new ≡ tried_at records used self.old }
     {
         self.not_before = records.saturating_add(SNAPSHOT_RECORDS);
@@ -54,7 +54,7 @@ impl SnapshotPolicy {
 
     /// A snapshot that pays is not tried before there are 1,024 records more than so many, or more
     /// bytes by `room`, and by 32 MiB at most.
-    pub(crate) fn defers(&mut self, records: usize, used: usize, room: usize)
+    pub(crate) fn defer(&mut self, records: usize, used: usize, room: usize)
         ensures { self.new ≡ deferred_at records used room self.old }
     {
         self.not_before = records.saturating_add(SNAPSHOT_RECORDS);
@@ -62,7 +62,7 @@ impl SnapshotPolicy {
     }
 
     /// A deed was refused, as the bank has no room for it.
-    pub(crate) fn refuses(&mut self)
+    pub(crate) fn record_refusal(&mut self)
         ensures { self.new ≡ refused_for_room self.old }
     {
         self.lacks_room = true;

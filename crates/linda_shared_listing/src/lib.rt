@@ -31,5 +31,5 @@ pub use kinds::{KindPage, ListedKind, list_kinds};
 pub use limits::{BYTES_AT_ONCE, MOST_AT_ONCE, MOST_BYTES, MOST_KINDS, MOST_LOOKED};
 pub use listed::{ClientPage, ListedClient, ListedReply, ListedTuple, TuplePage, TupleQuery};
 pub use listing::list_tuples;
-pub use longest::{Longest, list_longest};
+pub use longest::{LongestWaitsAndHolds, list_longest};
 pub use taken::{TakenCount, count_taken};

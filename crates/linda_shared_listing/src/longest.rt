@@ -1,4 +1,4 @@
-//! Longest waits and holds.
+//! LongestWaitsAndHolds waits and holds.
 
 ghost use Rattle.std.specs.Prelude.{◌≤◌, ◌+◌, IfOk, OnOk, All, length};
 ghost use Rattle.linda_shared_listing.specs.Longest.{IsHeld, IsLongest};
@@ -11,7 +11,7 @@ use std::alloc::{AllocError, Global};
 
 /// Some of the requests that wait and of the tuples that are held, as they were at one moment.
 #[derive(Drop)]
-pub struct Longest {
+pub struct LongestWaitsAndHolds {
     /// The one that waits for longest first. No contract says this order.
     pub waits: Vec<LongWait>,
     /// The one that is held for longest first. No contract says this order.
@@ -32,11 +32,11 @@ pub fn list_longest(
     holds: &Holds,
     waits: &Waits,
     limit: usize,
-) -> Result<Longest, AllocError>
+) -> Result<LongestWaitsAndHolds, AllocError>
     ensures { IfOk result (IsLongest bag.now holds.now waits.now limit) }
 {
     let most = limit.min(MOST_LOOKED as usize);
-    Ok(Longest {
+    Ok(LongestWaitsAndHolds {
         waits: waits.longest_of_all(alloc, most)?,
         holds: longest_holds(alloc, bag, holds, most)?,
     })

@@ -3,7 +3,7 @@ use Rattle.std.specs.Prelude.{ℕ, Bool, true, false, not, ◌&&◌, ◌||◌, L
 use Rattle.std.specs.Prelude.{length, nat_lt}
 use Rattle.linda_wire.specs.declared.message.Message.{Message}
 use Rattle.linda_wire.specs.declared.message.Message.TheVariants as messages
-use Rattle.linda_shared_queue.specs.declared.address.Address.{Address}
+use Rattle.linda_shared_queue.specs.declared.reply_slot.ReplySlot.{ReplySlot}
 use Rattle.linda_shared_queue.specs.declared.queue.Waiting.{Waiting}
 use Rattle.linda_shared_queue.specs.declared.queue.Queue.{Queue}
 
@@ -23,25 +23,25 @@ asks_next asks others has_asked = asks && (not others || not has_asked)
 
 module _ {L : Type 0} where
   -- a message that waits, where its answer goes, and how many of its call stand behind it
-  abbrev pub seen : Waiting L → Message × Address L × ℕ
+  abbrev pub seen : Waiting L → Message × ReplySlot L × ℕ
   seen w = (w.message, w.asked.address, w.behind)
 
   -- Messages of one call: so many stand behind each.
-  abbrev pub all_seen : List (Message × Address L) → List (Message × Address L × ℕ)
+  abbrev pub all_seen : List (Message × ReplySlot L) → List (Message × ReplySlot L × ℕ)
   all_seen [] = []
   all_seen (m ∷ ms) = (m.0, m.1, length ms) ∷ all_seen ms
 
   -- the messages of a kind that wait, in order: Asks and Cancels, or all others
-  abbrev pub line : Bool → Queue L → List (Message × Address L × ℕ)
+  abbrev pub line : Bool → Queue L → List (Message × ReplySlot L × ℕ)
   line true q = map seen q.asking.items
   line false q = map seen q.doing.items
 
   -- Whether the front of a line goes into this room, with all that stands behind it in its call.
-  abbrev pub fits : ℕ → List (Message × Address L × ℕ) → Bool
+  abbrev pub fits : ℕ → List (Message × ReplySlot L × ℕ) → Bool
   fits room [] = false
   fits room (m ∷ ms) = nat_lt m.2 room
 
   -- Whether no deed comes of any of these.
-  abbrev pub all_ask : List (Message × Address L) → Bool
+  abbrev pub all_ask : List (Message × ReplySlot L) → Bool
   all_ask [] = true
   all_ask (m ∷ ms) = only_asks m.0 && all_ask ms

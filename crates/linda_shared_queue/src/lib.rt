@@ -7,7 +7,7 @@
 //! - The `Queue` has the messages that wait to be served, those of which no deed comes in a line of
 //!   their own. It says who is to serve the next group.
 //! - An `Answer` is what is reported of a message, with a second copy of it. On its way it has the
-//!   `Address` of its message, and in the mailbox the `Recipient` that waits for it.
+//!   `ReplySlot` of its message, and in the mailbox the `Recipient` that waits for it.
 //! - `hear` is what an account hears of its answer, and `Heard` what it hears of a batch.
 //!   `hear_answer` is for an answer that is not copied, since the thread that serves a group gives
 //!   it to the session itself.
@@ -18,7 +18,6 @@
 //! for no other.
 #![tactic(auto)]
 
-mod address;
 mod answer;
 mod heard;
 mod hearing;
@@ -28,10 +27,10 @@ mod mailboxes;
 mod outlet;
 mod queue;
 mod recipient;
+mod reply_slot;
 mod router;
 mod thread_safety;
 
-pub use address::Address;
 pub use answer::Answer;
 pub use heard::Heard;
 pub use hearing::{hear, hear_answer};
@@ -39,5 +38,6 @@ pub use mailbox::Mailbox;
 pub use outlet::Outlet;
 pub use queue::{Queue, Waiting};
 pub use recipient::Recipient;
+pub use reply_slot::ReplySlot;
 pub use router::Router;
 pub use thread_safety::{mailbox_crosses, outlet_crosses, queue_crosses, router_crosses};

@@ -10,7 +10,7 @@ ghost use Rattle.linda_shared_accounts.specs.declared.limits.TheConstants.{MOST_
 ghost use Rattle.linda_shared_queue.specs.Queue as spec;
 ghost use Rattle.linda_shared_queue.specs.Queue.{seen, all_seen, line, fits, all_ask, asks_next};
 
-use crate::address::Address;
+use crate::reply_slot::ReplySlot;
 use linda_shared_accounts::{Account, PendingAck};
 use linda_wire::Message;
 use std::alloc::{AllocError, Global};
@@ -24,7 +24,7 @@ pub struct Waiting<L: Ledger> {
     /// What is asked.
     pub message: Message,
     /// Where the answer goes.
-    pub asked: PendingAck<Address<L>, L>,
+    pub asked: PendingAck<ReplySlot<L>, L>,
     // How many messages of the same call stand after it.
     behind: usize,
 }
@@ -67,7 +67,7 @@ impl<L: Ledger> Queue<L> {
         &mut self,
         account: &mut Account<L>,
         message: Message,
-        address: Address<L>,
+        address: ReplySlot<L>,
     ) -> Result<bool, AllocError>
         requires few { account.old.asked < MOST_ASKED }
         requires own { address.client ≡ account.old.client }
@@ -97,7 +97,7 @@ impl<L: Ledger> Queue<L> {
     pub fn ask_all(
         &mut self,
         account: &mut Account<L>,
-        messages: Vec<(Message, Address<L>)>,
+        messages: Vec<(Message, ReplySlot<L>)>,
     ) -> Result<bool, AllocError>
         requires some { 0 < vec_len messages }
         requires few { account.old.asked + vec_len messages ≤ MOST_ASKED }
@@ -155,9 +155,9 @@ impl<L: Ledger> Queue<L> {
             ≡ (nat_lt 0 (deque_len self.old.asking) || nat_lt 0 (deque_len self.old.doing)) }
     {
         self.is_led = if self.is_next_to_ask() {
-            leads_front(rt, &self.asking)
+            promote_front(rt, &self.asking)
         } else {
-            leads_front(rt, &self.doing)
+            promote_front(rt, &self.doing)
         };
     }
 
@@ -185,7 +185,7 @@ fn join<L: Ledger>(
     line: &mut VecDeque<Waiting<L>>,
     account: &mut Account<L>,
     message: Message,
-    address: Address<L>,
+    address: ReplySlot<L>,
 ) -> Result<(), AllocError>
     requires { account.old.asked < MOST_ASKED }
     ensures ok { OnOk result (account.new ≡ account_of account.old.client account.old.deeds
@@ -208,7 +208,7 @@ fn join<L: Ledger>(
 fn join_all<L: Ledger>(
     line: &mut VecDeque<Waiting<L>>,
     account: &mut Account<L>,
-    messages: Vec<(Message, Address<L>)>,
+    messages: Vec<(Message, ReplySlot<L>)>,
 ) -> Result<(), AllocError>
     requires { account.old.asked + vec_len messages ≤ MOST_ASKED }
     ensures ok { OnOk result (account.new ≡ account_of account.old.client account.old.deeds
@@ -249,7 +249,7 @@ fn take_front<L: Ledger>(line: &mut VecDeque<Waiting<L>>, room: usize) -> Option
 }
 
 // Tells the session in front that it is to lead. Says whether there is one.
-fn leads_front<L: Ledger, R: Wait>(rt: &R, line: &VecDeque<Waiting<L>>) -> bool
+fn promote_front<L: Ledger, R: Wait>(rt: &R, line: &VecDeque<Waiting<L>>) -> bool
     ensures { result ≡ nat_lt 0 (deque_len line.now) }
 {
     match line.front() {
@@ -273,7 +273,7 @@ fn only_asks(message: &Message) -> bool
 }
 
 // Whether no deed comes of any of these.
-fn all_only_ask<L: Ledger>(messages: &[(Message, Address<L>)]) -> bool
+fn all_only_ask<L: Ledger>(messages: &[(Message, ReplySlot<L>)]) -> bool
     ensures { result ≡ all_ask messages.now }
 {
     let mut rest = messages;

@@ -7,11 +7,11 @@ ghost use Rattle.std.specs.VecDeque.{deque_capacity};
 ghost use Rattle.linda_store_step.specs.declared.size.TheConstants.{MAX_BATCH};
 ghost use Rattle.linda_shared_queue.specs.Router.{router_of};
 
-use crate::address::Address;
 use crate::answer::Answer;
 use crate::mailbox::Mailbox;
 use crate::mailboxes::Mailboxes;
 use crate::recipient::Recipient;
+use crate::reply_slot::ReplySlot;
 use linda_shared_outbox::Sent;
 use linda_store_step::MAX_BATCH;
 use std::alloc::{AllocError, Global};
@@ -26,7 +26,7 @@ use std::sync::{Arc, Wait};
 pub struct Router<L: Ledger> {
     boxes: Mailboxes<L>,
     // These two are empty between two groups.
-    answers: Vec<Answer<Address<L>, L>>,
+    answers: Vec<Answer<ReplySlot<L>, L>>,
     replies: VecDeque<Sent>,
 }
 
@@ -98,7 +98,7 @@ impl<L: Ledger> Router<L> {
 
     /// Takes the answers of a group, for room to write as many again. What is still here goes
     /// out first.
-    pub fn take_answers<R: Wait>(&mut self, rt: &R, answers: &mut Vec<Answer<Address<L>, L>>)
+    pub fn take_answers<R: Wait>(&mut self, rt: &R, answers: &mut Vec<Answer<ReplySlot<L>, L>>)
         requires few { vec_len answers.old ≤ MAX_BATCH }
         requires room { MAX_BATCH ≤ vec_capacity answers.old }
         ensures here { self.new ≡ router_of (vec_len answers.old) [] }
@@ -140,7 +140,7 @@ impl<L: Ledger> Router<L> {
 fn post_all<L: Ledger, R: Wait>(
     rt: &R,
     boxes: &Mailboxes<L>,
-    answers: &[Answer<Address<L>, L>],
+    answers: &[Answer<ReplySlot<L>, L>],
     replies: &mut VecDeque<Sent>,
 )
     ensures { (replies.new.items ≡ []) × (deque_capacity replies.new ≡ deque_capacity replies.old) }
@@ -155,7 +155,7 @@ fn post_all<L: Ledger, R: Wait>(
 fn post<L: Ledger, R: Wait>(
     rt: &R,
     boxes: &Mailboxes<L>,
-    answers: &[Answer<Address<L>, L>],
+    answers: &[Answer<ReplySlot<L>, L>],
     sent: Sent,
 ) {
     let client = sent.client();
@@ -165,14 +165,14 @@ fn post<L: Ledger, R: Wait>(
 }
 
 // Puts an answer where it is waited for.
-fn put<L: Ledger, R: Wait>(rt: &R, answer: Answer<Address<L>, L>) {
+fn put<L: Ledger, R: Wait>(rt: &R, answer: Answer<ReplySlot<L>, L>) {
     let (mailbox, answer) = arrive(answer);
     mailbox.put(rt, answer);
 }
 
 // The mailbox that an answer goes to, and the answer for the recipient that waits there.
 fn arrive<L: Ledger>(
-    answer: Answer<Address<L>, L>,
+    answer: Answer<ReplySlot<L>, L>,
 ) -> (Arc<Mailbox<L>, Global>, Answer<Recipient, L>)
     ensures to { (result.1.address.client ≡ answer.address.client)
         × (result.1.address.place ≡ answer.address.place) }
@@ -186,7 +186,7 @@ fn arrive<L: Ledger>(
 }
 
 // Whether one of these goes to the client.
-fn has_answer<L: Ledger>(answers: &[Answer<Address<L>, L>], client: u32) -> bool {
+fn has_answer<L: Ledger>(answers: &[Answer<ReplySlot<L>, L>], client: u32) -> bool {
     for answer in answers {
         if answer.address().client() == client {
             return true;

@@ -22,7 +22,7 @@ use linda_shell_text::{LineFault, write_fault, write_outcome, write_refusal};
 use linda_store::Node;
 use linda_world::{Seen, World, WorldEvent, WorldFault};
 use listing::list_state;
-use output::Output;
+use output::LineOutput;
 pub use run::{run_script, trace_script};
 use std::alloc::{AllocError, Global};
 
@@ -73,7 +73,7 @@ impl Script {
         alloc: Global,
         number: u64,
         line: &[u8],
-        out: &mut Output,
+        out: &mut LineOutput,
     ) -> Result<(), LineFault> {
         match read_command(alloc, line)? {
             None => Ok(()),
@@ -87,7 +87,12 @@ impl Script {
     }
 
     // Does what the command says.
-    fn obey(&mut self, alloc: Global, command: Command, out: &mut Output) -> Result<(), LineFault> {
+    fn obey(
+        &mut self,
+        alloc: Global,
+        command: Command,
+        out: &mut LineOutput,
+    ) -> Result<(), LineFault> {
         match command {
             Command::Out { client, tuple } => {
                 self.call_any(alloc, client, WorldEvent::Out { client, tuple }, out)
@@ -144,7 +149,7 @@ impl Script {
         alloc: Global,
         client: u32,
         event: WorldEvent,
-        out: &mut Output,
+        out: &mut LineOutput,
     ) -> Result<(), LineFault> {
         match self.world.step(alloc, event) {
             Ok(seen) => self.print_call(alloc, &seen, out),
@@ -154,11 +159,16 @@ impl Script {
     }
 
     // What was seen of a call, after what it sent.
-    fn print_call(&self, alloc: Global, seen: &Seen, out: &mut Output) -> Result<(), LineFault> {
+    fn print_call(
+        &self,
+        alloc: Global,
+        seen: &Seen,
+        out: &mut LineOutput,
+    ) -> Result<(), LineFault> {
         if let Some(trace) = out.trace() {
             trace.send(alloc, self.world.packets())?;
         }
-        Ok(print_seen(alloc, seen, out)?)
+        Ok(print_outcome(alloc, seen, out)?)
     }
 
     // An event of a client, which is made if it was not named before.
@@ -167,7 +177,7 @@ impl Script {
         alloc: Global,
         client: u32,
         event: WorldEvent,
-        out: &mut Output,
+        out: &mut LineOutput,
     ) -> Result<(), LineFault> {
         self.meet(alloc, client)?;
         self.call(alloc, client, event, out)
@@ -179,7 +189,7 @@ impl Script {
         alloc: Global,
         client: u32,
         event: WorldEvent,
-        out: &mut Output,
+        out: &mut LineOutput,
     ) -> Result<(), LineFault> {
         if self.clients.binary_search(&client).is_err() {
             return print_refusal(alloc, client, ClientFault::Idle, out);
@@ -187,7 +197,7 @@ impl Script {
         self.call(alloc, client, event, out)
     }
 
-    fn tick(&mut self, alloc: Global, now: u64, out: &mut Output) -> Result<(), LineFault> {
+    fn tick(&mut self, alloc: Global, now: u64, out: &mut LineOutput) -> Result<(), LineFault> {
         for place in 0..self.clients.len() {
             if let Some(client) = self.clients.get(place).copied() {
                 self.call(alloc, client, WorldEvent::Tick { client, now }, out)?;
@@ -196,7 +206,7 @@ impl Script {
         Ok(())
     }
 
-    fn show(&mut self, alloc: Global, server: u64, out: &mut Output) -> Result<(), LineFault> {
+    fn show(&mut self, alloc: Global, server: u64, out: &mut LineOutput) -> Result<(), LineFault> {
         let server = self.server(server)?;
         match self.world.node(server) {
             Some(node) => {
@@ -233,7 +243,7 @@ fn unused_node(alloc: Global) -> Result<Durable<MemDisk>, AllocError>
 }
 
 // The lines of what was seen of an event.
-fn print_seen(alloc: Global, seen: &Seen, out: &mut Output) -> Result<(), AllocError> {
+fn print_outcome(alloc: Global, seen: &Seen, out: &mut LineOutput) -> Result<(), AllocError> {
     let Some(client) = seen.client else {
         return Ok(());
     };
@@ -251,7 +261,7 @@ fn print_refusal(
     alloc: Global,
     client: u32,
     fault: ClientFault,
-    out: &mut Output,
+    out: &mut LineOutput,
 ) -> Result<(), LineFault> {
     match write_refusal(alloc, client, fault)? {
         Some(line) => {

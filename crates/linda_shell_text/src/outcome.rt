@@ -130,15 +130,15 @@ fn push_dropped(line: &mut String, raised: &[u64]) -> Result<(), AllocError>
     ensures { OnOk result (IsWrittenBehind line.old line.new
         (named_list (codes "dropped raised") decimal raised.now)) }
 {
-    push_list(line, "dropped raised", raised)
+    push_named_list(line, "dropped raised", raised)
 }
 
 // The labels of a synchronization, and the numbers of the nacks that it raised.
 fn push_signs(line: &mut String, labels: &[u64], raised: &[u64]) -> Result<(), AllocError>
     ensures { OnOk result (IsWrittenBehind line.old line.new (signs labels.now raised.now)) }
 {
-    push_list(line, " labels", labels)?;
-    push_list(line, " raised", raised)
+    push_named_list(line, " labels", labels)?;
+    push_named_list(line, " raised", raised)
 }
 
 // What a synchronization got.
@@ -194,7 +194,7 @@ fn push_match(
 {
     let text = write_tuple(alloc, tuple)?;
     write!(line, "{word} {server} {id} {text}")?;
-    push_list(line, " binds", bindings)
+    push_named_list(line, " binds", bindings)
 }
 
 // A value that is always there.
@@ -207,7 +207,7 @@ fn push_always(line: &mut String, value: &Atom) -> Result<(), AllocError>
 }
 
 // A name and a list.
-fn push_list<T: Listed>(line: &mut String, name: &str, items: &[T]) -> Result<(), AllocError>
+fn push_named_list<T: Listed>(line: &mut String, name: &str, items: &[T]) -> Result<(), AllocError>
     ensures { OnOk result (IsWrittenBehind line.old line.new
         (named_list name.now T.text items.now)) }
 {

@@ -22,10 +22,10 @@ use Rattle.linda_journal.specs.declared.limits.TheConstants.{MIN_BYTES}
 use Rattle.linda_journal.specs.Records.{IsRecord, AreRecords, records_for, spell_record, spell_records}
 use Rattle.linda_journal.specs.Renewal.{IsLast}
 use Rattle.linda_journal.proofs.FillingLaws.{last_long}
-use Rattle.linda_snap.specs.declared.snapshot_writer.SnapshotWriter.{SnapshotWriter}
+use Rattle.linda_snap.specs.declared.snapshot_encoder.SnapshotEncoder.{SnapshotEncoder}
 use Rattle.linda_snap.specs.declared.bank_writer.BankWriter.{BankWriter}
 use Rattle.linda_snap.specs.declared.deed_log.DeedLog.{DeedLog}
-use Rattle.linda_snap.specs.SnapshotWriter.{IsSafe}
+use Rattle.linda_snap.specs.SnapshotEncoder.{IsSafe}
 use Rattle.linda_snap.specs.Replay.{GoesOn}
 use Rattle.linda_snap.specs.Snapshot.{spell_state}
 use Rattle.linda_snap.specs.Stands.{deeds_in}
@@ -168,7 +168,7 @@ notes s since records front more st new ds ranges goes safe f are fits small cou
     after : IsAfter st ds new
     after = (goes st [] ranges (none_done st ranges)).after
 
-    by : (o : Option SnapshotWriter) → IfSome o (OwesAll f.begun f.body f.tail st) → ((id : ℕ) → is_taken id ds ≡ true → IfSome o (λ d. IsSafe d st.bag id))
+    by : (o : Option SnapshotEncoder) → IfSome o (OwesAll f.begun f.body f.tail st) → ((id : ℕ) → is_taken id ds ≡ true → IfSome o (λ d. IsSafe d st.bag id))
         → IfSome o (OwesAll f.begun f.body f.tail new)
     by None owes safe = tt
     by (Some d) owes safe = (owes_after f.begun d f.body st ds new owes.0 owes.1 after safe, omega (arith, owes.1, after.next), owes.2)

@@ -14,17 +14,17 @@ use Rattle.linda_journal.specs.declared.limits.TheConstants.{MIN_BYTES}
 use Rattle.linda_journal.specs.Records.{IsRecord}
 use Rattle.linda_book.specs.Entries.{Entry}
 use Rattle.linda_snap.specs.declared.clients.Clients.{Clients}
-use Rattle.linda_snap.specs.declared.snapshot_writer.SnapshotWriter.{SnapshotWriter}
+use Rattle.linda_snap.specs.declared.snapshot_encoder.SnapshotEncoder.{SnapshotEncoder}
 use Rattle.linda_snap.specs.declared.bank_writer.BankWriter.{BankWriter}
 use Rattle.linda_snap.specs.declared.deed_log.DeedLog.{DeedLog}
 use Rattle.linda_snap.specs.Clients.{HasTuples, OwesClients, AreThrough}
-use Rattle.linda_snap.specs.SnapshotWriter.{Tuples, Owes, IsThrough}
+use Rattle.linda_snap.specs.SnapshotEncoder.{Tuples, Owes, IsThrough}
 use Rattle.linda_snap.specs.Snapshot.{spell_state, FitsState}
 use Rattle.linda_snap.specs.BankWriter.{Follows, IsBehindTuples, heading}
 use Rattle.linda_snap.proofs.ClientsLaws.{all_clients, clients_fit}
 
 -- It with this snapshot writer, these records, and so many of them.
-abbrev pub with_snapshot : BankWriter → Option SnapshotWriter → BankWriter
+abbrev pub with_snapshot : BankWriter → Option SnapshotEncoder → BankWriter
 with_snapshot s snapshot = record {
   generation = s.generation;
   limit = s.limit;
@@ -35,7 +35,7 @@ with_snapshot s snapshot = record {
   records = s.records;
 }
 
-abbrev pub with_clients : BankWriter → Option SnapshotWriter → Option Clients → BankWriter
+abbrev pub with_clients : BankWriter → Option SnapshotEncoder → Option Clients → BankWriter
 with_clients s snapshot clients = record {
   generation = s.generation;
   limit = s.limit;
@@ -58,7 +58,7 @@ with_since s since records = record {
 }
 
 -- What the snapshot writer owes of the body, before any record is written.
-abbrev pub OwesAll : State → List ℕ → List ℕ → State → SnapshotWriter → Type 0
+abbrev pub OwesAll : State → List ℕ → List ℕ → State → SnapshotEncoder → Type 0
 OwesAll begun body tail st d = Owes begun d body st.bag × (d.next ≤ st.next) × (tail ≡ [])
 
 -- What its clients do.
@@ -79,7 +79,7 @@ grown head body tail more front none is =
 
 -- ---- its beginning
 
-pub begins : (s : BankWriter) (snapshot : SnapshotWriter) (first front : List ℕ) (st : State) → IsState st → s.snapshot ≡ Some snapshot
+pub begins : (s : BankWriter) (snapshot : SnapshotEncoder) (first front : List ℕ) (st : State) → IsState st → s.snapshot ≡ Some snapshot
     → Owes st snapshot first st.bag → snapshot.next ≡ st.next → length (spell_state written st) < 2 ^ 32 → 1 ≤ s.generation → s.generation < 2 ^ 64
     → s.len ≡ length (spell_state written st) → MIN_BYTES + 1 + length (spell_state written st) ≤ s.limit → s.records ≡ 0
     → s.since.bytes.items ≡ [] → s.since.written ≡ 0 → front ≡ heading s.generation (length (spell_state written st)) ++ first → Follows s front st
@@ -109,7 +109,7 @@ begins s snapshot first front st ranges is owes next short low high len room cou
 
 -- ---- the snapshot writer goes on
 
-module _ (s : BankWriter) (old new : SnapshotWriter) (front : List ℕ) (st : State) (is : s.snapshot ≡ Some old)
+module _ (s : BankWriter) (old new : SnapshotEncoder) (front : List ℕ) (st : State) (is : s.snapshot ≡ Some old)
     (next : new.next ≡ old.next) (f : Follows s front st) where
   owed : OwesAll f.begun f.body f.tail st old
   owed = subst (λ o. IfSome o (OwesAll f.begun f.body f.tail st)) is f.owes
@@ -165,13 +165,13 @@ module _ (s : BankWriter) (old new : SnapshotWriter) (front : List ℕ) (st : St
     whole = tt;
   }
 
-pub put_aside : (s : BankWriter) (old new : SnapshotWriter) (front : List ℕ) (st : State) → s.snapshot ≡ Some old → new.next ≡ old.next
+pub put_aside : (s : BankWriter) (old new : SnapshotEncoder) (front : List ℕ) (st : State) → s.snapshot ≡ Some old → new.next ≡ old.next
     → ((begun : State) (bytes : List ℕ) → Owes begun old bytes st.bag → Owes begun new bytes st.bag)
     → Follows s front st → Follows (with_snapshot s (Some new)) front st
 put_aside s old new front st is next goes f = none_written s old new front st is next f (goes f.begun f.body (owed s old new front st is next f).0)
 
 -- The next tuples, if there are any.
-pub next_tuples : {E : Type 0} (s : BankWriter) (old new : SnapshotWriter) (front : List ℕ) (st : State) (r : Result (Option (Vec ℕ)) E)
+pub next_tuples : {E : Type 0} (s : BankWriter) (old new : SnapshotEncoder) (front : List ℕ) (st : State) (r : Result (Option (Vec ℕ)) E)
     → s.snapshot ≡ Some old → new.next ≡ old.next
     → ((begun : State) (bytes : List ℕ) → Owes begun old bytes st.bag → IfOk r (λ o. IfSome o (λ v. Owes begun new (bytes ++ v.items) st.bag)))
     → Follows s front st
@@ -181,7 +181,7 @@ next_tuples s old new front st (Ok (Some v)) is next goes f =
 next_tuples s old new front st (Ok None) is next goes f = tt
 next_tuples s old new front st (Err e) is next goes f = tt
 
-pub no_tuples : {E : Type 0} (s : BankWriter) (old new : SnapshotWriter) (front : List ℕ) (st : State) (r : Result (Option (Vec ℕ)) E)
+pub no_tuples : {E : Type 0} (s : BankWriter) (old new : SnapshotEncoder) (front : List ℕ) (st : State) (r : Result (Option (Vec ℕ)) E)
     → s.snapshot ≡ Some old → new.next ≡ old.next
     → IfOk r (λ o. IfNone o (new ≡ old)) → ((begun : State) (bytes : List ℕ) → Owes begun old bytes st.bag → IfOk r (λ o. IfNone o (IsThrough begun new)))
     → Follows s front st
@@ -198,7 +198,7 @@ no_tuples s old new front st (Err e) is next same through f = tt
 
 -- ---- the snapshot writer ends, and its clients begin
 
-pub turns : (s : BankWriter) (snapshot : SnapshotWriter) (other : Option SnapshotWriter) (book : FinMap nat_cmp Entry)
+pub turns : (s : BankWriter) (snapshot : SnapshotEncoder) (other : Option SnapshotEncoder) (book : FinMap nat_cmp Entry)
     (count : ℕ) (clients : Clients) (front more : List ℕ) (st : State) → s.snapshot ≡ Some snapshot → other ≡ None
     → ((begun : State) (bytes : List ℕ) (now : Tuples) → Owes begun snapshot bytes now → (book ≡ begun.book) × (count ≡ length (entries begun.book)))
     → ((begun : State) (bytes : List ℕ) (now : Tuples) → Owes begun snapshot bytes now → IsThrough begun snapshot
@@ -236,7 +236,7 @@ turns s snapshot other book count clients front more st is none same has lists b
       whole = subst (λ o. IfNone o (Unit {0})) (sym none) tt;
     }
 
-pub has_ended : (s : BankWriter) (other : Option SnapshotWriter) (front : List ℕ) (st : State)
+pub has_ended : (s : BankWriter) (other : Option SnapshotEncoder) (front : List ℕ) (st : State)
     → s.snapshot ≡ None → other ≡ None → IsBehindTuples s front st → Follows (with_snapshot s other) front st
 has_ended s other front st is none b = subst (λ o. Follows (with_snapshot s o) front st) (is ∙ sym none) b.follows
 

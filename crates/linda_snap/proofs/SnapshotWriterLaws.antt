@@ -17,15 +17,15 @@ use Rattle.linda_store_state.specs.declared.deed.Deed.{Deed}
 use Rattle.linda_store_state.specs.Deed.{is_taken, outs_of}
 use Rattle.linda_store_state.specs.After.{IsAfter}
 use Rattle.linda_store_state.specs.State.{State, IsState}
-use Rattle.linda_snap.specs.declared.snapshot_writer.SnapshotWriter.{SnapshotWriter}
+use Rattle.linda_snap.specs.declared.snapshot_encoder.SnapshotEncoder.{SnapshotEncoder}
 use Rattle.linda_snap.specs.Rising.{entries_from}
 use Rattle.linda_snap.specs.Clients.{HasTuples}
 use Rattle.linda_snap.specs.Snapshot.{placed, spell_state}
-use Rattle.linda_snap.specs.SnapshotWriter.{Tuples, Owes, IsThrough, IsFirst, IsFirstOwed, IsSafe, aside_of, first_of, owed_at, earlier_of, seen}
+use Rattle.linda_snap.specs.SnapshotEncoder.{Tuples, Owes, IsThrough, IsFirst, IsFirstOwed, IsSafe, aside_of, first_of, owed_at, earlier_of, seen}
 use Rattle.linda_snap.proofs.PuttingLaws.{few_tuples}
 use Rattle.linda_snap.proofs.RisingLaws.{first_is, none_is, all_is, all_got}
 
-module _ (snapshot : SnapshotWriter) (now : Tuples) where
+module _ (snapshot : SnapshotEncoder) (now : Tuples) where
   owed_below : (id : ℕ) → id < snapshot.next → owed_at snapshot now id ≡ first_of (get now id) (get (aside_of snapshot) id)
   owed_below id lt = ap (λ b. cond b (first_of (get now id) (get (aside_of snapshot) id)) None) (lt-ltb id snapshot.next lt)
 
@@ -86,10 +86,10 @@ module _ (snapshot : SnapshotWriter) (now : Tuples) where
 -- ---- the course of a snapshot
 
 -- It once all tuples below that id are written.
-abbrev pub moved : ℕ → SnapshotWriter → SnapshotWriter
+abbrev pub moved : ℕ → SnapshotEncoder → SnapshotEncoder
 moved from snapshot = record { from = from; next = snapshot.next; aside = snapshot.aside; book = snapshot.book; count = snapshot.count; len = snapshot.len }
 
-pub one_more : (begun : State) (snapshot : SnapshotWriter) (bytes piece : List ℕ) (now : Tuples) (e : ℕ × Tuple) → Owes begun snapshot bytes now
+pub one_more : (begun : State) (snapshot : SnapshotEncoder) (bytes piece : List ℕ) (now : Tuples) (e : ℕ × Tuple) → Owes begun snapshot bytes now
     → IsFirstOwed snapshot now snapshot.from (Some e) → piece ≡ (placed written).spell e
     → (placed written).Fits e → Owes begun (moved (suc e.0) snapshot) (bytes ++ piece) now
 one_more begun snapshot bytes piece now e owes first is fits =
@@ -117,17 +117,17 @@ one_more begun snapshot bytes piece now e owes first is fits =
         subst (λ k. IfSome (get begun.bag k) (λ row. (placed written).Fits (k, row))) same
         (subst (λ o. IfSome o (λ row. (placed written).Fits (e.0, row))) (sym (owes.owed e.0 first.above ∙ first.there)) fits)
 
-pub no_more : (begun : State) (snapshot : SnapshotWriter) (bytes : List ℕ) (now : Tuples)
+pub no_more : (begun : State) (snapshot : SnapshotEncoder) (bytes : List ℕ) (now : Tuples)
     → Owes begun snapshot bytes now → IsFirstOwed snapshot now snapshot.from None → IsThrough begun snapshot
 no_more begun snapshot bytes now owes first = λ k le. owes.owed k le ∙ first.none k le
 
 -- What is owed does not depend on what is written.
-same_first : (at : ℕ) (snapshot : SnapshotWriter) (now : Tuples) (from : ℕ) (found : Option (ℕ × Tuple))
+same_first : (at : ℕ) (snapshot : SnapshotEncoder) (now : Tuples) (from : ℕ) (found : Option (ℕ × Tuple))
     → IsFirstOwed snapshot now from found → IsFirstOwed (moved at snapshot) now from found
 same_first at snapshot now from found first = record { there = first.there; above = first.above; below = first.below; least = first.least; none = first.none }
 
 -- One tuple more behind those that were spelled before.
-pub step_more : (begun : State) (snapshot : SnapshotWriter) (bytes old new : List ℕ) (now : Tuples) (from next : ℕ) (e : ℕ × Tuple)
+pub step_more : (begun : State) (snapshot : SnapshotEncoder) (bytes old new : List ℕ) (now : Tuples) (from next : ℕ) (e : ℕ × Tuple)
     → Owes begun (moved from snapshot) (bytes ++ old) now → IsFirstOwed snapshot now from (Some e) → new ≡ old ++ (placed written).spell e
     → (placed written).Fits e → next ≡ suc e.0 → Owes begun (moved next snapshot) (bytes ++ new) now
 step_more begun snapshot bytes old new now from next e owes first is fits at =
@@ -136,13 +136,13 @@ step_more begun snapshot bytes old new now from next e owes first is fits at =
     subst (λ n. Owes begun (moved n snapshot) (bytes ++ new) now) (sym at)
     (subst (λ b. Owes begun (moved (suc e.0) snapshot) b now) (append_assoc bytes old ((placed written).spell e) ∙ ap (λ b. bytes ++ b) (sym is)) more)
 
-pub through_if_none : (begun : State) (snapshot : SnapshotWriter) (bytes : List ℕ) (now : Tuples) (found : Option (ℕ × Bor Tuple))
+pub through_if_none : (begun : State) (snapshot : SnapshotEncoder) (bytes : List ℕ) (now : Tuples) (found : Option (ℕ × Bor Tuple))
     → Owes begun snapshot bytes now → is_none found ≡ true → IsFirstOwed snapshot now snapshot.from (seen found) → IsThrough begun snapshot
 through_if_none begun snapshot bytes now None owes none first = no_more begun snapshot bytes now owes first
 through_if_none begun snapshot bytes now (Some e) owes none first = absurd (true≢false (sym none))
 
 -- All tuples are written then.
-pub all_tuples : (begun : State) (snapshot : SnapshotWriter) (bytes : List ℕ) (now : Tuples) → Owes begun snapshot bytes now
+pub all_tuples : (begun : State) (snapshot : SnapshotEncoder) (bytes : List ℕ) (now : Tuples) → Owes begun snapshot bytes now
     → IsThrough begun snapshot → length (spell_state written begun) < 2 ^ 32 → HasTuples begun bytes
 all_tuples begun snapshot bytes now owes through short = record {
   parts = sym (append-nil bytes) ∙ ap (λ es. bytes ++ flat_map (placed written).spell es) (sym (none_is begun.bag snapshot.from through)) ∙ owes.parts;
@@ -158,7 +158,7 @@ all_tuples begun snapshot bytes now owes through short = record {
 
 -- ---- what happens meanwhile
 
-owed_as : (snapshot other : SnapshotWriter) (now new : Tuples) (id : ℕ) → other.next ≡ snapshot.next
+owed_as : (snapshot other : SnapshotEncoder) (now new : Tuples) (id : ℕ) → other.next ≡ snapshot.next
     → (id < snapshot.next → first_of (get now id) (get (aside_of snapshot) id) ≡ first_of (get new id) (get (aside_of other) id))
     → owed_at snapshot now id ≡ owed_at other new id
 owed_as snapshot other now new id next same =
@@ -170,7 +170,7 @@ owed_as snapshot other now new id next same =
 -- ---- a list of deeds
 
 -- Deeds take only tuples that are safe, so what was owed is owed still.
-pub owes_after : (begun : State) (snapshot : SnapshotWriter) (bytes : List ℕ) (st : State) (ds : List Deed) (new : State) → Owes begun snapshot bytes st.bag
+pub owes_after : (begun : State) (snapshot : SnapshotEncoder) (bytes : List ℕ) (st : State) (ds : List Deed) (new : State) → Owes begun snapshot bytes st.bag
     → snapshot.next ≤ st.next → IsAfter st ds new → ((id : ℕ) → is_taken id ds ≡ true → IsSafe snapshot st.bag id) → Owes begun snapshot bytes new.bag
 owes_after begun snapshot bytes st ds new owes le after safe = record {
   parts = owes.parts;
@@ -202,7 +202,7 @@ owes_after begun snapshot bytes st ds new owes le after safe = record {
         ] refl
 
 -- A tuple that is there may be put aside too: what is owed is the same.
-pub aside_too : (begun : State) (snapshot other : SnapshotWriter) (bytes : List ℕ) (now : Tuples) (id : ℕ) (row : Tuple) → Owes begun snapshot bytes now
+pub aside_too : (begun : State) (snapshot other : SnapshotEncoder) (bytes : List ℕ) (now : Tuples) (id : ℕ) (row : Tuple) → Owes begun snapshot bytes now
     → get now id ≡ Some row → other.from ≡ snapshot.from → other.next ≡ snapshot.next → other.book ≡ snapshot.book
     → other.count ≡ snapshot.count → aside_of other ≡ insert (aside_of snapshot) id row → Owes begun other bytes now
 aside_too begun snapshot other bytes now id row owes there from next book count aside = record {
@@ -230,7 +230,7 @@ aside_too begun snapshot other bytes now id row owes there from next book count 
             ∙ ap (λ k. first_of (get now k) (get (aside_of other) k)) (sym e)
 
 -- What is owed goes by what is aside.
-pub same_aside : (begun : State) (snapshot other : SnapshotWriter) (bytes : List ℕ) (now : Tuples) → Owes begun snapshot bytes now
+pub same_aside : (begun : State) (snapshot other : SnapshotEncoder) (bytes : List ℕ) (now : Tuples) → Owes begun snapshot bytes now
     → other.from ≡ snapshot.from → other.next ≡ snapshot.next → other.book ≡ snapshot.book
     → other.count ≡ snapshot.count → aside_of other ≡ aside_of snapshot → Owes begun other bytes now
 same_aside begun snapshot other bytes now owes from next book count aside = record {
@@ -242,12 +242,12 @@ same_aside begun snapshot other bytes now owes from next book count aside = reco
 }
 
 -- What is put aside is safe, and what was safe is safe still.
-pub safe_now : (snapshot other : SnapshotWriter) (now : Tuples) (id : ℕ) (row : Tuple) → get now id ≡ Some row
+pub safe_now : (snapshot other : SnapshotEncoder) (now : Tuples) (id : ℕ) (row : Tuple) → get now id ≡ Some row
     → aside_of other ≡ insert (aside_of snapshot) id row → IsSafe other now id
 safe_now snapshot other now id row there aside low lt v is =
     ap (λ m. get m id) aside ∙ get_same (aside_of snapshot) id row ∙ sym there ∙ is
 
-pub safe_still : (snapshot other : SnapshotWriter) (now : Tuples) (id : ℕ) (row : Tuple) (q : ℕ) → get now id ≡ Some row → other.from ≡ snapshot.from
+pub safe_still : (snapshot other : SnapshotEncoder) (now : Tuples) (id : ℕ) (row : Tuple) (q : ℕ) → get now id ≡ Some row → other.from ≡ snapshot.from
     → other.next ≡ snapshot.next → aside_of other ≡ insert (aside_of snapshot) id row → IsSafe snapshot now q → IsSafe other now q
 safe_still snapshot other now id row q there from next aside safe low lt v is =
     elim (q == id) as (λ b. (q == id) ≡ b → get (aside_of other) q ≡ Some v) [
@@ -272,7 +272,7 @@ beyond st ranges id le = by (get st.bag id) (ranges.ids id)
     by None low = refl
     by (Some row) low = absurd (omega (arith, low.1, le))
 
-pub begun : (st : State) (snapshot : SnapshotWriter) (bytes : List ℕ) → IsState st → snapshot.from ≡ 0 → snapshot.next ≡ st.next
+pub begun : (st : State) (snapshot : SnapshotEncoder) (bytes : List ℕ) → IsState st → snapshot.from ≡ 0 → snapshot.next ≡ st.next
     → ((id : ℕ) → get (aside_of snapshot) id ≡ None) → snapshot.book ≡ st.book → snapshot.count ≡ length (entries st.book)
     → bytes ≡ number.spell st.next ++ short_number.spell (length (entries st.bag)) → Owes st snapshot bytes st.bag
 begun st snapshot bytes ranges from next none clients count_is is =

@@ -12,10 +12,10 @@ use Rattle.linda_journal.specs.declared.limits.TheConstants.{MIN_BYTES}
 use Rattle.linda_journal.specs.Records.{IsRecord, IsUnspelled, payload, bytes_for, spell_records}
 use Rattle.linda_journal.specs.Renewal.{IsLast}
 use Rattle.linda_snap.specs.declared.bank_writer.BankWriter.{BankWriter}
-use Rattle.linda_snap.specs.declared.bank_writer.Chunk.{Chunk}
-use Rattle.linda_snap.specs.declared.bank_writer.Chunk.TheVariants.{More, Last}
+use Rattle.linda_snap.specs.declared.bank_writer.BankChunk.{BankChunk}
+use Rattle.linda_snap.specs.declared.bank_writer.BankChunk.TheVariants.{More, Last}
 use Rattle.linda_snap.specs.Clients.{OwesClients}
-use Rattle.linda_snap.specs.SnapshotWriter.{Tuples, Owes, IsSafe, IsThrough}
+use Rattle.linda_snap.specs.SnapshotEncoder.{Tuples, Owes, IsSafe, IsThrough}
 use Rattle.linda_snap.specs.Snapshot.{spell_state, FitsState}
 use Rattle.linda_snap.specs.Stands.{deeds_in}
 
@@ -85,11 +85,11 @@ pub record Completes (s : BankWriter) (front bytes : List ℕ) (st : State) : Ty
   pub within : 1 + length front + length bytes ≤ s.limit
 
 -- what is to be written next
-abbrev pub bytes_in : Chunk → List ℕ
+abbrev pub bytes_in : BankChunk → List ℕ
 bytes_in (More bytes) = bytes.items
 bytes_in (Last bytes) = bytes.items
 
 -- These bytes are to be written next: more of the bank, or the last ones.
-abbrev pub IsNext : Chunk → BankWriter → List ℕ → State → Type 0
+abbrev pub IsNext : BankChunk → BankWriter → List ℕ → State → Type 0
 IsNext (More bytes) s front st = Follows s (front ++ bytes.items) st
 IsNext (Last bytes) s front st = Completes s front bytes.items st

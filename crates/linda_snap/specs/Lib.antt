@@ -6,6 +6,6 @@ pub mod Switch
 pub mod Replay
 pub mod Choice
 pub mod Clients
-pub mod SnapshotWriter
+pub mod SnapshotEncoder
 pub mod BankWriter
 pub mod BookCopy

@@ -21,7 +21,7 @@ use crate::book_copy::BookCopy;
 use crate::clients::Clients;
 use crate::deed_log::DeedLog;
 use crate::renewal::SwitchFault;
-use crate::snapshot_writer::SnapshotWriter;
+use crate::snapshot_encoder::SnapshotEncoder;
 use linda_bag::Bag;
 use linda_journal::{CLOSED, MIN_BYTES, push_heading, records_for, spell_deeds};
 use linda_store_state::{BANK_FORM, Deed, State};
@@ -36,7 +36,7 @@ pub struct BankWriter {
     limit: usize,
     len: usize,
     // The snapshot, until all its tuples are written, and then its clients, until all of these are.
-    snapshot: Option<SnapshotWriter>,
+    snapshot: Option<SnapshotEncoder>,
     clients: Option<Clients>,
     // The records of what was done since it began, and how many they are.
     since: DeedLog,
@@ -45,7 +45,7 @@ pub struct BankWriter {
 
 /// What is to be written next.
 #[derive(Drop)]
-pub enum Chunk {
+pub enum BankChunk {
     /// These bytes, and then more.
     More(Vec<u8>),
     /// The last bytes, up to the closed gate of the journal.
@@ -84,7 +84,7 @@ impl BankWriter {
         ensures taken { OnOk result (copy.new ≡ None) }
         ensures kept { IsErrOf result SwitchFault.BankFull → copy.new ≡ copy.old }
     {
-        match SnapshotWriter::begin(alloc, state, limit, copy) {
+        match SnapshotEncoder::begin(alloc, state, limit, copy) {
             Err(fault) => Err(fault),
             Ok((snapshot, first)) => {
                 let len = snapshot.len();
@@ -154,7 +154,7 @@ impl BankWriter {
     /// # Errors
     ///
     /// `AllocError` if memory runs out.
-    pub fn note(&mut self, alloc: Global, deeds: &[Deed]) -> Result<bool, AllocError>
+    pub fn buffer_deeds(&mut self, alloc: Global, deeds: &[Deed]) -> Result<bool, AllocError>
         requires few { length deeds.now ≤ MAX_DEEDS * MAX_RECORDS }
         ensures noted { (front : List ℕ) (st new : states.State)
             → IsState st → GoesOn st deeds.now new
@@ -188,7 +188,7 @@ impl BankWriter {
         alloc: Global,
         state: &State<B>,
         most: usize,
-    ) -> Result<Chunk, AllocError>
+    ) -> Result<BankChunk, AllocError>
         ensures next { (front : List ℕ) → Follows self.old front state.now
             → IfOk result (λ chunk. IsNext chunk self.new front state.now) }
         ensures some { IfOk result (λ chunk. 0 < length (bytes_in chunk)) }
@@ -197,11 +197,11 @@ impl BankWriter {
         ensures same { (self.new.limit ≡ self.old.limit) × (self.new.records ≡ self.old.records) }
     {
         match self.next_tuples(alloc, state, most)? {
-            Some(bytes) => Ok(Chunk::More(bytes)),
+            Some(bytes) => Ok(BankChunk::More(bytes)),
             None => match self.begin_clients(alloc, most)? {
-                Some(bytes) => Ok(Chunk::More(bytes)),
+                Some(bytes) => Ok(BankChunk::More(bytes)),
                 None => match self.next_clients(alloc, most)? {
-                    Some(bytes) => Ok(Chunk::More(bytes)),
+                    Some(bytes) => Ok(BankChunk::More(bytes)),
                     None => self.next_records(alloc, most),
                 },
             },
@@ -290,7 +290,7 @@ impl BankWriter {
 
     // The next records, so many bytes of them, but one at least; with the last ones the closed
     // gate.
-    fn next_records(&mut self, alloc: Global, most: usize) -> Result<Chunk, AllocError>
+    fn next_records(&mut self, alloc: Global, most: usize) -> Result<BankChunk, AllocError>
         requires ended { (self.old.snapshot ≡ None) × (self.old.clients ≡ None) }
         ensures next { (front : List ℕ) (st : states.State) → Follows self.old front st
             → IfOk result (λ chunk. IsNext chunk self.new front st) }
@@ -305,12 +305,12 @@ impl BankWriter {
         if left.len() > most {
             let (piece, _) = left.split_at(most);
             bytes.extend_from_slice(piece)?;
-            self.since.pass(most);
-            return Ok(Chunk::More(bytes));
+            self.since.mark_written(most);
+            return Ok(BankChunk::More(bytes));
         }
         bytes.extend_from_slice(left)?;
         bytes.push(CLOSED)?;
-        Ok(Chunk::Last(bytes))
+        Ok(BankChunk::Last(bytes))
     }
 }
 

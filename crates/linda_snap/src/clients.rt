@@ -114,7 +114,7 @@ impl Clients {
 /// # Errors
 ///
 /// `AllocError` if memory runs out.
-pub(crate) fn copied(alloc: Global, book: &Book) -> Result<Book, AllocError>
+pub(crate) fn copy_book(alloc: Global, book: &Book) -> Result<Book, AllocError>
     ensures { IfOk result (λ copy. copy ≡ book.now) }
 {
     let mut copy = Book::new(alloc);

@@ -42,7 +42,7 @@ impl DeedLog {
     }
 
     /// So many bytes more are written.
-    pub(crate) fn pass(&mut self, more: usize)
+    pub(crate) fn mark_written(&mut self, more: usize)
         requires { self.old.written + more ≤ length self.old.bytes.items }
         ensures { (self.new.bytes ≡ self.old.bytes)
             × (self.new.written ≡ self.old.written + more) }

@@ -18,7 +18,7 @@ ghost use Rattle.linda_snap.specs.Switch.{fault_of_disk, renews, switches};
 use crate::putting::{put_state, room_after};
 use linda_bag::Bag;
 use linda_disk::{Disk, DiskFault};
-use linda_journal::{Bank, CLOSED, MIN_BYTES, fill, shut, spell_heading, unlock};
+use linda_journal::{Bank, CLOSED, MIN_BYTES, shut, spell_heading, unlock, write_body};
 use linda_store_state::State;
 use std::alloc::{AllocError, Global};
 use thiserror::Error;
@@ -149,7 +149,7 @@ fn renew<D: Disk>(
 {
     match shut(other) {
         Err((fault, other)) => Err((fault, other)),
-        Ok(closed) => match fill(closed, generation, bytes) {
+        Ok(closed) => match write_body(closed, generation, bytes) {
             Err((fault, other)) => Err((fault, other)),
             Ok(whole) => match unlock(whole, limit) {
                 Err((fault, other)) => Err((fault, other)),

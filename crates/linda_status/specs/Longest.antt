@@ -4,7 +4,7 @@ use Rattle.std.specs.List.{flat_map}
 use Rattle.linda_tuple.specs.Template.{Template}
 use Rattle.linda_hold.specs.declared.long.LongWait.{LongWait}
 use Rattle.linda_text.specs.Written.{written_template}
-use Rattle.linda_shared_listing.specs.declared.longest.Longest.{Longest}
+use Rattle.linda_shared_listing.specs.declared.longest.LongestWaitsAndHolds.{LongestWaitsAndHolds}
 use Rattle.linda_inspect.specs.Json.{json_member, json_string}
 use Rattle.linda_status.specs.Listed.{json_rows_to_end}
 
@@ -58,5 +58,5 @@ unfoldable pub json_waits_to_holds : List LongWait → List ℕ
 json_waits_to_holds rows = codes "{\n\"waits\":[" ++ json_waits_to_end rows
 
 -- The whole object.
-unfoldable pub json_longest : Longest → List ℕ
+unfoldable pub json_longest : LongestWaitsAndHolds → List ℕ
 json_longest found = json_waits_to_holds found.waits.items ++ json_rows_to_end found.holds.items

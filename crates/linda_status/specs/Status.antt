@@ -13,8 +13,8 @@ use Rattle.linda_status.specs.declared.metric.MetricId.{MetricId}
 use Rattle.linda_status.specs.declared.metric.MetricId.TheVariants as figures
 
 -- What is at a path, if anything is.
-abbrev pub form_at : List ℕ → Option PageKind
-form_at path =
+abbrev pub page_kind_at : List ℕ → Option PageKind
+page_kind_at path =
     if bytes_eq path (codes "/") then Some forms.Page
     else (if bytes_eq path (codes "/metrics") then Some forms.Metrics
     else (if bytes_eq path (codes "/status.json") then Some forms.Json

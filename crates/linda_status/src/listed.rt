@@ -137,7 +137,7 @@ fn push_tuple_row(alloc: Global, out: &mut Vec<u8>, row: &ListedTuple) -> Result
 {
     push_placed(out, row.id, &row.tuple)?;
     push_text(alloc, out, &row.tuple)?;
-    push_holding(out, row.held, row.held_for)
+    push_hold_fields(out, row.held, row.held_for)
 }
 
 // A tuple with its id.
@@ -162,7 +162,7 @@ fn push_text(alloc: Global, out: &mut Vec<u8>, tuple: &Tuple) -> Result<(), Allo
 
 // For whom a tuple is held and for how long, and the end of its row.
 #[tactic(auto, unfolding(crate::specs::Listed::json_holding))]
-fn push_holding(
+fn push_hold_fields(
     out: &mut Vec<u8>,
     held: Option<Request>,
     seconds: Option<u64>,
@@ -170,12 +170,12 @@ fn push_holding(
     ensures { OnOk result (IsPushed out.old out.new (json_holding held seconds)) }
 {
     push_held(out, held)?;
-    push_held_for(out, seconds)
+    push_held_seconds(out, seconds)
 }
 
 // For how long a tuple is held, and the end of its row.
 #[tactic(auto, unfolding(crate::specs::Listed::json_held_for))]
-fn push_held_for(out: &mut Vec<u8>, seconds: Option<u64>) -> Result<(), AllocError>
+fn push_held_seconds(out: &mut Vec<u8>, seconds: Option<u64>) -> Result<(), AllocError>
     ensures { OnOk result (IsPushed out.old out.new (json_held_for seconds)) }
 {
     push_age(out, b",\"held_seconds\":", seconds)?;

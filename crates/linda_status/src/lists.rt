@@ -5,7 +5,7 @@ use crate::listed::{push_client_page, push_tuple_page};
 use crate::pages::JSON;
 use crate::pause::let_others;
 use linda_disk::Disk;
-use linda_net_watch::PageResult;
+use linda_net_watch::PageStatus;
 use linda_shared::{Gathered, MOST_LOOKED, Shared, TuplePage, TupleQuery};
 use std::alloc::{AllocError, Global};
 use std::sync::Wait;
@@ -24,7 +24,7 @@ pub(crate) fn spell_tuples<D: Disk, L: Ledger, R: Wait + Clock>(
     shared: &Shared<D, L>,
     query: &[u8],
     page: &mut String,
-) -> Result<PageResult, AllocError> {
+) -> Result<PageStatus, AllocError> {
     match read_part(alloc, query, true)? {
         Ok(part) => spell_tuple_page(rt, alloc, shared, part, page),
         Err(wrong) => spell_wrong(wrong, page),
@@ -43,7 +43,7 @@ pub(crate) fn spell_clients<D: Disk, L: Ledger, R: Wait>(
     shared: &Shared<D, L>,
     query: &[u8],
     page: &mut String,
-) -> Result<PageResult, AllocError> {
+) -> Result<PageStatus, AllocError> {
     match read_part(alloc, query, false)? {
         Ok(part) => spell_client_page(rt, alloc, shared, &part, page),
         Err(wrong) => spell_wrong(wrong, page),
@@ -57,7 +57,7 @@ fn spell_tuple_page<D: Disk, L: Ledger, R: Wait + Clock>(
     shared: &Shared<D, L>,
     part: ListRange,
     page: &mut String,
-) -> Result<PageResult, AllocError> {
+) -> Result<PageStatus, AllocError> {
     let from = part.from();
     let limit = part.limit();
     let query = TupleQuery::new(from, part.into_tag(), limit);
@@ -98,7 +98,7 @@ fn spell_client_page<D: Disk, L: Ledger, R: Wait>(
     shared: &Shared<D, L>,
     part: &ListRange,
     page: &mut String,
-) -> Result<PageResult, AllocError> {
+) -> Result<PageStatus, AllocError> {
     let Some(found) = shared.list_clients(rt, part.from_client(), part.limit())? else {
         return spell_down(page);
     };
@@ -108,25 +108,25 @@ fn spell_client_page<D: Disk, L: Ledger, R: Wait>(
 }
 
 /// Writes that the server is down.
-pub(crate) fn spell_down(page: &mut String) -> Result<PageResult, AllocError> {
+pub(crate) fn spell_down(page: &mut String) -> Result<PageStatus, AllocError> {
     page.push_str("the server is down\n")?;
-    Ok(PageResult::NotNow)
+    Ok(PageStatus::Unavailable)
 }
 
 /// Writes which parameter is wrong, and why.
 pub(crate) fn spell_wrong(
     wrong: BadParameter,
     page: &mut String,
-) -> Result<PageResult, AllocError> {
+) -> Result<PageStatus, AllocError> {
     let BadParameter { number, why } = wrong;
     write!(page, "parameter {number}: {why}\n")?;
-    Ok(PageResult::Wrong)
+    Ok(PageStatus::BadQuery)
 }
 
 /// Writes the bytes of an object of JSON, which are UTF-8.
-pub(crate) fn spell_bytes(bytes: &[u8], page: &mut String) -> Result<PageResult, AllocError> {
+pub(crate) fn spell_bytes(bytes: &[u8], page: &mut String) -> Result<PageStatus, AllocError> {
     spell_text(bytes, page)?;
-    Ok(PageResult::Page(JSON))
+    Ok(PageStatus::Page(JSON))
 }
 
 /// Writes bytes of JSON, which are UTF-8.

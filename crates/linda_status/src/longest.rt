@@ -14,8 +14,8 @@ use crate::lists::{spell_bytes, spell_down, spell_wrong};
 use linda_disk::Disk;
 use linda_hold::{LongWait, Request};
 use linda_inspect::{push_json_member, push_json_string};
-use linda_net_watch::PageResult;
-use linda_shared::{Longest, Shared};
+use linda_net_watch::PageStatus;
+use linda_shared::{LongestWaitsAndHolds, Shared};
 use linda_text::push_template;
 use linda_tuple::Template;
 use std::alloc::{AllocError, Global};
@@ -35,7 +35,7 @@ pub(crate) fn spell_longest<D: Disk, L: Ledger, R: Wait>(
     shared: &Shared<D, L>,
     query: &[u8],
     page: &mut String,
-) -> Result<PageResult, AllocError> {
+) -> Result<PageStatus, AllocError> {
     match read_limit(alloc, query)? {
         Ok(limit) => spell_those(rt, alloc, shared, limit, page),
         Err(wrong) => spell_wrong(wrong, page),
@@ -49,7 +49,7 @@ fn spell_those<D: Disk, L: Ledger, R: Wait>(
     shared: &Shared<D, L>,
     limit: usize,
     page: &mut String,
-) -> Result<PageResult, AllocError> {
+) -> Result<PageStatus, AllocError> {
     let Some(found) = shared.list_longest(rt, limit)? else {
         return spell_down(page);
     };
@@ -60,7 +60,11 @@ fn spell_those<D: Disk, L: Ledger, R: Wait>(
 
 // Appends the whole object.
 #[tactic(auto, unfolding(crate::specs::Longest::json_longest))]
-fn push_longest(alloc: Global, out: &mut Vec<u8>, found: &Longest) -> Result<(), AllocError>
+fn push_longest(
+    alloc: Global,
+    out: &mut Vec<u8>,
+    found: &LongestWaitsAndHolds,
+) -> Result<(), AllocError>
     ensures { OnOk result (IsPushed out.old out.new (json_longest found.now)) }
 {
     push_waits_to_holds(alloc, out, &found.waits)?;

@@ -1,7 +1,7 @@
 //! Pages of a server over HTTP: its numbers, in three forms, and what it keeps.
 
 ghost use Rattle.std.specs.Prelude.{◌≡◌};
-ghost use Rattle.linda_status.specs.Status.{form_at};
+ghost use Rattle.linda_status.specs.Status.{page_kind_at};
 
 use crate::about::About;
 use crate::absent::taken_by_absent;
@@ -14,7 +14,7 @@ use crate::tagged::spell_tagged;
 use crate::tags::spell_tags;
 use linda_disk::Disk;
 use linda_net_marks::CounterValues;
-use linda_net_watch::{PageQuery, PageResult, StatusPages};
+use linda_net_watch::{PageQuery, PageStatus, StatusPages};
 use linda_shared::Shared;
 use std::alloc::{AllocError, Global};
 use std::sync::Wait;
@@ -64,9 +64,9 @@ impl<'a> StatusPages for Pages<'a> {
         tally: &CounterValues,
         asked: PageQuery<'_>,
         page: &mut String,
-    ) -> Result<PageResult, AllocError> {
-        let Some(form) = form_at(asked.path) else {
-            return Ok(PageResult::Nothing);
+    ) -> Result<PageStatus, AllocError> {
+        let Some(form) = page_kind_at(asked.path) else {
+            return Ok(PageStatus::NotFound);
         };
         match form {
             PageKind::Page => page.push_str(PAGE)?,
@@ -86,7 +86,7 @@ impl<'a> StatusPages for Pages<'a> {
             PageKind::Tags => return spell_tags(rt, self.alloc, shared, asked.query, page),
             PageKind::Longest => return spell_longest(rt, self.alloc, shared, asked.query, page),
         }
-        Ok(PageResult::Page(kind_of(form)))
+        Ok(PageStatus::Page(kind_of(form)))
     }
 }
 
@@ -97,8 +97,8 @@ fn seconds_since<R: Clock>(rt: &R, begin: Option<Instant>) -> Option<u64> {
 }
 
 // What is at this path, if anything is.
-fn form_at(path: &[u8]) -> Option<PageKind>
-    ensures { result ≡ form_at path.now }
+fn page_kind_at(path: &[u8]) -> Option<PageKind>
+    ensures { result ≡ page_kind_at path.now }
 {
     if path == b"/".as_slice() {
         Some(PageKind::Page)

@@ -13,7 +13,7 @@ use crate::list_range::read_limit;
 use crate::lists::{spell_bytes, spell_down, spell_wrong};
 use linda_disk::Disk;
 use linda_inspect::{push_json_atom, push_json_member};
-use linda_net_watch::PageResult;
+use linda_net_watch::PageStatus;
 use linda_shared::{KindPage, ListedKind, Shared};
 use std::alloc::{AllocError, Global};
 use std::sync::Wait;
@@ -32,7 +32,7 @@ pub(crate) fn spell_tags<D: Disk, L: Ledger, R: Wait + Clock>(
     shared: &Shared<D, L>,
     query: &[u8],
     page: &mut String,
-) -> Result<PageResult, AllocError> {
+) -> Result<PageStatus, AllocError> {
     match read_limit(alloc, query)? {
         Ok(limit) => spell_tag_page(rt, alloc, shared, limit, page),
         Err(wrong) => spell_wrong(wrong, page),
@@ -46,7 +46,7 @@ fn spell_tag_page<D: Disk, L: Ledger, R: Wait + Clock>(
     shared: &Shared<D, L>,
     limit: usize,
     page: &mut String,
-) -> Result<PageResult, AllocError> {
+) -> Result<PageStatus, AllocError> {
     let Some(found) = most_kinds(rt, alloc, shared, limit)? else {
         return spell_down(page);
     };
@@ -127,12 +127,12 @@ fn push_tags_to_end(
     ensures { OnOk result (IsPushed out.old out.new (json_tags_to_end rows.now is_whole)) }
 {
     push_tags(out, rows)?;
-    push_whole(out, is_whole)
+    push_is_whole(out, is_whole)
 }
 
 // Whether they are all, and the end of the object.
 #[tactic(auto, unfolding(crate::specs::Tags::json_whole))]
-fn push_whole(out: &mut Vec<u8>, is_whole: bool) -> Result<(), AllocError>
+fn push_is_whole(out: &mut Vec<u8>, is_whole: bool) -> Result<(), AllocError>
     ensures { OnOk result (IsPushed out.old out.new (json_whole is_whole)) }
 {
     if is_whole {

@@ -4,7 +4,8 @@ use linda_bag::Bag;
 use linda_book::KeptReply;
 use linda_call::{CallFault, call};
 use linda_disk::FileDisk;
-use linda_serve::{ServePlan, ServingFault, open_store, serve_folder};
+use linda_serve::{ServingFault, open_store, serve_folder};
+use linda_serve_plan::ServePlan;
 use linda_server::Durable;
 use linda_text::write_tuple;
 use std::alloc::{AllocError, Global};
@@ -116,22 +117,22 @@ fn serve_and_call<
     printed: &Mutex<Vec<u8>>,
 ) -> Result<(), ServingFault> {
     let mut ready: Vec<u8> = Vec::new(alloc);
+    let plan = ServePlan {
+        port: Some(port),
+        socket: None,
+        folder: String::from_str(alloc, FOLDER)?,
+        sessions: Some(1),
+        lease: None,
+        waits: false,
+        status: None,
+        metrics: Vec::new(alloc),
+        version: "0",
+        by_threads,
+    };
     thread::scope(thread::scope_env(), rt, |scope| {
         let _ = scope
             .spawn(move || call_server(rt, alloc, port, printed))
             .is_err();
-        let plan = ServePlan {
-            port: Some(port),
-            socket: None,
-            folder: FOLDER,
-            sessions: Some(1),
-            lease: None,
-            waits: false,
-            status: None,
-            metrics: &[],
-            version: "0",
-            by_threads,
-        };
         let nowhere: Option<&mut Vec<u8>> = None;
         serve_folder(files, rt, alloc, &mut ready, nowhere, &plan)
     })

@@ -45,7 +45,7 @@ mod tests {
         let mut at: u64 = 0;
         let mut count: usize = 0;
         for _ in 0..10_000 {
-            match map.run_from(at) {
+            match map.rows_of_block_from(at) {
                 Some(run) => {
                     count = count.saturating_add(run.rows.len());
                     match run.next {

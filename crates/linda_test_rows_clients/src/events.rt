@@ -15,7 +15,8 @@ mod made;
 
 use crate::words::{done, push_numbers};
 use linda_event::{
-    Base, Event, all_nacks, ask_count, base_count, bases, check, is_any_ready, labels_of, nacks_of,
+    Base, Event, all_nacks, ask_count, base_count, bases, check, has_ready_base, labels_of,
+    nacks_of,
 };
 use linda_test_script::{WordsFault, read_size, split_word};
 use linda_text::{push_atom, push_template};
@@ -144,7 +145,7 @@ fn push_pattern(came: &mut String, word: &str, template: &Template) -> Result<()
 }
 
 fn tell_ready(event: &Event, clock: u64, came: &mut String) -> Result<(), AllocError> {
-    came.push_str(if is_any_ready(event, clock) {
+    came.push_str(if has_ready_base(event, clock) {
         "> ready\n"
     } else {
         "> not ready\n"

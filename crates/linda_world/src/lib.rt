@@ -10,7 +10,6 @@
 
 mod deeds;
 mod fault;
-mod given;
 mod mark;
 mod member;
 mod message;
@@ -18,6 +17,7 @@ mod post;
 mod refusal;
 mod scene;
 mod server;
+mod taken;
 mod world;
 
 pub use fault::WorldFault;

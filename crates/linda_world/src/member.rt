@@ -7,9 +7,9 @@ ghost use Rattle.linda_client.specs.Call.{call_of};
 ghost use Rattle.linda_world.specs.Member.{ReactsOrNot, ReactsInOrNot};
 
 use crate::fault::WorldFault;
-use crate::given::given_by;
 use crate::post::{append_both, packets_by};
 use crate::refusal::refused;
+use crate::taken::tuple_taken_by;
 use linda_client::{Call, Client, Reaction};
 use linda_world_laws::{Packet, Seen};
 use std::alloc::{AllocError, Global};
@@ -64,7 +64,7 @@ impl Member {
             fault,
         } = reaction;
         let more = packets_by(alloc, number, sends)?;
-        append_both(packets, more, &mut self.got, given_by(&outcome))?;
+        append_both(packets, more, &mut self.got, tuple_taken_by(&outcome))?;
         Ok(Seen {
             client: Some(number),
             outcome,

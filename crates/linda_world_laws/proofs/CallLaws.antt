@@ -11,7 +11,7 @@ use Rattle.linda_wire.specs.declared.message.Message.{Message}
 use Rattle.linda_wire.specs.declared.message.Message.TheVariants as messages
 use Rattle.linda_wire.specs.declared.reply.Reply.{Reply}
 use Rattle.linda_wire.specs.declared.reply.Reply.TheVariants as replies
-use Rattle.linda_client.specs.declared.arrived_tuple.Accepted.{Accepted}
+use Rattle.linda_client.specs.declared.arrived_tuple.PendingAccept.{PendingAccept}
 use Rattle.linda_client.specs.declared.ask.Ask.{Ask}
 use Rattle.linda_client.specs.declared.fault.ClientFault.{ClientFault}
 use Rattle.linda_client.specs.declared.fault.ClientFault.TheVariants as faults
@@ -68,7 +68,7 @@ pending_unanswered (Syncing own) pending e = ap (λ (p : Pending). option_to_lis
 pending_unanswered (Leaving leaves) pending e = absurd (none-some pending e)
 pending_unanswered Left pending e = absurd (none-some pending e)
 
-pub accepted_unanswered : (c : Client) (pending : Pending) (a : Accepted) → pending_in c.task ≡ Some pending → pending.accepted ≡ Some a
+pub accepted_unanswered : (c : Client) (pending : Pending) (a : PendingAccept) → pending_in c.task ≡ Some pending → pending.accepted ≡ Some a
     → IsUnanswered c a.server (messages.Accept a.n a.ticket a.id)
 accepted_unanswered c pending a e accepted =
     subst (λ l. Contains {X = Packet} l (a.server, messages.Accept a.n a.ticket a.id))
@@ -79,7 +79,7 @@ accepted_unanswered c pending a e accepted =
 abbrev WasUsed : Client → Packet → Type 0
 WasUsed c p = (n : ℕ) → number_of p.1 ≡ Some n → n < next_at c p.0
 
-accept_used : (c : Client) (o : Option Accepted) → IfSome o (λ a. IsUsed c a.server a.n) → All (WasUsed c) (option_to_list (accept_packet o))
+accept_used : (c : Client) (o : Option PendingAccept) → IfSome o (λ a. IsUsed c a.server a.n) → All (WasUsed c) (option_to_list (accept_packet o))
 accept_used c None used = All-nil (WasUsed c)
 accept_used c (Some a) used = All-cons (WasUsed c) (a.server, messages.Accept a.n a.ticket a.id) []
     (λ n e. subst (λ x. x < next_at c a.server) (same_Some a.n n e) used.1.1) (All-nil (WasUsed c))
@@ -100,7 +100,7 @@ task_used c (Leaving leaves) is = leaves_used c leaves is.last
 task_used c Left is = All-nil (WasUsed c)
 
 -- A server has at most one message unanswered.
-one_accept : (o : Option Accepted) (s : ℕ) (k m : Message) → Contains (option_to_list (accept_packet o)) (s, k)
+one_accept : (o : Option PendingAccept) (s : ℕ) (k m : Message) → Contains (option_to_list (accept_packet o)) (s, k)
     → Contains (option_to_list (accept_packet o)) (s, m) → k ≡ m
 one_accept None s k m first second = nowhere {X = Packet} (s, k) first
 one_accept (Some a) s k m first second =

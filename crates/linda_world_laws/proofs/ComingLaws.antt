@@ -34,7 +34,7 @@ use Rattle.linda_store_step.specs.Deeds.{last_in as last_number}
 use Rattle.linda_store_step.specs.Offers.{Seeks, HasTaker, MakesOffer, OffersWhatIsSought}
 use Rattle.linda_store.specs.Node.{Node, Sent as Gives, MayRemain, Works}
 use Rattle.linda_store.specs.Sound.{IsSound}
-use Rattle.linda_client.specs.declared.arrived_tuple.Accepted.{Accepted}
+use Rattle.linda_client.specs.declared.arrived_tuple.PendingAccept.{PendingAccept}
 use Rattle.linda_client.specs.Client.{Client}
 use Rattle.linda_client.specs.Numbers.{IsUnanswered}
 use Rattle.linda_client.specs.Offers.{InHand}
@@ -237,7 +237,7 @@ module _ (laws : OfSteps) (ms : Members) (ps : List Sent) (s : ℕ) (ds es : Lis
 
   -- An accepted offer that is not done is not done now, if its tuple is held still.
   module _ (sound : IsSound ds old) (then : IsSound (ds ++ es) new) where
-    not_done : (c k id : ℕ) (a : Accepted) (member : Member) → get ms c ≡ Some member → IsUnanswered member.client s (messages.Accept a.n k id)
+    not_done : (c k id : ℕ) (a : PendingAccept) (member : Member) → get ms c ≡ Some member → IsUnanswered member.client s (messages.Accept a.n k id)
         → get new.soft.holds id ≡ Some (request_of c k) → last_number ds c < a.n → last_number (ds ++ es) c < a.n
     not_done c k id a member known awaits held low = by x refl one.deed refl
       where
@@ -313,7 +313,7 @@ module _ (laws : OfSteps) (ms : Members) (ps : List Sent) (s : ℕ) (ds es : Lis
                 → InHand (λ a. last_number (ds ++ es) request.client < a.n) is.holds.pending s request.ticket id
             by_hand (inl saved) = inl saved
             by_hand (inr accepted) =
-                let a : Accepted = accepted.0.own in
+                let a : PendingAccept = accepted.0.own in
                 let awaits : IsUnanswered is.member.client s (messages.Accept a.n request.ticket id) =
                 subst (λ z. IsUnanswered is.member.client s (messages.Accept a.n request.ticket z)) accepted.0.id_is
                 (subst (λ z. IsUnanswered is.member.client s (messages.Accept a.n z a.id)) accepted.0.ticket_is

@@ -36,7 +36,7 @@ use Rattle.linda_world_laws.specs.declared.event.WorldEvent.{WorldEvent}
 use Rattle.linda_world_laws.specs.declared.packet.Body.{Body}
 use Rattle.linda_world_laws.specs.declared.packet.Body.TheVariants as bodies
 use Rattle.linda_world_laws.specs.declared.packet.Packet.{Packet}
-use Rattle.linda_world_laws.specs.World.{Server, Member, World, handed_by, place_of, given_by, member_then, sent_by, sent_from}
+use Rattle.linda_world_laws.specs.World.{Server, Member, World, handed_by, place_of, tuple_taken_by, member_then, sent_by, sent_from}
 use Rattle.linda_world_laws.specs.declared.seen.Seen.{Seen}
 use Rattle.linda_world_laws.specs.Steps.{Told, Task, served, sends_of, HasReacted, HasServed, HasJoined, Steps}
 use Rattle.linda_world_laws.specs.Reached.{IsNew, IsStart, IsReached, begins, joins, goes}
@@ -168,7 +168,7 @@ module _ (of_deeds : OfDeeds) (of_calls : OfCalls) (call : Call) (c : ℕ) (ks :
     taken : Contains backing.0.deeds (Take c g.number g.id)
     taken = of_deeds.told_take backing.0.deeds c g.number g.id g.tuple backing.1.1
 
-    given_is : given_by reacts.reaction.outcome ≡ (g.server, g.id) ∷ []
+    given_is : tuple_taken_by reacts.reaction.outcome ≡ (g.server, g.id) ∷ []
     given_is = ap (λ o. option_to_list (option_map place_of o)) g.handed
 
     handed_over : HandsOver backing.0.deeds c g.id g.tuple
@@ -202,7 +202,7 @@ module _ (of_deeds : OfDeeds) (of_calls : OfCalls) (call : Call) (c : ℕ) (ks :
         e.over (messages.Accept g.number g.ticket g.id) g.was
         (ap (λ d. Some (deeds.number_of d)) (sym one))
 
-  all_earned : (pair : ℕ × ℕ) → Contains (reacts.member.got ++ given_by reacts.reaction.outcome) pair → IsEarned w.servers c now pair
+  all_earned : (pair : ℕ × ℕ) → Contains (reacts.member.got ++ tuple_taken_by reacts.reaction.outcome) pair → IsEarned w.servers c now pair
   all_earned pair there = by given_or_not
     where
       before : Contains reacts.member.got pair → IsEarned w.servers c now pair
@@ -216,14 +216,14 @@ module _ (of_deeds : OfDeeds) (of_calls : OfCalls) (call : Call) (c : ℕ) (ks :
         | inr new_one ↦ subst (IsEarned w.servers c now) new_one (earned_now g)
       ]
 
-  given_once : IsOnce (reacts.member.got ++ given_by reacts.reaction.outcome)
+  given_once : IsOnce (reacts.member.got ++ tuple_taken_by reacts.reaction.outcome)
   given_once = by given_or_not
     where
       old : IsOnce reacts.member.got
       old = honest.once c reacts.member reacts.known
 
       by : (handed_by reacts.reaction.outcome ≡ None) ⊎ IsGiven of_calls was_client call reacts.reaction is_client reacts.answer
-          → IsOnce (reacts.member.got ++ given_by reacts.reaction.outcome)
+          → IsOnce (reacts.member.got ++ tuple_taken_by reacts.reaction.outcome)
       by (inl none) = subst (λ l. IsOnce l)
           (sym (ap (λ o. reacts.member.got ++ option_to_list (option_map place_of o)) none ∙ append-nil reacts.member.got)) old
       by (inr g) = subst (λ l. IsOnce (reacts.member.got ++ l)) (sym (given_is g)) (pushed_once reacts.member.got (g.server, g.id) old (not_before g))

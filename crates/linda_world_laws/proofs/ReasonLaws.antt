@@ -17,7 +17,7 @@ use Rattle.linda_store_state.specs.declared.deed.Deed.TheVariants.{Take, Pass}
 use Rattle.linda_store_step.specs.Soft.{Soft}
 use Rattle.linda_store_step.specs.Deeds.{last_in as last_number}
 use Rattle.linda_store_step.specs.Replies.{reports_deed, ReportsOne}
-use Rattle.linda_client.specs.declared.arrived_tuple.Accepted.{Accepted}
+use Rattle.linda_client.specs.declared.arrived_tuple.PendingAccept.{PendingAccept}
 use Rattle.linda_client.specs.declared.ask.Ask.{Ask}
 use Rattle.linda_client.specs.Pending.{Pending, ask_at, is_fit}
 use Rattle.linda_client.specs.Client.{Client, IsClient, asked_in, next_at, pending_in, servers}
@@ -168,7 +168,7 @@ module _ (of_deeds : OfDeeds) (of_calls : OfCalls) (call : Call) (c : ℕ) (ks :
             (placed {X = client_packets.Packet} ((s, messages.Cancel k) ∷ []) 0 (s, messages.Cancel k) refl))))
 
         by_accepted : (pending : Pending) (ask : Ask) → pending_in was.task ≡ Some pending
-            → ask_at pending k ≡ Some ask → is_fit ask true row ≡ true → (o : Option Accepted) → pending.accepted ≡ o
+            → ask_at pending k ≡ Some ask → is_fit ask true row ≡ true → (o : Option PendingAccept) → pending.accepted ≡ o
             → HasReason new.members new.packets s server.deeds id (request_of c k)
         by_accepted pending ask before is_open fits (Some own) accepted =
             let then = some_and (λ then. IsSaved then s k id) (pending_in now.task) (treated.saved pending ask before is_open fits (ap is_some accepted)) in

@@ -63,13 +63,13 @@ abbrev pub place_of : Handed → ℕ × ℕ
 place_of handed = (handed.server, handed.id)
 
 -- its server and id, if it gives one
-abbrev pub given_by : Option Outcome → List (ℕ × ℕ)
-given_by outcome = option_to_list (option_map place_of (handed_by outcome))
+abbrev pub tuple_taken_by : Option Outcome → List (ℕ × ℕ)
+tuple_taken_by outcome = option_to_list (option_map place_of (handed_by outcome))
 
 -- A client after a call: it is as the call leaves it, and was given what the outcome gives.
 abbrev pub member_then : Member → Reaction → Member
 member_then member reaction =
-    record { client = reaction.client; got = member.got ++ given_by reaction.outcome }
+    record { client = reaction.client; got = member.got ++ tuple_taken_by reaction.outcome }
 
 -- a message of a client on its way to a server
 abbrev pub sent_by : ℕ → ℕ × Message → Packet

@@ -39,10 +39,13 @@ export class NoConnection extends SpaceError {
     } | undefined);
     server: number;
 }
-/** The time of a call is up, and something is not known: `servers` have not answered, or have no connection. */
+/**
+ * The time of a call is up, and something is not known: `servers` have not answered, or have no connection. Of a Pool,
+ * with no `servers`: no member was free in time, and nothing was sent.
+ */
 export class TimedOut extends SpaceError {
-    /** @param {number[]} servers */
-    constructor(servers: number[]);
+    /** @param {number[]} servers @param {string} [text] */
+    constructor(servers: number[], text?: string | undefined);
     servers: number[];
 }
 /** The signal of a call ended it; `cause` is the reason of the signal. */

@@ -39,22 +39,14 @@ export function Wrap(label: number | bigint, event: SpaceEvent): SpaceEvent;
  */
 export function Nack(number: number | bigint, event: SpaceEvent): SpaceEvent;
 /**
- * A base, its number, the labels above it, innermost first, and the places of the nacks above it.
- * @typedef {{ number: number, leaf: SpaceEvent, labels: (number | bigint)[], above: number[] }} Base
- */
-/**
- * The bases and the nack numbers of an event, each in tree order.
+ * The bases and the nack numbers of an event, each in tree order. The limits are looked at first, so this takes no longer
+ * than an event within them is large.
  * @param {SpaceEvent} event @returns {{ bases: Base[], nacks: (number | bigint)[] }}
  */
 export function basesAndNacks(event: SpaceEvent): {
     bases: Base[];
     nacks: (number | bigint)[];
 };
-/**
- * @typedef {import('./values.mjs').Value} Value
- * @typedef {import('./values.mjs').Pattern} Pattern
- * @typedef {import('./values.mjs').Template} Template
- */
 /**
  * What `Space.sync` waits for: a tree of choices, labels and nacks, with bases as its leaves: In, Rd, Alarm, Always and
  * Never. The bases are numbered from 0 in tree order.
@@ -72,7 +64,7 @@ export class SpaceEvent {
         number?: number | bigint;
         members?: readonly SpaceEvent[];
     });
-    kind: "always" | "never" | "alarm" | "in" | "rd" | "choose" | "wrap" | "nack";
+    kind: "always" | "never" | "alarm" | "choose" | "wrap" | "nack" | "in" | "rd";
     template: import("./values.mjs").Template;
     time: number | bigint;
     value: import("./values.mjs").Value;
@@ -89,6 +81,7 @@ export class SpaceEvent {
      */
     nack(number: number | bigint): SpaceEvent;
     get isAsked(): boolean;
+    #private;
 }
 /**
  * A base, its number, the labels above it, innermost first, and the places of the nacks above it.
@@ -99,6 +92,23 @@ export type Base = {
     labels: (number | bigint)[];
     above: number[];
 };
+/**
+ * What is above a node: labels or places of nacks, innermost first.
+ */
+export type Chain<T> = {
+    item: T;
+    above: Chain<T>;
+} | null;
 export type Value = import('./values.mjs').Value;
 export type Pattern = import('./values.mjs').Pattern;
 export type Template = import('./values.mjs').Template;
+/**
+ * `depth`: the most nodes above a leaf, -1 if there is no leaf. `bases`, `asked`: how many leaves there are, and how many
+ * are inputs or reads; `nacks`: how many nack numbers. Each counts up to one more than is allowed.
+ */
+export type Measure = {
+    depth: number;
+    bases: number;
+    asked: number;
+    nacks: number;
+};

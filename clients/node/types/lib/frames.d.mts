@@ -1,4 +1,9 @@
 /**
+ * The number of a frame of a client: of an Out, an Accept or a Leave; 0 of any other.
+ * @param {Uint8Array} data
+ */
+export function numberOf(data: Uint8Array): any;
+/**
  * @typedef {import('./values.mjs').Value} Value
  * @typedef {import('./values.mjs').Pattern} Pattern
  * @typedef {import('./values.mjs').Tuple} Tuple

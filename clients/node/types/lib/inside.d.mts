@@ -6,7 +6,8 @@ export function turned(): Promise<void>;
 /**
  * - `call`: one call, as all calls are made; `begin` says to the machine what it begins with. `isQuiet`: it says
  *   nothing of holds that were lost.
- * - `finish`: finishes what is pending after an error. What was taken by that is in hand: the next take gets it.
+ * - `finish`: finishes what is pending after an error, in so many milliseconds, `patience` at most. What was taken by that
+ *   is in hand: the next take gets it.
  * - `isOver`: whether all calls throw. `onOver`: is called once an offer was taken or released, or Gone was thrown.
  * - `keep`: renews an offer every so many milliseconds.
  * @typedef {{
@@ -15,7 +16,7 @@ export function turned(): Promise<void>;
  *         ways?: { isAgain?: boolean, isQuiet?: boolean, isWaiting?: boolean })
  *         => Promise<import('./machine.mjs').Ended | null>,
  *     machine: () => import('./machine.mjs').Machine,
- *     finish: () => Promise<void>,
+ *     finish: (timeout?: number) => Promise<void>,
  *     isOver: () => boolean,
  *     onOver: (offer: import('./results.mjs').Offer<any>, hear: () => void) => void,
  *     patience: number,
@@ -27,7 +28,8 @@ export const insides: WeakMap<object, Inside>;
 /**
  * - `call`: one call, as all calls are made; `begin` says to the machine what it begins with. `isQuiet`: it says
  *   nothing of holds that were lost.
- * - `finish`: finishes what is pending after an error. What was taken by that is in hand: the next take gets it.
+ * - `finish`: finishes what is pending after an error, in so many milliseconds, `patience` at most. What was taken by that
+ *   is in hand: the next take gets it.
  * - `isOver`: whether all calls throw. `onOver`: is called once an offer was taken or released, or Gone was thrown.
  * - `keep`: renews an offer every so many milliseconds.
  */
@@ -41,7 +43,7 @@ export type Inside = {
         isWaiting?: boolean;
     }) => Promise<import('./machine.mjs').Ended | null>;
     machine: () => import('./machine.mjs').Machine;
-    finish: () => Promise<void>;
+    finish: (timeout?: number) => Promise<void>;
     isOver: () => boolean;
     onOver: (offer: import('./results.mjs').Offer<any>, hear: () => void) => void;
     patience: number;

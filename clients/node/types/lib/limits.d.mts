@@ -3,8 +3,11 @@
  * @param {bigint} integer @returns {number | bigint}
  */
 export function plain(integer: bigint): number | bigint;
-/** @param {unknown} value @returns {string} */
-export function shown(value: unknown): string;
+/**
+ * A value as a text of so many characters at most, whatever it is.
+ * @param {unknown} value @param {number} [most] @returns {string}
+ */
+export function shown(value: unknown, most?: number | undefined): string;
 /** The limits of frames (docs/FORMATS.md), of events and of clients (docs/EVENTS.md). */
 export const VERSION: 2;
 export const MOST_TEXT: 4095;

@@ -17,6 +17,7 @@ export const LONGEST_PAUSE: 50;
  * - `isOver`: the stream has ended or failed. It is heard to its end before it counts as lost.
  * - `due`: when it is to be made, if there is none; `pause`: how long after that the next time is.
  * - `until`: when it has been away for too long; `busyUntil`: when Busy has been answered for too long, once it was.
+ * - `lastSent`: the highest number that was handed to a stream that was up. No higher one can have been done.
  */
 export class Link {
     /** @param {number} server @param {number | string} port @param {boolean} fresh @param {number} until */
@@ -33,6 +34,7 @@ export class Link {
     pause: number;
     /** @type {number | null} */
     busyUntil: number | null;
+    lastSent: bigint;
     /**
      * Why the last stream could not be had, or ended.
      * @type {unknown}

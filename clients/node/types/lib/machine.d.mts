@@ -289,6 +289,11 @@ export class Machine {
      */
     receive(server: number, reply: Reply): void;
     /**
+     * Whether it says that what is unanswered at that server was not done, nor what was sent there after it.
+     * @param {number} server @param {Reply} reply
+     */
+    isJudged(server: number, reply: Reply): boolean;
+    /**
      * A reply that cannot answer what this program sent under its number: another one uses the number.
      * @param {number} server @param {Reply} reply @returns {never}
      */

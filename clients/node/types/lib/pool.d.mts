@@ -1,7 +1,8 @@
 /**
  * Some spaces for calls at once, as of a web server: each call is made by a member that nobody uses. A member is made
  * when it is needed, up to `size` (16 if nothing else is said); if all are in use a call waits for one, first in, first
- * out. Calls, errors and limits are those of a Space.
+ * out. Calls, errors and limits are those of a Space, but the `timeout` of a call counts from its beginning: if no member
+ * is free by then, made or finished, it throws TimedOut, and nothing was sent.
  *
  *     const pool = new Pool([7000], { client: range(100, 116) });
  *     await Promise.all(jobs.map((job) => pool.out(['job', job])));
@@ -87,7 +88,8 @@ export class Pool {
      * @returns {Promise<Timed<Offer<Matched<T>>, L>>}
      */
     hold<T_8 extends import("./values.mjs").Patterns, L_9 extends import("./space.mjs").HoldOptions = {}>(template: T_8 & import("./values.mjs").Whole<T_8>, options?: Only<L_9, import("./space.mjs").HoldOptions> | undefined): Promise<import("./values.mjs").Timed<import("./results.mjs").Offer<import("./values.mjs").Matched<T_8>>, L_9>>;
-    /** As `Space.holding`: the member is this block's until it ends.
+    /** As `Space.holding`: the member is this block's until it ends. A call of the pool in the block needs another member:
+     * if each member has such a block, all wait for each other, until the `timeout` of a call is up.
      * @template {Patterns} T @template {HoldOptions} L @template R
      * @param {T & Whole<T>} template @param {Only<L, HoldOptions>} options
      * @param {(offer: Timed<Offer<Matched<T>>, L>) => Promise<R> | R} work @returns {Promise<R>}
@@ -114,11 +116,13 @@ export type Chosen = import('./space.mjs').Chosen;
 export type Space = import('./space.mjs').Space;
 export type Stored = import('./results.mjs').Stored;
 /**
- * A call that waits for a member.
+ * A call that waits for a member: since when, and for how long at most.
  */
 export type Put = import('./trains.mjs').Put;
 export type Waiting = {
     inputs: import("./values.mjs").Template[];
+    since: number;
+    until: number;
     go: (member: Space) => void;
     fail: (fault: unknown) => void;
 };

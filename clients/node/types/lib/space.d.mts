@@ -56,6 +56,9 @@ export class Space {
      * - Or left out: the numbers are those of a file of this program, which are all tried so. If none is free a new one
      *   is drawn from 2^31 to 2^32 - 1, and added to the file. `numbers` is its path; if it is not given, it is a file
      *   for the path of the program, in the folder $LINDA_STATE, $XDG_STATE_HOME/linda or ~/.local/state/linda.
+     * - On Linux no other program of this machine gets a number of the same file, or of several for the same ports,
+     *   until this space is closed, also while a server is away (`lib/locks.mjs`). Else, and for one number that is
+     *   given, only the servers know which numbers are in use: those that have a connection.
      * - `fresh`: this number was never used, and a server that knows it refuses it. If it is not set numbers go on
      *   after those of an earlier life of this client, if there was one: see `lastReply`.
      * - `patience`: milliseconds, 10,000 if nothing else is said.
@@ -244,8 +247,8 @@ export class Space {
      *     process.exitCode = await space.work(['job', INT], async ([, n]) => ['done', n, n * n]) > 0 ? 0 : 1;
      *
      * - `template`: an array, or an In, or several In, the first of which goes first. The function returns nothing, a
-     *   tuple, or an array of tuples; anything else is a TypeError, which ends the work. If the hold was lost meanwhile
-     *   its result is not put, for another worker has
+     *   tuple, or an array of tuples; anything else is a TypeError, which ends the work. A tuple with a value that is out
+     *   of range is an error of the function. If the hold was lost meanwhile its result is not put, for another worker has
      *   the job.
      * - `tries`: the last field of a job is how often it failed, 0 at first, and the last pattern has to be INT. A job
      *   whose function throws stays held for `delay` * 2 ** failed milliseconds (1,000 if nothing else is said), while
@@ -254,12 +257,13 @@ export class Space {
      *   At most 32 jobs wait so; then the oldest is waited for. If `tries` is not given, what the function throws ends
      *   the work, and the job is free again.
      * - `stop`: an Rd; `signal`: an AbortSignal. The work ends once there is such a tuple, once the signal is aborted,
-     *   or on SIGTERM, in order: the job in hand is finished, those that wait for their next try are put back with
+     *   or on SIGTERM (which no worker of `worker_threads` hears), in order: the job in hand is finished, those that wait for their next try are put back with
      *   their count, and it returns. So it does if no job came for `timeout` milliseconds, and none waits for its next
      *   try.
      * - `keep`: milliseconds between two signs that this client is at work, 500 if nothing else is said.
-     * - `onerror`: is called with each error after which the work goes on. A server that is away, or has no room, is
-     *   tried again; once the work has to end, it throws NoConnection or TimedOut if something is not known then.
+     * - `onerror`: is called with each error after which the work goes on. A server that is away, that has another
+     *   connection under this number still (Busy), or has no room, is tried again; once the work has to end, it throws
+     *   NoConnection, TimedOut or Refused if something is not known then.
      *
      * It makes calls of the space, and waits in them: what else waits for long needs a space of its own.
      * @template {Patterns} T
@@ -298,7 +302,8 @@ export class Space {
     leave(limits?: import("./values.mjs").Limits | undefined): Promise<void>;
     /**
      * What is pending after an error: 'out', 'outMany', 'takeMany', 'purge', 'lastReply', 'leave', 'accept'; 'sync' if
-     * a tuple was taken, or may have been, by a call that an error ended; or null. During a call: what is waited for.
+     * a tuple was taken, or may have been, by a call that an error ended; or null. If there is one of the others and such
+     * a tuple, it is the other one. During a call: what is waited for.
      * @returns {'out' | 'outMany' | 'takeMany' | 'purge' | 'lastReply' | 'leave' | 'accept' | 'sync' | null}
      */
     get pending(): "sync" | "out" | "accept" | "leave" | "outMany" | "takeMany" | "purge" | "lastReply" | null;
@@ -306,7 +311,8 @@ export class Space {
      * Goes on with what is pending after an error: sends what is unanswered again, under its number, and waits for its
      * end, which it returns: Stored for an out, Outcome for an accept, and for a take whose tuple was taken; Kept for
      * `lastReply`; what `outMany`, `takeMany` and `purge` return; null for a leave, and for a take that came too late:
-     * nothing was taken then. Nothing is done twice by that.
+     * nothing was taken then. Nothing is done twice by that. A tuple that was taken for a call before that is returned by
+     * the `again` after it.
      *
      * Throws Idle if nothing is pending; Gone for an accept that came too late; else as what it goes on with.
      * @param {Limits} [limits] @returns {Promise<Stored | Outcome | Kept | Put[] | Tuple[] | number | null>}

@@ -104,7 +104,12 @@ pub(super) fn flag<'a>(alloc: Global, name: &'a str, help: &'a str) -> Arg<'a>
 }
 
 /// A word that must be there, which help calls so.
-pub(super) fn word<'a>(alloc: Global, name: &'a str, value: &'a str, help: &'a str) -> Arg<'a>
+pub(super) fn required_positional<'a>(
+    alloc: Global,
+    name: &'a str,
+    value: &'a str,
+    help: &'a str,
+) -> Arg<'a>
     ensures rule { rule_of result ≡ word_rule name.entry.now }
     ensures own { result.global ≡ false }
 {

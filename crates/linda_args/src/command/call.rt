@@ -10,7 +10,8 @@ ghost use Rattle.linda_args.specs.Rules.{IsCommand, client_rule, ports_rule};
 
 use super::Task;
 use super::args::{
-    bare_command, bare_linda, flag, full_command, number_option, option, with_arg, word,
+    bare_command, bare_linda, flag, full_command, number_option, option, required_positional,
+    with_arg,
 };
 use super::options::{EXPLAIN, EXPLAIN_LINES, explains, is_set, long_number};
 use super::paths::Paths;
@@ -69,7 +70,7 @@ fn port_words<'a>(alloc: Global) -> Arg<'a>
     ensures rule { rule_of result ≡ ports_rule }
     ensures own { result.global ≡ false }
 {
-    word(
+    required_positional(
         alloc,
         PORTS,
         "PORT",

@@ -8,7 +8,7 @@ ghost use Rattle.linda_args.specs.Rules as rules;
 ghost use Rattle.linda_args.specs.Rules.{IsCommand};
 
 use super::Task;
-use super::args::{bare_command, flag, with_arg, word};
+use super::args::{bare_command, flag, required_positional, with_arg};
 use super::options::{EXPLAIN, EXPLAIN_END, explains, is_set};
 use clap::{ArgMatches, Command};
 use linda_inspect::Lists;
@@ -23,7 +23,7 @@ pub(super) fn inspect_command<'a>(alloc: Global) -> Result<Command<'a>, AllocErr
 {
     let about =
         "Show what the store in a folder holds, and whether it would be served; nothing is written";
-    let folder = word(alloc, DIR, "DIR", "The folder of the store");
+    let folder = required_positional(alloc, DIR, "DIR", "The folder of the store");
     let first = bare_command(alloc, INSPECT, about, INSPECTING).arg(folder);
     let second = with_arg(first, flag(alloc, TUPLES, "A line for each tuple"));
     let help = "A line for each client, with its kept reply";

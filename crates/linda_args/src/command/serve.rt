@@ -12,10 +12,12 @@ ghost use Rattle.linda_args.specs.Rules.{sessions_rule, status_rule};
 use super::Task;
 use super::args::{bare_command, bare_linda, flag, full_command, number_option, option, with_arg};
 use super::options::{EXPLAIN, EXPLAIN_END, explains, is_set, long_number, short_number};
-use super::socket::{MODE, SOCKET, Socket};
+use super::socket::{MODE, SOCKET, socket_found};
 use super::status::{METRIC, STATUS, metrics_found, status_found};
+use super::version::version;
 use clap::builder::ValueParser;
 use clap::{Arg, ArgAction, ArgMatches, Command, value_parser};
+use linda_serve_plan::ServePlan;
 use std::alloc::{AllocError, Global};
 
 /// The name of the command.
@@ -148,14 +150,14 @@ pub(super) fn serve_of(alloc: Global, below: &ArgMatches) -> Result<Option<Task>
     ensures { IfOk result (λ found. IfSome found (ServesBy (options_of (found_of below.now)))) }
 {
     let port = short_number(below, PORT);
-    let socket = Socket::found(alloc, below)?;
+    let socket = socket_found(alloc, below)?;
     if port.is_none() && socket.is_none() {
         return Ok(None);
     }
     let Some(text) = below.get_str(DIR) else {
         return Ok(None);
     };
-    let dir = String::from_str(alloc, text)?;
+    let folder = String::from_str(alloc, text)?;
     let lease = long_number(below, LEASE);
     if lease == Some(0) {
         return Ok(None);
@@ -163,16 +165,19 @@ pub(super) fn serve_of(alloc: Global, below: &ArgMatches) -> Result<Option<Task>
     let status = status_found(alloc, below)?;
     let metrics = metrics_found(alloc, below)?;
     Ok(Some(Task::Serve {
-        port,
-        dir,
-        sessions: long_number(below, SESSIONS),
+        plan: ServePlan {
+            port,
+            socket,
+            folder,
+            sessions: long_number(below, SESSIONS),
+            lease,
+            waits: is_set(below, WAIT),
+            by_threads: is_set(below, THREADS),
+            status,
+            metrics,
+            version: version(),
+        },
         log: is_set(below, LOG),
-        lease,
-        threads: is_set(below, THREADS),
-        status,
-        metrics,
-        socket,
-        wait: is_set(below, WAIT),
         explain: explains(below),
     }))
 }

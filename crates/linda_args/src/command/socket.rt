@@ -6,6 +6,7 @@ ghost use Rattle.clap.specs.Words.{found_of};
 ghost use Rattle.linda_args.specs.Options.{IsSocket, mode_in, octal_digit, octal_of};
 
 use clap::ArgMatches;
+use linda_serve_plan::SocketFile;
 use std::alloc::{AllocError, Global};
 
 /// The option that names a unix socket.
@@ -17,35 +18,27 @@ pub(super) const MODE: &str = "mode";
 /// Who may connect if that is not said: the owner.
 const OWNER: u32 = 0o600;
 
-/// A unix socket where a server listens: its path, and the mode of its file.
-#[derive(Debug, Drop)]
-pub struct Socket {
-    /// Its path, which has one byte at least.
-    pub path: String,
-    /// The mode of its file: nine bits, as those of `chmod`.
-    pub mode: u32,
-}
-
-impl Socket {
-    /// The socket that the parser found, if there is one.
-    ///
-    /// # Errors
-    ///
-    /// `AllocError` where memory runs out.
-    pub(super) fn found(alloc: Global, matches: &ArgMatches) -> Result<Option<Socket>, AllocError>
-        ensures mode { IfOk result (λ found. IfSome found (λ socket. socket.mode < 2 ^ 9)) }
-        ensures found { IfOk result (IsSocket (first_value (found_of matches.now) (codes "socket"))
-            (first_value (found_of matches.now) (codes "mode"))) }
-    {
-        let Some(path) = matches.get_str(SOCKET) else {
-            return Ok(None);
-        };
-        let Some(mode) = mode_found(matches) else {
-            return Ok(None);
-        };
-        let path = String::from_str(alloc, path)?;
-        Ok(Some(Socket { path, mode }))
-    }
+/// The socket that the parser found, if there is one.
+///
+/// # Errors
+///
+/// `AllocError` where memory runs out.
+pub(super) fn socket_found(
+    alloc: Global,
+    matches: &ArgMatches,
+) -> Result<Option<SocketFile>, AllocError>
+    ensures mode { IfOk result (λ found. IfSome found (λ socket. socket.mode < 2 ^ 9)) }
+    ensures found { IfOk result (IsSocket (first_value (found_of matches.now) (codes "socket"))
+        (first_value (found_of matches.now) (codes "mode"))) }
+{
+    let Some(path) = matches.get_str(SOCKET) else {
+        return Ok(None);
+    };
+    let Some(mode) = mode_found(matches) else {
+        return Ok(None);
+    };
+    let path = String::from_str(alloc, path)?;
+    Ok(Some(SocketFile { path, mode }))
 }
 
 /// The mode that the parser found, or that of the owner; none if it is no mode.

@@ -11,6 +11,7 @@ ghost use Rattle.linda_args.specs.Options.{IsStatus, options_of};
 use super::options::short_number;
 use super::words::has_slash;
 use clap::ArgMatches;
+use linda_serve_plan::StatusPlace;
 use std::alloc::{AllocError, Global};
 
 /// The option that says where the status is served.
@@ -18,15 +19,6 @@ pub(super) const STATUS: &str = "status";
 
 /// The option that names a tag whose tuples are counted.
 pub(super) const METRIC: &str = "metric";
-
-/// Where it is asked how a server does.
-#[derive(Debug, Drop)]
-pub enum StatusPlace {
-    /// On this port of this machine, from 1.
-    Port(u16),
-    /// At a unix socket with this path, which has a slash.
-    Path(String),
-}
 
 /// The place of the status that the parser found, if there is one.
 ///

@@ -6,7 +6,7 @@ ghost use Rattle.linda_args.specs.Commands.{AsksForVersion};
 
 /// What is printed of the program: its version, and the forms of banks and frames that it reads and
 /// writes.
-pub const VERSION_LINES: &str = "linda 0.19.0\nbank LND2\nframe 2\n";
+pub const VERSION_LINES: &str = "linda 0.20.0\nbank LND2\nframe 2\n";
 
 /// Whether the words of the command line, of which the first names the program, ask for the
 /// version.
@@ -17,6 +17,18 @@ pub fn asks_for_version(words: &[String]) -> bool
     match words {
         [_, word] => word.as_str() == VERSION,
         _ => false,
+    }
+}
+
+/// The version of the program: what follows its name in the first of the lines of its version.
+pub(super) fn version() -> &'static str {
+    let line = match VERSION_LINES.split_once('\n') {
+        Some((line, _)) => line,
+        None => VERSION_LINES,
+    };
+    match line.split_once(' ') {
+        Some((_, version)) => version,
+        None => line,
     }
 }
 

@@ -120,15 +120,15 @@ fn skip_body(form: Form, kind: u8, body: &[u8]) -> Result<&[u8], ReadFault>
         (left_by (format.reply_body_at form kind body.now)) }
 {
     match kind {
-        STORED => skip_stored(body),
-        TAKEN => skip_taken(form, body),
+        STORED => skip_stored_body(body),
+        TAKEN => skip_taken_body(form, body),
         GONE => Ok(body),
-        _ => skip_left(form, kind, body),
+        _ => skip_left_body(form, kind, body),
     }
 }
 
 // The bytes after a Stored.
-fn skip_stored(body: &[u8]) -> Result<&[u8], ReadFault>
+fn skip_stored_body(body: &[u8]) -> Result<&[u8], ReadFault>
     ensures { GivesAlways (λ rest. rest.now) result
         (left_by (made_at (λ id. Stored id) number body.now)) }
 {
@@ -137,7 +137,7 @@ fn skip_stored(body: &[u8]) -> Result<&[u8], ReadFault>
 }
 
 // The bytes after a Taken.
-fn skip_taken(form: Form, body: &[u8]) -> Result<&[u8], ReadFault>
+fn skip_taken_body(form: Form, body: &[u8]) -> Result<&[u8], ReadFault>
     ensures { GivesAlways (λ rest. rest.now) result
         (left_by (made_at (λ p. Taken p.0 p.1) (format.placed form) body.now)) }
 {
@@ -146,7 +146,7 @@ fn skip_taken(form: Form, body: &[u8]) -> Result<&[u8], ReadFault>
 }
 
 // The bytes after a Left, of which the kind is read.
-fn skip_left(form: Form, kind: u8, rest: &[u8]) -> Result<&[u8], ReadFault>
+fn skip_left_body(form: Form, kind: u8, rest: &[u8]) -> Result<&[u8], ReadFault>
     ensures { GivesAlways (λ rest. rest.now) result
         (left_by (body_at (format.left_kinds form) no_kind kind rest.now)) }
 {

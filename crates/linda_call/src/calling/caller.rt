@@ -76,7 +76,7 @@ impl Caller<'_> {
     ///
     /// What the first server is given up for, `NoConnection` after ten seconds too; `Memory`;
     /// `Write`; `Clock`.
-    pub(super) fn meet_all<S: Wait + Clock, W: Write>(
+    pub(super) fn await_welcomes<S: Wait + Clock, W: Write>(
         &mut self,
         rt: &S,
         alloc: Global,
@@ -87,7 +87,7 @@ impl Caller<'_> {
                 return Ok(());
             };
             if let Some((server, arrival)) = self.inbox.take(rt) {
-                self.hear(rt, alloc, server, arrival, writer)?;
+                self.handle_arrival(rt, alloc, server, arrival, writer)?;
             } else if is_late(self.ticks(rt)?) {
                 return Err(CallFault::NoConnection(server));
             }
@@ -97,7 +97,7 @@ impl Caller<'_> {
 
     /// Does what a line asks for, waits for the outcome, and writes it. Whether the line is one of
     /// a client. If tuples are put together, the outcome of a put is written later: at the latest
-    /// by `finish`, before a line that is no put, and once 64 are under way.
+    /// by `finish_puts`, before a line that is no put, and once 64 are under way.
     ///
     /// # Errors
     ///
@@ -111,14 +111,14 @@ impl Caller<'_> {
     ) -> Result<bool, CallFault> {
         self.catch_up(rt, alloc, writer)?;
         if is_last(line) {
-            self.finish(rt, alloc, writer)?;
+            self.finish_puts(rt, alloc, writer)?;
             self.tell_kept(rt, alloc, writer)?;
             return Ok(true);
         }
         match read_request(alloc, line)? {
             None => Ok(true),
             Some(None) => {
-                self.finish(rt, alloc, writer)?;
+                self.finish_puts(rt, alloc, writer)?;
                 Ok(false)
             }
             Some(Some(request)) => {
@@ -147,7 +147,7 @@ impl Caller<'_> {
     /// # Errors
     ///
     /// As those of `run_line`.
-    pub(super) fn finish<S: Wait + Clock, W: Write>(
+    pub(super) fn finish_puts<S: Wait + Clock, W: Write>(
         &mut self,
         rt: &S,
         alloc: Global,
@@ -202,7 +202,7 @@ impl Caller<'_> {
         self.tick(rt, alloc, writer)?;
         match self.party.ask(alloc, request) {
             Ok(reaction) => {
-                if self.obey(rt, alloc, reaction, writer)? {
+                if self.perform_reaction(rt, alloc, reaction, writer)? {
                     return Ok(());
                 }
                 self.wait(rt, alloc, writer)
@@ -220,7 +220,7 @@ impl Caller<'_> {
     ) -> Result<(), CallFault> {
         for _ in rt.forever() {
             let is_done = match self.inbox.take(rt) {
-                Some((server, arrival)) => self.hear(rt, alloc, server, arrival, writer)?,
+                Some((server, arrival)) => self.handle_arrival(rt, alloc, server, arrival, writer)?,
                 None => self.tick(rt, alloc, writer)?,
             };
             if is_done {
@@ -247,11 +247,11 @@ impl Caller<'_> {
     ) -> Result<bool, CallFault> {
         let now = self.ticks(rt)?;
         let reaction = self.party.tick(alloc, now)?;
-        self.obey(rt, alloc, reaction, writer)
+        self.perform_reaction(rt, alloc, reaction, writer)
     }
 
     // Gives the client what came. Whether what was pending has ended.
-    fn hear<S: Wait, W: Write>(
+    fn handle_arrival<S: Wait, W: Write>(
         &mut self,
         rt: &S,
         alloc: Global,
@@ -260,11 +260,11 @@ impl Caller<'_> {
         writer: &mut W,
     ) -> Result<bool, CallFault> {
         let reaction = self.party.take(alloc, server, arrival)?;
-        self.obey(rt, alloc, reaction, writer)
+        self.perform_reaction(rt, alloc, reaction, writer)
     }
 
     // Sends what the client sends and writes what has ended. Whether something has.
-    fn obey<S: Wait, W: Write>(
+    fn perform_reaction<S: Wait, W: Write>(
         &mut self,
         rt: &S,
         alloc: Global,

@@ -10,7 +10,7 @@ use std::alloc::{AllocError, Global};
 /// # Errors
 ///
 /// `AllocError` if memory runs out.
-pub(super) fn write_kept(
+pub(super) fn kept_reply_line(
     alloc: Global,
     server: u32,
     client: u32,

@@ -14,7 +14,7 @@ pub(super) const MOST: usize = 64;
 
 /// What is known of a put.
 #[derive(Clone, Copy, Debug, PartialEq, Eq)]
-pub(super) enum Fate {
+pub(super) enum PutStatus {
     /// Its server has not answered it.
     Open,
     /// Its tuple is stored under this id.
@@ -27,7 +27,7 @@ pub(super) enum Fate {
 
 /// What comes of puts.
 #[derive(Clone, Copy, Debug, PartialEq, Eq)]
-pub(super) enum News {
+pub(super) enum PutEvent {
     /// A server stored a tuple for its message of this number, under this id.
     Stored { server: u32, number: u64, id: u64 },
     /// A server welcomed the client again, with this number.
@@ -42,7 +42,7 @@ pub(super) struct Put {
     server: u32,
     number: u64,
     message: Message,
-    fate: Fate,
+    fate: PutStatus,
 }
 
 /// The puts under way, in the order of their lines, and the server of the next one.
@@ -57,7 +57,7 @@ impl Put {
     fn is_open_at(&self, server: u32) -> bool
         ensures { result ≡ spec.is_open_at server self.now }
     {
-        self.fate == Fate::Open && self.server == server
+        self.fate == PutStatus::Open && self.server == server
     }
 
     // Whether the put waits at the server, for an answer or to be reported as refused.
@@ -65,36 +65,36 @@ impl Put {
         ensures { result ≡ spec.waits_at server self.now }
     {
         let waits = match self.fate {
-            Fate::Open => true,
-            Fate::Refused(_, _) => true,
-            Fate::Stored(_) => false,
-            Fate::Lost => false,
+            PutStatus::Open => true,
+            PutStatus::Refused(_, _) => true,
+            PutStatus::Stored(_) => false,
+            PutStatus::Lost => false,
         };
         waits && self.server == server
     }
 
     // What is known of the put after these news.
-    fn fate_after(&self, news: News) -> Fate
+    fn fate_after(&self, news: PutEvent) -> PutStatus
         ensures { result ≡ spec.fate_after news self.now }
     {
         match news {
-            News::Stored { server, number, id } => {
+            PutEvent::Stored { server, number, id } => {
                 if self.is_open_at(server) && self.number == number {
-                    return Fate::Stored(id);
+                    return PutStatus::Stored(id);
                 }
             }
-            News::Welcomed { server, last } => {
+            PutEvent::Welcomed { server, last } => {
                 if self.is_open_at(server) && self.number < last {
-                    return Fate::Lost;
+                    return PutStatus::Lost;
                 }
             }
-            News::Refused {
+            PutEvent::Refused {
                 server,
                 code,
                 detail,
             } => {
                 if self.is_open_at(server) {
-                    return Fate::Refused(code, detail);
+                    return PutStatus::Refused(code, detail);
                 }
             }
         }
@@ -153,7 +153,7 @@ impl PutRing {
             server: self.next,
             number,
             message: Message::Out { n: number, tuple },
-            fate: Fate::Open,
+            fate: PutStatus::Open,
         };
         if self.puts.push(put).is_err() {
             return Err(AllocError);
@@ -173,7 +173,7 @@ impl PutRing {
     }
 
     /// Hears what comes of puts.
-    pub(super) fn hears(&mut self, news: News)
+    pub(super) fn hears(&mut self, news: PutEvent)
         ensures puts { self.new.puts.items ≡ map (spec.after news) self.old.puts.items }
         ensures next { self.new.next ≡ self.old.next }
     {
@@ -204,7 +204,7 @@ impl PutRing {
     }
 
     /// Takes the first put, if it is not open any more: its server, and what is known of it.
-    pub(super) fn take(&mut self) -> Option<(u32, Fate)>
+    pub(super) fn take(&mut self) -> Option<(u32, PutStatus)>
         ensures first { result ≡ spec.first_done self.old.puts.items }
         ensures rest { self.new.puts.items ≡ spec.left_after self.old.puts.items }
         ensures next { self.new.next ≡ self.old.next }
@@ -228,7 +228,7 @@ fn turn_after(servers: u32, server: u32) -> u32
 }
 
 // Each put hears the news.
-fn mark(puts: &mut Vec<Put>, news: News)
+fn mark(puts: &mut Vec<Put>, news: PutEvent)
     ensures { puts.new.items ≡ map (spec.after news) puts.old.items }
 {
     for put in puts.iter_mut() {
@@ -237,13 +237,13 @@ fn mark(puts: &mut Vec<Put>, news: News)
 }
 
 // The server of the first put, and what is known of it, if it is not open.
-fn first_done(puts: &[Put]) -> Option<(u32, Fate)>
+fn first_done(puts: &[Put]) -> Option<(u32, PutStatus)>
     ensures { result ≡ spec.first_done puts.now }
 {
     match puts {
         [] => None,
         [first, ..] => {
-            if first.fate == Fate::Open {
+            if first.fate == PutStatus::Open {
                 return None;
             }
             Some((first.server, first.fate))

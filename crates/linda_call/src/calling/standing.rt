@@ -9,7 +9,7 @@ use std::alloc::{AllocError, Global};
 
 /// What answers the last numbered message that a server was sent.
 #[derive(Clone, Copy, Debug, PartialEq, Eq)]
-pub(super) enum Wants {
+pub(super) enum AwaitedReply {
     /// Nothing is unanswered.
     Nothing,
     /// A tuple is stored.
@@ -43,7 +43,7 @@ pub(super) struct ServerStanding {
     /// The last number that the server was sent; 0 if none was.
     pub(super) sent: u64,
     /// What answers that, if it is unanswered.
-    pub(super) wants: Wants,
+    pub(super) wants: AwaitedReply,
     /// Asks were sent there again during this synchronization.
     pub(super) asked_again: bool,
 }
@@ -54,7 +54,7 @@ const UNMET: ServerStanding = ServerStanding {
     base: 0,
     kept: 0,
     sent: 0,
-    wants: Wants::Nothing,
+    wants: AwaitedReply::Nothing,
     asked_again: false,
 };
 
@@ -151,9 +151,9 @@ impl ServerStanding {
         ensures { self.new ≡ spec.sent_on message.now self.old }
     {
         match message {
-            Message::Out { n, .. } => self.waits_for(*n, Wants::Stored),
-            Message::Accept { n, id, .. } => self.waits_for(*n, Wants::Taken(*id)),
-            Message::Leave { n } => self.waits_for(*n, Wants::Left),
+            Message::Out { n, .. } => self.waits_for(*n, AwaitedReply::Stored),
+            Message::Accept { n, id, .. } => self.waits_for(*n, AwaitedReply::Taken(*id)),
+            Message::Leave { n } => self.waits_for(*n, AwaitedReply::Left),
             _ => {}
         }
     }
@@ -165,13 +165,13 @@ impl ServerStanding {
         ensures after { self.new ≡ spec.put_beside self.old }
     {
         self.sent = self.kept.max(self.sent).saturating_add(1);
-        self.wants = Wants::Stored;
+        self.wants = AwaitedReply::Stored;
         self.base = self.base.saturating_add(1);
         self.sent
     }
 
     // The server is sent a message of this number, which is to be answered so.
-    fn waits_for(&mut self, n: u64, wants: Wants)
+    fn waits_for(&mut self, n: u64, wants: AwaitedReply)
         ensures { self.new ≡ record self.old { sent = max self.old.sent n; wants = wants } }
     {
         self.sent = self.sent.max(n);
@@ -203,24 +203,24 @@ impl ServerStanding {
         if let Some(number) = number {
             self.kept = self.kept.max(number);
             if number >= self.sent {
-                self.wants = Wants::Nothing;
+                self.wants = AwaitedReply::Nothing;
             }
         }
     }
 }
 
 // Whether the reply can answer what is wanted.
-fn fits(wants: Wants, reply: &Reply) -> bool
+fn fits(wants: AwaitedReply, reply: &Reply) -> bool
     ensures { result ≡ spec.fits wants reply.now }
 {
     match wants {
-        Wants::Nothing => true,
-        Wants::Stored => matches!(reply, Reply::Stored { .. }),
-        Wants::Taken(wanted) => match reply {
+        AwaitedReply::Nothing => true,
+        AwaitedReply::Stored => matches!(reply, Reply::Stored { .. }),
+        AwaitedReply::Taken(wanted) => match reply {
             Reply::Taken { id, .. } => *id == wanted,
             Reply::Gone { .. } => true,
             _ => false,
         },
-        Wants::Left => matches!(reply, Reply::Left { .. }),
+        AwaitedReply::Left => matches!(reply, Reply::Left { .. }),
     }
 }

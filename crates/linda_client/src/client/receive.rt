@@ -12,7 +12,7 @@ ghost use Rattle.linda_client.specs.React.{got_by_read, react};
 ghost use Rattle.linda_client.specs.Reaction.{Does, commitment};
 
 use super::Client;
-use crate::arrived_tuple::{Accepted, Arriving};
+use crate::arrived_tuple::{ArrivedTupleRef, PendingAccept};
 use crate::ask::Ask;
 use crate::fault::ClientFault;
 use crate::outcome::Got;
@@ -61,10 +61,18 @@ impl Client {
             Reply::Welcome { .. } => Ok(Reaction::quiet(alloc)),
             Reply::Stored { n, id } => Ok(self.stored(alloc, server, *n, *id)),
             Reply::Offer { ticket, id, tuple } => {
-                self.arrived(alloc, true, Arriving::new(server, *ticket, *id, tuple))
+                self.arrived(
+                    alloc,
+                    true,
+                    ArrivedTupleRef::new(server, *ticket, *id, tuple),
+                )
             }
             Reply::Read { ticket, id, tuple } => {
-                self.arrived(alloc, false, Arriving::new(server, *ticket, *id, tuple))
+                self.arrived(
+                    alloc,
+                    false,
+                    ArrivedTupleRef::new(server, *ticket, *id, tuple),
+                )
             }
             Reply::Taken { n, id, tuple } => self.taken(alloc, server, *n, *id, tuple),
             Reply::Gone { n } => self.gone(alloc, server, *n),
@@ -80,7 +88,7 @@ impl Client {
         &mut self,
         alloc: Global,
         remove: bool,
-        arriving: Arriving,
+        arriving: ArrivedTupleRef,
     ) -> Result<Reaction, ClientFault>
         requires { arriving.server < servers self.old }
         ensures { Does self.old result self.new
@@ -108,7 +116,7 @@ impl Client {
     }
 
     // An arrival is saved, unless it is saved already.
-    fn keep(&mut self, alloc: Global, arriving: Arriving) -> Result<Reaction, ClientFault>
+    fn keep(&mut self, alloc: Global, arriving: ArrivedTupleRef) -> Result<Reaction, ClientFault>
         requires pending { IsSome (pending_in self.old.task) }
         requires server { arriving.server < servers self.old }
         requires fits { OfPending self.old (λ p. FitsOpen p (arrival_of arriving)) }
@@ -144,7 +152,7 @@ impl Client {
             return Err(ClientFault::Spent);
         }
         let packets = one_packet(alloc, server, Message::Accept { n, ticket, id })?;
-        self.accept(Accepted {
+        self.accept(PendingAccept {
             server,
             n,
             ticket,
@@ -232,7 +240,7 @@ impl Client {
 }
 
 // An arrival for a ticket that is not open: an offer is cancelled, and a copy ignored.
-fn stray(alloc: Global, remove: bool, arriving: Arriving) -> Result<Reaction, ClientFault>
+fn stray(alloc: Global, remove: bool, arriving: ArrivedTupleRef) -> Result<Reaction, ClientFault>
     ensures { (c : seen.Client)
         → Does c result c (Ok (spec.on_stray c remove (arrival_of arriving.entry))) }
 {
@@ -251,7 +259,7 @@ fn copied(
     servers: u32,
     pending: &Pending,
     ask: &Ask,
-    arriving: Arriving,
+    arriving: ArrivedTupleRef,
 ) -> Result<Reaction, AllocError>
     requires { Matches ask.now.template arriving.tuple.now }
     ensures packets { IfOk result (λ r. r.packets.items ≡ cancels_but servers None pending.now) }

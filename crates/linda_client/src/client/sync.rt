@@ -17,7 +17,7 @@ use crate::outcome::Outcome;
 use crate::pending::Pending;
 use crate::reaction::Reaction;
 use crate::ready::first_ready;
-use linda_event::{Event, EventFault, ask_count, check, is_any_ready};
+use linda_event::{Event, EventFault, ask_count, check, has_ready_base};
 use linda_wire::NUMBER_LIMIT;
 use std::alloc::Global;
 
@@ -82,7 +82,7 @@ impl Client {
         ensures { result ≡ lacks_tickets self.now (tree_of event.now) }
     {
         let lacks = ask_count(event) as u64 > NUMBER_LIMIT - self.ticket();
-        lacks && !is_any_ready(event, self.clock())
+        lacks && !has_ready_base(event, self.clock())
     }
 }
 

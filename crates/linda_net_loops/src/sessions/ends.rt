@@ -16,8 +16,8 @@ use std::sync::ledger::Ledger;
 impl<S: Socket, L: Ledger> Sessions<S, L> {
     /// Writes what is to be written, and lets go those connections that are over.
     pub(crate) fn flush<R: Wait>(&mut self, rt: &R, directory: &LoopDirectory) {
-        for _ in 0..self.touched.len() {
-            let Some(key) = self.touched.pop() else {
+        for _ in 0..self.to_write.len() {
+            let Some(key) = self.to_write.pop() else {
                 return;
             };
             self.flush_one(rt, directory, key);
@@ -39,7 +39,7 @@ impl<S: Socket, L: Ledger> Sessions<S, L> {
         if connection.is_over() {
             connection.shut();
             self.let_go(key);
-            directory.counters.ends();
+            directory.counters.count_end();
             if let Some(inbox) = directory.get(self.index) {
                 inbox.loses();
             }
@@ -91,7 +91,7 @@ impl<S: Socket, L: Ledger> Sessions<S, L> {
                 let holds_any = connection.holds_any(rt, shared);
                 if connection.is_late(look, seconds, holds_any) {
                     connection.end_with(None);
-                    counters.lapses();
+                    counters.count_lapse();
                     self.touch(key);
                 }
             }

@@ -56,7 +56,7 @@ impl<S: Socket, L: Ledger> Sessions<S, L> {
 
     /// How many bytes clients were given since this was asked last.
     pub(crate) fn take_told(&mut self) -> u64 {
-        std::mem::replace(&mut self.told, 0)
+        std::mem::replace(&mut self.bytes_sent, 0)
     }
 
     /// Takes what other loops handed to this one.
@@ -80,7 +80,9 @@ impl<S: Socket, L: Ledger> Sessions<S, L> {
         };
         if let Some(connection) = self.connections.get_mut(key) {
             for reply in sent.into_replies() {
-                self.told = self.told.saturating_add(connection.tell(counters, &reply));
+                self.bytes_sent = self
+                    .bytes_sent
+                    .saturating_add(connection.tell(counters, &reply));
             }
         }
         self.touch(key);

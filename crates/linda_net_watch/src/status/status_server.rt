@@ -1,6 +1,6 @@
 //! Station that answers questions about the server over HTTP.
 
-use super::{PageQuery, PageResult, Status, StatusPages};
+use super::{PageQuery, PageStatus, Status, StatusPages};
 use linda_disk::Disk;
 use linda_net_http::{HttpServer, PageSource};
 use linda_net_marks::Counters;
@@ -65,7 +65,7 @@ impl<'a, D: Disk, L: Ledger, A: StatusPages> PageSource for StatusSource<'a, D, 
         rt: &R,
         asked: PageQuery<'_>,
         page: &mut String,
-    ) -> Result<PageResult, AllocError> {
+    ) -> Result<PageStatus, AllocError> {
         let tally = self.counters.tally();
         self.teller.spell(rt, self.shared, &tally, asked, page)
     }

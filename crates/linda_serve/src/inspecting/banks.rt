@@ -22,7 +22,7 @@ const FRONT: usize = LENGTH_PLACE;
 
 /// The bytes of both banks; none of a file that is missing.
 #[derive(Drop)]
-pub(super) struct Banks {
+pub(super) struct BankBytes {
     pub left: Vec<u8>,
     pub right: Vec<u8>,
 }
@@ -37,7 +37,7 @@ pub(super) fn read_banks<F: Files<File = File>>(
     files: &F,
     alloc: Global,
     folder: &str,
-) -> Result<Banks, ServingFault> {
+) -> Result<BankBytes, ServingFault> {
     if File::open(files, folder).is_err() {
         return Err(ServingFault::Disk);
     }
@@ -48,7 +48,7 @@ pub(super) fn read_banks<F: Files<File = File>>(
         let left = read_bank(files, alloc, &left_path)?;
         let right = read_bank(files, alloc, &right_path)?;
         if begins_so(files, &left_path, &left)? && begins_so(files, &right_path, &right)? {
-            return Ok(Banks { left, right });
+            return Ok(BankBytes { left, right });
         }
     }
     Err(ServingFault::InUse)

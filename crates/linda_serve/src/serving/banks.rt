@@ -9,12 +9,12 @@ use std::os::unix::fs::MetadataExt;
 /// The files of both banks, open beside those that are written; one that cannot be opened is not
 /// looked at.
 #[derive(Drop)]
-pub(super) struct Banks {
+pub(super) struct WatchedBanks {
     left: Option<File>,
     right: Option<File>,
 }
 
-impl Banks {
+impl WatchedBanks {
     /// Those of the store in a folder.
     ///
     /// # Errors
@@ -24,10 +24,10 @@ impl Banks {
         files: &F,
         alloc: Global,
         folder: &str,
-    ) -> Result<Banks, AllocError> {
+    ) -> Result<WatchedBanks, AllocError> {
         let left = format!(in alloc; "{folder}/{LEFT}")?;
         let right = format!(in alloc; "{folder}/{RIGHT}")?;
-        Ok(Banks {
+        Ok(WatchedBanks {
             left: File::open(files, left.as_str()).ok(),
             right: File::open(files, right.as_str()).ok(),
         })

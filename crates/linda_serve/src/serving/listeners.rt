@@ -1,10 +1,10 @@
 //! Listeners of a server: on its port and on its unix socket, and the line that says where.
 
-use super::ServePlan;
 use super::address::{of_this_machine, ready_line, ready_line_at};
 use super::fault::ServingFault;
-use super::socket::{OwnFile, SocketFile, file_at, listen_at};
+use super::socket::{OwnFile, file_at, listen_at};
 use linda_net::ListeningSockets;
+use linda_serve_plan::{ServePlan, SocketFile};
 use std::alloc::Global;
 use std::fs::{File, Files};
 use std::io::Write;
@@ -16,28 +16,23 @@ use std::os::unix::net::UnixListener;
 /// # Errors
 ///
 /// `Io`: one of them cannot be listened on. `Memory`.
-pub(super) fn listen<
+pub(super) fn bind_listeners<
     F: Files<File = File> + Net,
     S: Net<Listener = TcpListener, Stream = TcpStream>,
->(
-    files: &F,
-    rt: &S,
-    alloc: Global,
-    plan: &ServePlan<'_>,
-) -> Result<ListeningSockets, ServingFault> {
+>(files: &F, rt: &S, alloc: Global, plan: &ServePlan) -> Result<ListeningSockets, ServingFault> {
     let port = match plan.port {
         Some(port) => Some(listen_on(rt, port)?),
         None => None,
     };
-    let socket = match plan.socket {
-        Some(socket) => Some(listen_at(files, alloc, socket)?),
+    let socket = match &plan.socket {
+        Some(socket) => Some(listen_at(files, alloc, &socket.path, socket.mode)?),
         None => None,
     };
     Ok(ListeningSockets { port, socket })
 }
 
 /// Keeps the socket open until its file is removed, so that nobody replaces it before.
-pub(super) fn kept_open(listeners: &ListeningSockets) -> Option<UnixListener> {
+pub(super) fn keep_socket_open(listeners: &ListeningSockets) -> Option<UnixListener> {
     let socket = listeners.socket.as_ref()?;
     socket.try_clone().ok()
 }
@@ -45,7 +40,7 @@ pub(super) fn kept_open(listeners: &ListeningSockets) -> Option<UnixListener> {
 /// The listener of a port whose connections have two threads each, if the plan wants that.
 pub(super) fn by_threads<'a>(
     listeners: &'a ListeningSockets,
-    plan: &ServePlan<'_>,
+    plan: &ServePlan,
 ) -> Option<&'a TcpListener> {
     if !plan.by_threads || listeners.socket.is_some() {
         return None;
@@ -73,9 +68,9 @@ pub(super) fn listen_on<S: Net<Listener = TcpListener, Stream = TcpStream>>(
 }
 
 /// The file of a socket that is listened on, if there is one.
-pub(super) fn own_file<F: Files>(files: &F, socket: Option<SocketFile<'_>>) -> Option<OwnFile> {
+pub(super) fn own_file<F: Files>(files: &F, socket: Option<&SocketFile>) -> Option<OwnFile> {
     let socket = socket?;
-    file_at(files, socket.path)
+    file_at(files, &socket.path)
 }
 
 /// On which port it listens, if it does.

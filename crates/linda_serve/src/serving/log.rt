@@ -1,6 +1,6 @@
 //! The log of a server: a line for what happens, `TIME EVENT key value key value ..`.
 
-use super::banks::Banks;
+use super::banks::WatchedBanks;
 use super::minutes::Counted;
 use super::stamp::stamp_now;
 use linda_disk::FileTrouble;
@@ -32,7 +32,7 @@ pub struct Log<'a, W: Write> {
     sink: Option<&'a mut W>,
     text: String,
     before: Counted,
-    banks: Option<Banks>,
+    banks: Option<WatchedBanks>,
     is_removed: bool,
 }
 
@@ -50,7 +50,7 @@ impl<'a, W: Write> Log<'a, W> {
     }
 
     /// It is looked once a minute whether these are still in a folder.
-    pub(super) fn watch(&mut self, banks: Banks) {
+    pub(super) fn watch(&mut self, banks: WatchedBanks) {
         self.banks = Some(banks);
     }
 

@@ -16,16 +16,8 @@ const TRIES: u32 = 10;
 /// Who may go into that folder: its owner.
 const PRIVATE: u32 = 0o700;
 
-/// A unix socket: its path, and the mode of its file, which says who may connect.
-#[derive(Clone, Copy, Debug)]
-pub struct SocketFile<'a> {
-    /// Its path.
-    pub path: &'a str,
-    /// The mode of its file: nine bits, as those of `chmod`.
-    pub mode: u32,
-}
-
-/// Listens on a unix socket. It is made in a folder that nobody else may go into, and gets its mode
+/// Listens on a unix socket at a path, whose file has this mode. It is made in a folder that nobody
+/// else may go into, and gets its mode
 /// there, and then its path: so nobody connects whom the mode keeps out. What is left at the path
 /// of a server that was killed is replaced. All else that is there stays.
 ///
@@ -36,12 +28,13 @@ pub struct SocketFile<'a> {
 pub(super) fn listen_at<R: Files + Net>(
     rt: &R,
     alloc: Global,
-    socket: SocketFile<'_>,
+    path: &str,
+    mode: u32,
 ) -> Result<UnixListener, ServingFault> {
-    make_way(rt, socket.path)?;
-    let folder = private_folder(rt, alloc, socket.path)?;
+    make_way(rt, path)?;
+    let folder = private_folder(rt, alloc, path)?;
     let made = format!(in alloc; "{folder}/s")?;
-    let listener = listen_in(rt, &made, socket);
+    let listener = listen_in(rt, &made, path, mode);
     let _ = fs::remove_file(rt, made.as_str()).is_err();
     let _ = fs::remove_dir(rt, folder.as_str()).is_err();
     listener
@@ -75,16 +68,17 @@ pub(super) fn remove<R: Files>(rt: &R, path: &str, own: Option<OwnFile>) {
 fn listen_in<R: Files + Net>(
     rt: &R,
     made: &str,
-    socket: SocketFile<'_>,
+    path: &str,
+    mode: u32,
 ) -> Result<UnixListener, ServingFault> {
     let Ok(listener) = UnixListener::bind(rt, made) else {
         return Err(ServingFault::Io);
     };
-    let permissions = Permissions::from_mode(socket.mode);
+    let permissions = Permissions::from_mode(mode);
     if fs::set_permissions(rt, made, permissions).is_err() {
         return Err(ServingFault::Io);
     }
-    if fs::hard_link(rt, made, socket.path).is_err() {
+    if fs::hard_link(rt, made, path).is_err() {
         return Err(ServingFault::Io);
     }
     Ok(listener)

@@ -80,8 +80,8 @@ pub(super) fn open_to_serve<F: Files<File = File>, C: Clock>(
         Some(base) => base,
         None => server.used(),
     };
-    if found.torso.is_some() {
-        return put_off(server, base, found.torso, None);
+    if found.partial_bank.is_some() {
+        return put_off(server, base, found.partial_bank, None);
     }
     let end = server.used();
     if !is_worth_it(base, end) {
@@ -117,7 +117,7 @@ fn try_again<C: Clock>(
         Err(Hindrance::Fault(fault)) => Err(fault),
         Err(Hindrance::Room(trouble)) => {
             let (server, found) = banks.open_store(alloc)?;
-            put_off(server, base, found.torso, Some(trouble))
+            put_off(server, base, found.partial_bank, Some(trouble))
         }
     }
 }
@@ -141,7 +141,7 @@ fn as_it_is(server: Durable<FileDisk>, base: usize) -> Begun
 fn put_off(
     server: Durable<FileDisk>,
     base: usize,
-    torso: Option<u64>,
+    partial_bank: Option<u64>,
     trouble: Option<BankTrouble>,
 ) -> Result<Begun, ServingFault>
     ensures up { IfOk result (λ begun. begun.server.down ≡ false) }
@@ -152,7 +152,7 @@ fn put_off(
         server,
         course: Course {
             base,
-            put_off: Some(room_of(torso)),
+            put_off: Some(room_of(partial_bank)),
             taken: None,
             trouble,
         },
@@ -161,11 +161,11 @@ fn put_off(
 
 // Half of the room that a snapshot had that was cut off; one byte at least, which the next record
 // has.
-fn room_of(torso: Option<u64>) -> usize
-    ensures half { IfSome torso (λ len. 2 ≤ len → result ≡ len / 2) }
+fn room_of(partial_bank: Option<u64>) -> usize
+    ensures half { IfSome partial_bank (λ len. 2 ≤ len → result ≡ len / 2) }
     ensures some { 1 ≤ result }
 {
-    match torso {
+    match partial_bank {
         Some(len) if len >= 2 => (len / 2) as usize,
         Some(_) => 1,
         None => 1,

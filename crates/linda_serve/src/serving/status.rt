@@ -1,10 +1,10 @@
 //! Status of a server: a port or a unix socket, and what is said there.
 
-use super::StatusAt;
 use super::fault::ServingFault;
 use super::listeners::listen_on;
-use super::socket::{OwnFile, SocketFile, file_at, listen_at};
+use super::socket::{OwnFile, file_at, listen_at};
 use linda_net::{Listener, Status};
+use linda_serve_plan::StatusPlace;
 use linda_status::{About, Pages};
 use std::alloc::Global;
 use std::fs::{File, Files};
@@ -27,23 +27,15 @@ pub(super) fn listen_for_status<
     files: &F,
     rt: &S,
     alloc: Global,
-    status: Option<StatusAt<'_>>,
+    status: Option<&StatusPlace>,
 ) -> Result<Option<Listener>, ServingFault> {
     match status {
-        Some(StatusAt::Port(port)) => Ok(Some(Listener::Port(listen_on(rt, port)?))),
-        Some(StatusAt::Path(path)) => {
-            let socket = listen_at(files, alloc, place_of_status(path))?;
+        Some(StatusPlace::Port(port)) => Ok(Some(Listener::Port(listen_on(rt, *port)?))),
+        Some(StatusPlace::Path(path)) => {
+            let socket = listen_at(files, alloc, path, STATUS_MODE)?;
             Ok(Some(Listener::Socket(socket)))
         }
         None => Ok(None),
-    }
-}
-
-// The unix socket with this path where it is asked how the server does.
-fn place_of_status(path: &str) -> SocketFile<'_> {
-    SocketFile {
-        path,
-        mode: STATUS_MODE,
     }
 }
 
@@ -62,14 +54,14 @@ pub(super) fn kept_status(asked: &Result<Option<Listener>, ServingFault>) -> Opt
 pub(super) fn own_file_of_status<F: Files>(
     files: &F,
     asked: &Result<Option<Listener>, ServingFault>,
-    status: Option<StatusAt<'_>>,
+    status: Option<&StatusPlace>,
 ) -> Option<OwnFile> {
     if asked.is_err() {
         return None;
     }
     match status {
-        Some(StatusAt::Path(path)) => file_at(files, path),
-        Some(StatusAt::Port(_)) => None,
+        Some(StatusPlace::Path(path)) => file_at(files, path),
+        Some(StatusPlace::Port(_)) => None,
         None => None,
     }
 }

@@ -55,7 +55,7 @@ pub(super) struct FoundBanks {
     pub(super) base: Option<usize>,
     /// How many bytes there are of a snapshot that was cut off: the other file is no bank, and
     /// longer than a closed gate.
-    pub(super) torso: Option<u64>,
+    pub(super) partial_bank: Option<u64>,
 }
 
 impl BankFiles {
@@ -98,7 +98,7 @@ impl BankFiles {
             Some(false) => found_in(&self.left, &self.right),
             None => FoundBanks {
                 base: None,
-                torso: None,
+                partial_bank: None,
             },
         };
         let left = as_disk(alloc, self.left.try_clone(), side == Some(false))?;
@@ -131,7 +131,7 @@ impl BankFiles {
 fn found_in(used: &File, other: &File) -> FoundBanks {
     FoundBanks {
         base: base_in(used),
-        torso: torso_in(other),
+        partial_bank: partial_bank_len(other),
     }
 }
 
@@ -154,7 +154,7 @@ fn cut_rest(file: &File, end: usize) -> Result<(), ServingFault> {
 
 // The first bytes of an open file, as many as each bank has before its snapshot; nothing if it is
 // shorter or cannot be read.
-fn front_of(file: &File) -> Option<[u8; MIN_BYTES]> {
+fn read_bank_header(file: &File) -> Option<[u8; MIN_BYTES]> {
     let mut front = [0; MIN_BYTES];
     match file.read_exact_at(&mut front, 0) {
         Ok(()) => Some(front),
@@ -165,7 +165,7 @@ fn front_of(file: &File) -> Option<[u8; MIN_BYTES]> {
 // How many bytes the bank in an open file took when it was new: its first ones and its snapshot,
 // whose length they say last.
 fn base_in(file: &File) -> Option<usize> {
-    let front = front_of(file)?;
+    let front = read_bank_header(file)?;
     Some(base_of(&front))
 }
 
@@ -177,14 +177,14 @@ fn base_of(front: &[u8; MIN_BYTES]) -> usize {
 
 // What an open file begins with: no bank if it is shorter or cannot be read.
 fn heading_in(file: &File) -> Heading {
-    match front_of(file) {
+    match read_bank_header(file) {
         Some(front) => read_heading(&front),
         None => Heading::NoBank,
     }
 }
 
 // How many bytes an open file has, if it is no bank, and is longer than a closed gate.
-fn torso_in(file: &File) -> Option<u64> {
+fn partial_bank_len(file: &File) -> Option<u64> {
     if heading_in(file) != Heading::NoBank {
         return None;
     }

@@ -4,9 +4,10 @@
 ghost use Rattle.std.specs.Prelude.{◌≡◌, false, IfOk};
 ghost use Rattle.std.specs.Duration.{as_nanos};
 
+use super::ServingFault;
 use super::log::Log;
 use super::start::{Begun, open_to_serve};
-use super::{ServePlan, ServingFault};
+use linda_serve_plan::ServePlan;
 use std::alloc::Global;
 use std::fs::{File, Files};
 use std::io::Write;
@@ -29,18 +30,18 @@ pub(super) fn open_when_free<F: Files<File = File>, S: Wait + Clock, E: Write>(
     rt: &S,
     alloc: Global,
     log: &mut Log<'_, E>,
-    plan: &ServePlan<'_>,
+    plan: &ServePlan,
 ) -> Result<Begun, ServingFault>
     ensures up { IfOk result (λ begun. begun.server.down ≡ false) }
 {
-    let first = open_to_serve(files, rt, alloc, plan.folder);
+    let first = open_to_serve(files, rt, alloc, &plan.folder);
     if !plan.waits || !is_in_use(&first) {
         return first;
     }
     log.tell_waiting(rt);
     for _ in rt.forever() {
         thread::sleep(rt, pause());
-        let opened = open_to_serve(files, rt, alloc, plan.folder);
+        let opened = open_to_serve(files, rt, alloc, &plan.folder);
         if !is_in_use(&opened) {
             return opened;
         }

@@ -33,11 +33,11 @@ impl<D: Disk, L: Ledger> Shared<D, L> {
         // What comes out of the outlet was for the seat's client.
         ensures outlet { IfOk result HasOwnOutlet }
     {
-        let mut guard = self.locked.lock(rt);
-        let greeted = self.welcome(rt, &mut guard.held, message);
-        let is_down = guard.held.is_down();
-        drop(guard);
-        self.end_where(rt, is_down);
+        let (greeted, _) = with_locked!(
+            self,
+            rt,
+            |locked| self.welcome(rt, &mut locked.held, message)
+        );
         greeted
     }
 
@@ -61,7 +61,7 @@ impl<D: Disk, L: Ledger> Shared<D, L> {
         if held.is_down() {
             return Err(SharedFault::Down);
         }
-        let Ok((mine, theirs, out)) = owners(self.alloc, client_in(message)) else {
+        let Ok((mine, theirs, out)) = new_mailbox_handles(self.alloc, client_in(message)) else {
             return Err(SharedFault::Memory);
         };
         let mut router = self.router.lock(rt);
@@ -136,8 +136,8 @@ fn is_welcome<L: Ledger>(greeted: &Result<Greeted<L>, SharedFault>) -> bool {
     matches!(greeted, Ok(Greeted::Welcome(..)))
 }
 
-// Three owners of one new mailbox of the client.
-fn owners<L: Ledger>(
+// Three handles of one new mailbox of the client.
+fn new_mailbox_handles<L: Ledger>(
     alloc: Global,
     client: u32,
 ) -> Result<

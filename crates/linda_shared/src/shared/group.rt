@@ -40,11 +40,7 @@ impl<D: Disk, L: Ledger> Shared<D, L> {
         // so the account is of the Hello's client, and nothing of it is on its way.
         ensures account { IfOk result (λ a. IsSeatOf message.now (admission_of a)) }
     {
-        let mut guard = self.locked.lock(rt);
-        let answer = guard.held.greet(self.alloc, message);
-        let is_down = guard.held.is_down();
-        drop(guard);
-        self.end_where(rt, is_down);
+        let (answer, _) = with_locked!(self, rt, |locked| locked.held.greet(self.alloc, message));
         answer
     }
 
@@ -68,15 +64,13 @@ impl<D: Disk, L: Ledger> Shared<D, L> {
         // and so a deed is one that its own message asks for.
         ensures own { All (λ a. IsEffectOf a.0 a.1.told) result.0.answers }
     {
-        let mut guard = self.locked.lock(rt);
-        let locked = &mut *guard;
-        posts.begin();
-        let served = group.serve(self.alloc, &mut locked.held);
-        locked.post_all(rt, self.alloc, posts);
-        locked.forget(self.alloc, served.len());
-        let is_down = locked.held.is_down();
-        drop(guard);
-        self.end_where(rt, is_down);
+        let (served, is_down) = with_locked!(self, rt, |locked| {
+            posts.begin();
+            let served = group.serve(self.alloc, &mut locked.held);
+            locked.post_all(rt, self.alloc, posts);
+            locked.forget(self.alloc, served.len());
+            served
+        });
         (served, !is_down)
     }
 
@@ -88,13 +82,10 @@ impl<D: Disk, L: Ledger> Shared<D, L> {
         account: Account<L>,
         posts: &mut P,
     ) -> bool {
-        let mut guard = self.locked.lock(rt);
-        let locked = &mut *guard;
-        let _ = locked.held.leave(self.alloc, account);
-        locked.post_all(rt, self.alloc, posts);
-        let is_down = locked.held.is_down();
-        drop(guard);
-        self.end_where(rt, is_down);
+        let (_, is_down) = with_locked!(self, rt, |locked| {
+            let _ = locked.held.leave(self.alloc, account);
+            locked.post_all(rt, self.alloc, posts);
+        });
         !is_down
     }
 }

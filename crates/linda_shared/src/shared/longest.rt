@@ -1,8 +1,8 @@
-//! Longest waits and holds of the server.
+//! LongestWaitsAndHolds waits and holds of the server.
 
 use super::Shared;
 use linda_disk::Disk;
-use linda_shared_listing::Longest;
+use linda_shared_listing::LongestWaitsAndHolds;
 use std::alloc::AllocError;
 use std::sync::Wait;
 use std::sync::ledger::Ledger;
@@ -18,7 +18,7 @@ impl<D: Disk, L: Ledger> Shared<D, L> {
         &self,
         rt: &R,
         limit: usize,
-    ) -> Result<Option<Longest>, AllocError> {
+    ) -> Result<Option<LongestWaitsAndHolds>, AllocError> {
         let guard = self.locked.lock(rt);
         if guard.held.is_down() {
             return Ok(None);

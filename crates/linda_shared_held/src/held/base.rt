@@ -114,7 +114,7 @@ impl<D: Disk, L: Ledger> Held<D, L> {
             × (self.new.recall ≡ self.old.recall) }
     {
         self.policy
-            .defers(self.server.records(), self.server.used(), room);
+            .defer(self.server.records(), self.server.used(), room);
     }
 
     /// The bank in use took `base` bytes when it was new: its bytes are counted from there on. What
@@ -163,7 +163,8 @@ impl<D: Disk, L: Ledger> Held<D, L> {
             ≡ tried_at (records_in_use self.old.server.disks) (end_in_use self.old.server.disks)
             self.old.policy) }
     {
-        self.policy.tries(self.server.records(), self.server.used());
+        self.policy
+            .record_attempt(self.server.records(), self.server.used());
         take_snapshot(&mut self.server, alloc)?;
         self.move_base(alloc);
         self.policy = new_policy(&self.server);

@@ -46,7 +46,7 @@ impl<D: Disk, L: Ledger> Held<D, L> {
     }
 
     /// Gives back the memory of so many receipts that were forgotten. Nothing else changes.
-    pub fn let_go(&mut self, most: usize)
+    pub fn free_forgotten(&mut self, most: usize)
         ensures gone { self.new.gone.items
             ≡ take (vec_len self.old.gone - most) self.old.gone.items }
         ensures same { (self.new.opening.value ≡ self.old.opening.value)

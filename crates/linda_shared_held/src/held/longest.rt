@@ -1,11 +1,11 @@
-//! Longest waits and holds under the lock.
+//! LongestWaitsAndHolds waits and holds under the lock.
 
 ghost use Rattle.std.specs.Prelude.{IfOk};
 ghost use Rattle.linda_shared_listing.specs.Longest.{IsLongest};
 
 use super::Held;
 use linda_disk::Disk;
-use linda_shared_listing::{Longest, list_longest};
+use linda_shared_listing::{LongestWaitsAndHolds, list_longest};
 use std::alloc::{AllocError, Global};
 use std::sync::ledger::Ledger;
 
@@ -16,7 +16,11 @@ impl<D: Disk, L: Ledger> Held<D, L> {
     /// # Errors
     ///
     /// `AllocError` if memory runs out.
-    pub fn list_longest(&self, alloc: Global, limit: usize) -> Result<Longest, AllocError>
+    pub fn list_longest(
+        &self,
+        alloc: Global,
+        limit: usize,
+    ) -> Result<LongestWaitsAndHolds, AllocError>
         ensures { IfOk result (IsLongest self.now.server.store.state.bag
             self.now.server.store.soft.holds self.now.server.store.soft.waits limit) }
     {

@@ -42,7 +42,8 @@ impl<D: Disk, L: Ledger> Held<D, L> {
             ≡ tried_at (records_in_use self.old.server.disks) (end_in_use self.old.server.disks)
             self.old.policy }
     {
-        self.policy.tries(self.server.records(), self.server.used());
+        self.policy
+            .record_attempt(self.server.records(), self.server.used());
         begin_snapshot(&mut self.server, alloc)
     }
 

@@ -51,7 +51,7 @@ pub(super) fn take<D: Disk>(
     match serve(server, receipts, boxes, alloc, messages) {
         Ok(told) => Ok(told),
         Err(SharedFault::Full) => {
-            policy.refuses();
+            policy.record_refusal();
             serve_each(server, receipts, boxes, alloc, count, messages)
         }
         Err(fault) => Err(fault),

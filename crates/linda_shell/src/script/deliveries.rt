@@ -1,8 +1,8 @@
 //! Deliveries of packets: of each once, after the command that led to it, and again if a command
 //! asks for that.
 
-use super::output::Output;
-use super::{Script, line_fault, print_seen};
+use super::output::LineOutput;
+use super::{Script, line_fault, print_outcome};
 use linda_shell_text::LineFault;
 use linda_world::{Seen, WorldEvent};
 use std::alloc::Global;
@@ -16,7 +16,7 @@ impl Script {
     /// # Errors
     ///
     /// As those of `run_line`.
-    pub(super) fn repeat(&mut self, alloc: Global, out: &mut Output) -> Result<(), LineFault> {
+    pub(super) fn repeat(&mut self, alloc: Global, out: &mut LineOutput) -> Result<(), LineFault> {
         for packet in 0..self.delivered {
             self.deliver(alloc, packet, out)?;
         }
@@ -29,7 +29,11 @@ impl Script {
     /// # Errors
     ///
     /// As those of `run_line`.
-    pub(super) fn deliver_all(&mut self, alloc: Global, out: &mut Output) -> Result<(), LineFault> {
+    pub(super) fn deliver_all(
+        &mut self,
+        alloc: Global,
+        out: &mut LineOutput,
+    ) -> Result<(), LineFault> {
         for _ in 0..MAX_DELIVERIES {
             if self.delivered >= self.world.packets().len() {
                 return Ok(());
@@ -44,7 +48,12 @@ impl Script {
         Ok(())
     }
 
-    fn deliver(&mut self, alloc: Global, packet: usize, out: &mut Output) -> Result<(), LineFault> {
+    fn deliver(
+        &mut self,
+        alloc: Global,
+        packet: usize,
+        out: &mut LineOutput,
+    ) -> Result<(), LineFault> {
         match self.world.step(alloc, WorldEvent::Deliver(packet)) {
             Ok(seen) => self.print_delivery(alloc, packet, &seen, out),
             Err(fault) => Err(line_fault(fault)),
@@ -57,11 +66,11 @@ impl Script {
         alloc: Global,
         packet: usize,
         seen: &Seen,
-        out: &mut Output,
+        out: &mut LineOutput,
     ) -> Result<(), LineFault> {
         if let Some(trace) = out.trace() {
             trace.deliver(alloc, &self.world, packet)?;
         }
-        Ok(print_seen(alloc, seen, out)?)
+        Ok(print_outcome(alloc, seen, out)?)
     }
 }

@@ -1,19 +1,19 @@
-//! Output of a script, and its trace if one is wanted.
+//! LineOutput of a script, and its trace if one is wanted.
 
 use super::trace::Trace;
 use std::alloc::{AllocError, Global};
 
 /// What was printed of a line, and what the trace says of it.
 #[derive(Drop)]
-pub(crate) struct Output {
+pub(crate) struct LineOutput {
     printed: String,
     trace: Option<Trace>,
 }
 
-impl Output {
+impl LineOutput {
     /// Nothing was printed, and no trace is wanted.
-    pub(crate) fn new(alloc: Global) -> Output {
-        Output {
+    pub(crate) fn new(alloc: Global) -> LineOutput {
+        LineOutput {
             printed: String::new(alloc),
             trace: None,
         }
@@ -24,8 +24,8 @@ impl Output {
     /// # Errors
     ///
     /// `AllocError` if memory runs out.
-    pub(crate) fn traced(alloc: Global, servers: u32) -> Result<Output, AllocError> {
-        Ok(Output {
+    pub(crate) fn traced(alloc: Global, servers: u32) -> Result<LineOutput, AllocError> {
+        Ok(LineOutput {
             printed: String::new(alloc),
             trace: Some(Trace::new(alloc, servers)?),
         })
@@ -77,7 +77,7 @@ impl Output {
     pub(crate) fn print(&mut self, lines: &str) -> Result<(), AllocError> {
         self.printed.push_str(lines)?;
         match &mut self.trace {
-            Some(trace) => trace.print(lines),
+            Some(trace) => trace.record_print(lines),
             None => Ok(()),
         }
     }

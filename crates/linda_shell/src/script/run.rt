@@ -6,7 +6,7 @@ ghost use Rattle.linda_client.specs.declared.limits.TheConstants.{MAX_SERVERS};
 
 use super::Script;
 use super::fault::ScriptFault;
-use super::output::Output;
+use super::output::LineOutput;
 use linda_shell_text::LineFault;
 use std::alloc::Global;
 use std::io::{Read, Write, sink};
@@ -36,7 +36,7 @@ pub fn run_script<R: Read, W: Write>(
     let Ok(script) = Script::new(alloc, servers) else {
         return Err(ScriptFault::Memory);
     };
-    let mut lines = Lines::new(alloc, script, Output::new(alloc));
+    let mut lines = Lines::new(alloc, script, LineOutput::new(alloc));
     play(alloc, reader, writer, &mut sink(), &mut lines)
 }
 
@@ -60,10 +60,10 @@ pub fn trace_script<R: Read, W: Write, T: Write>(
     let Ok(script) = Script::new(alloc, servers) else {
         return Err(ScriptFault::Memory);
     };
-    let Ok(out) = Output::traced(alloc, servers) else {
+    let Ok(out) = LineOutput::traced(alloc, servers) else {
         return Err(ScriptFault::Memory);
     };
-    put(tracer, out.told())?;
+    write_and_flush(tracer, out.told())?;
     let mut lines = Lines::new(alloc, script, out);
     lines.out.clear();
     play(alloc, reader, writer, tracer, &mut lines)
@@ -85,13 +85,13 @@ fn play<R: Read, W: Write, T: Write>(
         if count == 0 {
             return lines.end_line(alloc, writer, tracer);
         }
-        lines.take(alloc, &buffer[..count], writer, tracer)?;
+        lines.feed(alloc, &buffer[..count], writer, tracer)?;
     }
     Err(ScriptFault::Turns)
 }
 
 // Writes a text, if there is one, and flushes.
-fn put<W: Write>(writer: &mut W, text: &str) -> Result<(), ScriptFault> {
+fn write_and_flush<W: Write>(writer: &mut W, text: &str) -> Result<(), ScriptFault> {
     if text.is_empty() {
         return Ok(());
     }
@@ -107,12 +107,12 @@ struct Lines {
     script: Script,
     line: Vec<u8>,
     number: u64,
-    out: Output,
+    out: LineOutput,
 }
 
 impl Lines {
     // The first line of a script is still to come.
-    fn new(alloc: Global, script: Script, out: Output) -> Lines {
+    fn new(alloc: Global, script: Script, out: LineOutput) -> Lines {
         Lines {
             script,
             line: Vec::new(alloc),
@@ -122,7 +122,7 @@ impl Lines {
     }
 
     // Takes a piece of the script, and does the lines that end in it.
-    fn take<W: Write, T: Write>(
+    fn feed<W: Write, T: Write>(
         &mut self,
         alloc: Global,
         piece: &[u8],
@@ -150,8 +150,8 @@ impl Lines {
         let done = self
             .script
             .run_line(alloc, self.number, line, &mut self.out);
-        put(writer, self.out.printed())?;
-        put(tracer, self.out.told())?;
+        write_and_flush(writer, self.out.printed())?;
+        write_and_flush(tracer, self.out.told())?;
         if let Err(fault) = done {
             return Err(ScriptFault::Line(self.number, fault));
         }

@@ -1,6 +1,6 @@
 //! Stops of a server, with nothing in hand or inside a snapshot, and snapshots that end.
 
-use super::output::Output;
+use super::output::LineOutput;
 use super::{Script, line_fault};
 use linda_disk::Torn;
 use linda_shell_text::LineFault;
@@ -17,7 +17,7 @@ impl Script {
         &mut self,
         alloc: Global,
         server: u64,
-        out: &mut Output,
+        out: &mut LineOutput,
     ) -> Result<(), LineFault> {
         let server = self.server(server)?;
         match self.world.step(alloc, WorldEvent::Snapshot(server)) {
@@ -35,7 +35,7 @@ impl Script {
         &mut self,
         alloc: Global,
         server: u64,
-        out: &mut Output,
+        out: &mut LineOutput,
     ) -> Result<(), LineFault> {
         let server = self.server(server)?;
         let event = WorldEvent::Stop {
@@ -58,7 +58,7 @@ impl Script {
         server: u64,
         call: u64,
         byte: u8,
-        out: &mut Output,
+        out: &mut LineOutput,
     ) -> Result<(), LineFault> {
         let server = self.server(server)?;
         let event = WorldEvent::StopSnapshot {
@@ -77,7 +77,7 @@ impl Script {
         server: u32,
         call: Option<u64>,
         event: WorldEvent,
-        out: &mut Output,
+        out: &mut LineOutput,
     ) -> Result<(), LineFault> {
         self.step_unseen(alloc, event)?;
         self.print_stop(alloc, server, call, out)?;
@@ -103,7 +103,7 @@ impl Script {
         alloc: Global,
         server: u32,
         call: Option<u64>,
-        out: &mut Output,
+        out: &mut LineOutput,
     ) -> Result<(), AllocError> {
         if let Some(trace) = out.trace() {
             trace.stop(alloc, &self.world, server, call)?;
@@ -117,7 +117,7 @@ fn print_snapshot(
     alloc: Global,
     server: u32,
     full: bool,
-    out: &mut Output,
+    out: &mut LineOutput,
 ) -> Result<(), LineFault> {
     if let Some(trace) = out.trace() {
         trace.snapshot(server)?;
@@ -131,7 +131,7 @@ fn print_of_server(
     alloc: Global,
     server: u32,
     what: &str,
-    out: &mut Output,
+    out: &mut LineOutput,
 ) -> Result<(), AllocError> {
     let line = format!(in alloc; "server {server} {what}\n")?;
     out.print(&line)

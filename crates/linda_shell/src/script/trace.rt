@@ -126,7 +126,7 @@ impl Trace {
     }
 
     /// Lines are printed, each with its line feed.
-    pub(crate) fn print(&mut self, lines: &str) -> Result<(), AllocError> {
+    pub(crate) fn record_print(&mut self, lines: &str) -> Result<(), AllocError> {
         for line in lines.lines() {
             writeln!(self.lines, "print {line}")?;
         }

@@ -64,7 +64,7 @@ impl<L: Ledger> Line<L> {
         group: &mut MessageGroup<usize, L>,
         way: Way,
     ) -> Result<(), Wrong> {
-        let asked = std::mem::replace(group, MessageGroup::without_room(self.alloc));
+        let asked = std::mem::replace(group, MessageGroup::placeholder(self.alloc));
         let mut posted = Posted::new(self.alloc);
         let (served, is_up) = shared.serve_group(rt, asked, &mut posted);
         let client = client_of(&self.account);

@@ -25,6 +25,6 @@ returns-in-Some-id-clause-least g c = λ k from less has free.
           let under : IsUnder k c.in-Some.part.next = under_lower k _ c.in-Some.part.next (omega (arith, less, p.2)) (begins.below p.0 p.1) in
           let some : IsSome (at rows k) = ap is_some (sym (begins.all k above under)) ∙ has in
           (subst (λ o. IfSome o (λ id. (q : ℕ) → IsSome (at rows q) → q < id
-          → IsFreeMatch (g.S.Stored.rows c.args.tuples.now) c.args.template.now (g.P.IdSet.has c.args.passed.now) q → ⊥))
+          → IsFreeMatch (g.S.TupleLookup.rows c.args.tuples.now) c.args.template.now (g.P.IdSet.has c.args.passed.now) q → ⊥))
           c.in-Some-id.is c.least_in-found.ensures.least) k some less free
     ]

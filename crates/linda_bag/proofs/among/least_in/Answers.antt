@@ -18,7 +18,7 @@ returns-then-is_free-clause-least g c = λ k some less free.
     let rows = c.args.rows.now in
     let i = c.loop-row.row-index in
     let p = place_there rows k some in
-    let Free = IsFreeMatch (g.S.Stored.rows c.args.tuples.now) c.args.template.now (g.P.IdSet.has c.args.passed.now) in
+    let Free = IsFreeMatch (g.S.TupleLookup.rows c.args.tuples.now) c.args.template.now (g.P.IdSet.has c.args.passed.now) in
     elim (cases_lt p.0 i) [
       | inl before ↦ c.loop-row.invariant p.0 before (subst Free (sym p.2) free)
       | inr from ↦ omega (
@@ -34,7 +34,7 @@ pub loop-row-preserved : goal.loop-row-preserved
 loop-row-preserved g c = λ j less free.
     let rows = c.args.rows.now in
     let i = c.loop-row.row-index in
-    let Free = IsFreeMatch (g.S.Stored.rows c.args.tuples.now) c.args.template.now (g.P.IdSet.has c.args.passed.now) in
+    let Free = IsFreeMatch (g.S.TupleLookup.rows c.args.tuples.now) c.args.template.now (g.P.IdSet.has c.args.passed.now) in
     elim (cases_lt j i) [
       | inl before ↦ c.loop-row.invariant j before free
       | inr from ↦
@@ -47,5 +47,5 @@ pub returns-clause-none : goal.returns-clause-none
 returns-clause-none g c = λ k some free.
     let rows = c.args.rows.now in
     let p = place_there rows k some in
-    let Free = IsFreeMatch (g.S.Stored.rows c.args.tuples.now) c.args.template.now (g.P.IdSet.has c.args.passed.now) in
+    let Free = IsFreeMatch (g.S.TupleLookup.rows c.args.tuples.now) c.args.template.now (g.P.IdSet.has c.args.passed.now) in
     c.loop-row.invariant p.0 (omega (arith, p.1, c.loop-row-test.false)) (subst Free (sym p.2) free)

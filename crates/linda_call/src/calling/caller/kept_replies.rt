@@ -3,7 +3,7 @@
 use super::{Caller, write_line};
 use crate::calling::asking::{is_answer, kept_ask};
 use crate::calling::fault::CallFault;
-use crate::calling::kept::{write_kept, write_none};
+use crate::calling::kept::{kept_reply_line, write_none};
 use linda_net_proxy::ServerEvent;
 use std::alloc::Global;
 use std::io::Write;
@@ -51,13 +51,13 @@ impl Caller<'_> {
                 None => {}
                 Some((from, ServerEvent::Came(reply))) if is_answer(from, &reply, server, number) =>
                     {
-                        if let Some(line) = write_kept(alloc, server, client, &reply)? {
+                        if let Some(line) = kept_reply_line(alloc, server, client, &reply)? {
                             return Ok(line);
                         }
                     }
                 Some((from, arrival)) => {
                     let is_greeted = from == server && is_greeting(&arrival);
-                    self.hear(rt, alloc, from, arrival, writer)?;
+                    self.handle_arrival(rt, alloc, from, arrival, writer)?;
                     if is_greeted {
                         self.send(rt, alloc, server, &kept_ask(number))?;
                     }

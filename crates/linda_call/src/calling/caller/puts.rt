@@ -7,7 +7,7 @@ ghost use Rattle.linda_call.specs.Ring as spec;
 use super::{Caller, write_line};
 use crate::calling::fault::CallFault;
 use crate::calling::kept::write_without_id;
-use crate::calling::ring::{Fate, MOST, News};
+use crate::calling::ring::{MOST, PutEvent, PutStatus};
 use linda_client::Outcome;
 use linda_net_proxy::ServerEvent;
 use linda_shell_text::{Request, write_outcome};
@@ -35,7 +35,7 @@ impl Caller<'_> {
         match request {
             Request::Out(tuple) => self.put(rt, alloc, tuple, writer),
             other => {
-                self.finish(rt, alloc, writer)?;
+                self.finish_puts(rt, alloc, writer)?;
                 self.run(rt, alloc, other, writer)
             }
         }
@@ -118,15 +118,15 @@ impl Caller<'_> {
             return Ok(());
         }
         let news = news_in(server, &arrival);
-        let is_refusal = matches!(news, Some(News::Refused { .. }));
+        let is_refusal = matches!(news, Some(PutEvent::Refused { .. }));
         if !is_refusal || !self.ring.waits_at(server) {
-            self.hear(rt, alloc, server, arrival, writer)?;
+            self.handle_arrival(rt, alloc, server, arrival, writer)?;
         }
         let Some(news) = news else {
             return Ok(());
         };
         self.ring.hears(news);
-        if matches!(news, News::Welcomed { .. }) {
+        if matches!(news, PutEvent::Welcomed { .. }) {
             self.put_again(rt, alloc, server)?;
         }
         self.tell_done(alloc, writer)
@@ -150,8 +150,12 @@ impl Caller<'_> {
             };
             let client = self.party.number();
             let line = match fate {
-                Fate::Stored(id) => write_outcome(alloc, client, &Outcome::Stored { server, id })?,
-                Fate::Refused(code, detail) => {
+                PutStatus::Stored(id) => write_outcome(
+                    alloc,
+                    client,
+                    &Outcome::Stored { server, id },
+                )?,
+                PutStatus::Refused(code, detail) => {
                     return Err(CallFault::Refused(server, code, detail));
                 }
                 _ => write_without_id(alloc, server, client)?,
@@ -173,20 +177,20 @@ fn is_gap(arrival: &ServerEvent) -> bool
 }
 
 // What comes of puts by what a server brings.
-fn news_in(server: u32, arrival: &ServerEvent) -> Option<News>
+fn news_in(server: u32, arrival: &ServerEvent) -> Option<PutEvent>
     ensures { result ≡ spec.news_in server arrival.now }
 {
     match arrival {
-        ServerEvent::Greeted(last) => Some(News::Welcomed {
+        ServerEvent::Greeted(last) => Some(PutEvent::Welcomed {
             server,
             last: *last,
         }),
-        ServerEvent::Came(Reply::Stored { n, id }) => Some(News::Stored {
+        ServerEvent::Came(Reply::Stored { n, id }) => Some(PutEvent::Stored {
             server,
             number: *n,
             id: *id,
         }),
-        ServerEvent::Came(Reply::Refused { code, detail }) => Some(News::Refused {
+        ServerEvent::Came(Reply::Refused { code, detail }) => Some(PutEvent::Refused {
             server,
             code: *code,
             detail: *detail,

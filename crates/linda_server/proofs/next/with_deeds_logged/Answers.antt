@@ -8,8 +8,8 @@ pub returns-in-Ok-true-clause-follows : goal.returns-in-Ok-true-clause-follows
 returns-in-Ok-true-clause-follows c st new ranges goes safe = record {
   was = c.in-Some.next;
   is = c.in-Some.is;
-  generation = c.note.ensures.generation;
-  limit = c.note.ensures.limit;
+  generation = c.buffer_deeds.ensures.generation;
+  limit = c.buffer_deeds.ensures.limit;
   place = refl;
   follows = λ front f. c.in-Ok-true.ensures.noted front st new ranges goes
       (λ id taken. subst (λ o. IsSafeIn o st.bag id) c.in-Some.is (safe id taken)) f c.in-Ok-true.field-0-test;

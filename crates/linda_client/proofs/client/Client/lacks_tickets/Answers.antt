@@ -25,8 +25,8 @@ returns-then-lacks c =
     sym (ap (λ t. nat_lt (NUMBER_LIMIT - t) c.ask_count.result) c.ticket.ensures.ticket ∙ ap (λ n. nat_lt (NUMBER_LIMIT - c.args.self.now.ticket) n) count
     ∙ passes_limit c.args.self.now.ticket (length (asks event)) NUMBER_LIMIT within)
     ∙ passes (NUMBER_LIMIT - c.ticket.result) c.ask_count.result c.if-lacks.true in
-    let ready : c.is_any_ready.result ≡ is_some (first_ready c.args.self.now.clock event) =
-    c.is_any_ready.ensures ∙ ap (λ t. list_any (is_ready t) (bases_of event)) c.clock.ensures ∙ any_ready_is c.args.self.now.clock event in
+    let ready : c.has_ready_base.result ≡ is_some (first_ready c.args.self.now.clock event) =
+    c.has_ready_base.ensures ∙ ap (λ t. list_any (is_ready t) (bases_of event)) c.clock.ensures ∙ any_ready_is c.args.self.now.clock event in
     ap not ready ∙ ap (λ b. b && not (is_some (first_ready c.args.self.now.clock event))) (sym lacks)
 
 pub returns-else-lacks : goal.returns-else-lacks

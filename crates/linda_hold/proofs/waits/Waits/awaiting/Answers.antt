@@ -13,7 +13,7 @@ returns-clause-readers c =
     let row = c.args.tuple.now in
     IfOk-weaker c.awaiting_among.result _ _
     (λ a reads. reads
-    ∙ ap (λ waits. map (λ w. w.0) (readers row waits)) c.arrivals.ensures.met
+    ∙ ap (λ waits. map (λ w. w.0) (readers row waits)) c.candidates.ensures.met
     ∙ ap (map (λ w. w.0)) (filter_within (is_reader row) (may_meet row) (λ w is. met_where_matched row w (and_parts _ _ is).1) c.args.self.now))
     c.awaiting_among.ensures.readers
 
@@ -22,6 +22,6 @@ returns-clause-longest c =
     let row = c.args.tuple.now in
     IfOk-weaker c.awaiting_among.result _ _
     (λ a first. first
-    ∙ ap (λ waits. option_map (λ w. w.0) (longest row waits)) c.arrivals.ensures.met
+    ∙ ap (λ waits. option_map (λ w. w.0) (longest row waits)) c.candidates.ensures.met
     ∙ ap (option_map (λ w. w.0)) (find_within (is_taker row) (may_meet row) (λ w is. met_where_matched row w (and_parts _ _ is).1) c.args.self.now))
     c.awaiting_among.ensures.longest

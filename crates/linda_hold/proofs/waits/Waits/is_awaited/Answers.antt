@@ -10,5 +10,5 @@ pub returns : goal.returns
 returns c =
     let row = c.args.tuple.now in
     c.is_answering_one.ensures
-    ∙ ap (is_awaited row) c.arrivals.ensures.met
+    ∙ ap (is_awaited row) c.candidates.ensures.met
     ∙ any_within (λ w. is_match w.1.template row) (may_meet row) (met_where_matched row) c.args.self.now

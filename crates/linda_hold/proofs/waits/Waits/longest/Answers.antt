@@ -11,5 +11,5 @@ pub returns : goal.returns
 returns c =
     let row = c.args.tuple.now in
     c.first_input.ensures
-    ∙ ap (λ waits. option_map (λ w. w.0) (longest row waits)) c.arrivals.ensures.met
+    ∙ ap (λ waits. option_map (λ w. w.0) (longest row waits)) c.candidates.ensures.met
     ∙ ap (option_map (λ w. w.0)) (find_within (is_taker row) (may_meet row) (λ w is. met_where_matched row w (and_parts _ _ is).1) c.args.self.now)

@@ -23,15 +23,15 @@ returns c =
     let i = c.self.inside in
     let front = rw c.in-Some.is at c.in-Ok.ensures.exact in
     let goes = c.place-route.ensures ∙ ap (λ (kind : MessageKind). place i.phase kind c.args.room) c.kind_of.ensures in
-    let is = took_is i.reads.items i.held c.front_of.new.held i.feed c.front_of.new.feed i.takes.items c.and-self-inside.result.items i.tells.items
+    let is = took_is i.reads.items i.held c.next_in_line.new.held i.feed c.next_in_line.new.feed i.takes.items c.and-self-inside.result.items i.tells.items
     i.writes.items i.out i.phase i.end i.may_have c.in-Some.message c.place-route.result _ c.in-Ok.ensures.empty c.and-self-inside.ensures goes in
     record {
       may = sym c.may_take.ensures ∙ c.if-not-may_take.false;
-      rest = c.front_of.new.feed;
-      front = subst (λ (s : Session). message_front s.unread ≡ Whole c.in-Some.message c.front_of.new.feed) c.self.view_is front;
+      rest = c.next_in_line.new.feed;
+      front = subst (λ (s : Session). message_front s.unread ≡ Whole c.in-Some.message c.next_in_line.new.feed) c.self.view_is front;
       goes = subst (λ (s : Session). c.place-route.result.0 ≡ (placed c.args.room c.in-Some.message s).0) c.self.view_is (ap (λ (p : Route × Phase). p.0) goes);
       away = sym c.is_keep.ensures ∙ c.if-is_keep.false;
       leads = subst (λ (s : Session). Leads c.place-route.result.0
-          (took c.in-Some.message c.front_of.new.feed (placed c.args.room c.in-Some.message s) s) c.lead.new.self)
+          (took c.in-Some.message c.next_in_line.new.feed (placed c.args.room c.in-Some.message s) s) c.lead.new.self)
           c.self.view_is (subst (λ (s : Session). Leads c.place-route.result.0 s c.lead.new.self) is c.lead.ensures);
     }

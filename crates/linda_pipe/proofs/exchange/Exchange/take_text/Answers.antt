@@ -34,18 +34,18 @@ loop-end-preserved g c =
       count = omega (arith, c.in_ok-take_end.ensures.count, ap length c.in-Some.ensures.1, length-append {A = ℕ});
     }
 
-pub returns-in_err-keep-clause-leads : goal.returns-in_err-keep-clause-leads
-returns-in_err-keep-clause-leads g c = λ first read sent u.
-    let p = err_from_is_err_and c.from_residual-in_err-keep.result c.from_residual-in_err-keep.ensures.1 in
+pub returns-in_err-buffer_line-clause-leads : goal.returns-in_err-buffer_line-clause-leads
+returns-in_err-buffer_line-clause-leads g c = λ first read sent u.
+    let p = err_from_is_err_and c.from_residual-in_err-buffer_line.result c.from_residual-in_err-buffer_line.ensures.1 in
     let front = c.loop-end.invariant.front in
     rw (p.1, p.2)
     (over_all read front c.loop-end.rest.now c.args.text.now _ _ c.loop-end.invariant.spelled
     (over_more (read ++ front) c.loop-end.rest.now _ _
-    (c.in_err-keep.ensures.err first _ sent (c.loop-end.invariant.leads first read sent u))))
+    (c.in_err-buffer_line.ensures.err first _ sent (c.loop-end.invariant.leads first read sent u))))
 
 pub returns-clause-leads : goal.returns-clause-leads
 returns-clause-leads g c = λ first read sent u.
     let front = c.loop-end.invariant.front in
-    subst (λ t. IsUnderway g.N.Node.shown first t sent c.keep.new.self)
+    subst (λ t. IsUnderway g.N.Node.shown first t sent c.buffer_line.new.self)
     (append_assoc read front c.loop-end.rest.now ∙ ap (λ t. read ++ t) (sym c.loop-end.invariant.spelled))
-    (c.in_ok-keep.ensures.ok first _ sent (c.loop-end.invariant.leads first read sent u))
+    (c.in_ok-buffer_line.ensures.ok first _ sent (c.loop-end.invariant.leads first read sent u))

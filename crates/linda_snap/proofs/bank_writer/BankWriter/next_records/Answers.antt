@@ -5,10 +5,11 @@ use Rattle.linda_snap.proofs.bank_writer.BankWriter.next_records.Goals as goal
 
 pub returns-then-left-most-clause-next : goal.returns-then-left-most-clause-next
 returns-then-left-most-clause-next c front st follows =
-    piece_written c.args.self.now c.pass.new.self c.one_at_least-most.result c.left-left.result.now c.split_at.result.0.now front
+    piece_written c.args.self.now c.mark_written.new.self c.one_at_least-most.result c.left-left.result.now c.split_at.result.0.now front
     c.extend_from_slice.new.self.items st c.requires.ended.0 c.requires.ended.1 follows
     c.left-left.ensures.left c.split_at.ensures.front c.split_at.ensures.front_len
-    c.pass.ensures.0 c.pass.ensures.1 (c.in_ok-extend_from_slice.ensures.items ∙ ap (λ l. l ++ c.split_at.result.0.now) c.new-bytes.ensures.items)
+    c.mark_written.ensures.0 c.mark_written.ensures.1
+    (c.in_ok-extend_from_slice.ensures.items ∙ ap (λ l. l ++ c.split_at.result.0.now) c.new-bytes.ensures.items)
 
 pub returns-clause-next : goal.returns-clause-next
 returns-clause-next c front st follows =

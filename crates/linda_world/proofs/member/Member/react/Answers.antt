@@ -14,7 +14,7 @@ returns c =
       reaction = shown c.in-Ok.reaction c.call.new.self;
       answer = c.in-Ok.ensures;
       member_is = ap (λ l. record { client = c.call.new.self; got = l }) (c.in_ok-append_both.ensures.one
-          ∙ ap (λ l. c.self.inside.got.items ++ l) c.given_by.ensures);
+          ∙ ap (λ l. c.self.inside.got.items ++ l) c.tuple_taken_by.ensures);
       packets_are = c.in_ok-append_both.ensures.ok ∙ ap (λ l. c.args.packets.now.items ++ l) c.in_ok-more.ensures;
       told_is = refl;
     })

@@ -1,8 +1,0 @@
--- Knowledge of a file, as clauses speak of it.
-use Rattle.linda_disk.specs.declared.known.Known.{Known}
-use Rattle.linda_disk.specs.DiskHistory.{DiskHistory}
-use Rattle.linda_disk.specs.Past.{history_of}
-
--- what it held when it was opened, and the calls since
-abbrev pub history : Known → DiskHistory
-history known = history_of known.past.value
