@@ -8,6 +8,7 @@ use std::fmt::Display;
 use std::fs::{self, OpenOptions};
 use std::io::{ErrorKind, IsTerminal, Read};
 use std::net::{Ipv4Addr, Net, SocketAddr, TcpListener, TcpStream};
+use std::os::unix::fs::MetadataExt;
 use std::os::unix::net::UnixStream;
 
 /// How many bytes the path of a unix socket has at most: some are added while it is made.
@@ -44,6 +45,26 @@ pub(crate) fn tell_folder(rt: &HostRuntime, folder: &str, is_served: bool) {
         };
         if tell_bank(rt, &path, is_served) {
             return;
+        }
+    }
+    tell_one_file(rt, folder);
+}
+
+// Says that both banks of a folder are one file, if they are: by a link, say.
+fn tell_one_file(rt: &HostRuntime, folder: &str) {
+    let alloc = rt.alloc();
+    let (Ok(left), Ok(right)) = (
+        format!(in alloc; "{folder}/left.bank"),
+        format!(in alloc; "{folder}/right.bank"),
+    ) else {
+        return;
+    };
+    if let (Ok(one), Ok(other)) = (
+        fs::metadata(rt, left.as_str()),
+        fs::metadata(rt, right.as_str()),
+    ) {
+        if one.dev() == other.dev() && one.ino() == other.ino() {
+            tell(rt, folder, "left.bank and right.bank are one file");
         }
     }
 }

@@ -63,6 +63,46 @@ pub(crate) fn push_expected(
     Ok(())
 }
 
+/// Where a text goes wrong whose reader stopped at a place: at the first letter of a word that is
+/// none, though the reader took some of its letters, as of `foo`, which begins like `false`.
+///
+/// # Errors
+///
+/// `AllocError` if memory runs out.
+pub(crate) fn wrong_from(
+    alloc: Global,
+    kind: ReadingKind,
+    text: &str,
+    at: usize,
+) -> Result<usize, AllocError> {
+    let Some((front, _)) = text.split_at_checked(at) else {
+        return Ok(at);
+    };
+    let letters = letters_at_the_end(front.as_bytes());
+    if letters == 0 || goes_on(alloc, kind, front, ODD)? {
+        return Ok(at);
+    }
+    for (probe, _) in PROBES {
+        if goes_on(alloc, kind, front, probe)? {
+            return Ok(at);
+        }
+    }
+    Ok(at.saturating_sub(letters))
+}
+
+// With how many small letters these bytes end.
+fn letters_at_the_end(bytes: &[u8]) -> usize {
+    let mut letters: usize = 0;
+    for byte in bytes {
+        letters = if byte.is_ascii_lowercase() {
+            letters.saturating_add(1)
+        } else {
+            0
+        };
+    }
+    letters
+}
+
 // Whether the reader takes all of the front with this after it: as a whole, or as the beginning of
 // a longer text.
 fn goes_on(alloc: Global, kind: ReadingKind, front: &str, probe: &str) -> Result<bool, AllocError> {

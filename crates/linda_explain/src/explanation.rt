@@ -2,7 +2,7 @@
 
 ghost use Rattle.std.specs.Prelude.{◌≤◌, ◌+◌, length};
 
-use crate::expected::push_expected;
+use crate::expected::{push_expected, wrong_from};
 use crate::reading::{Reading, ReadingKind, read};
 use linda_shell_text::{behind_word, number_in};
 use linda_text::skip_blanks;
@@ -79,8 +79,12 @@ fn explain_text(
     text: &[u8],
     kind: ReadingKind,
 ) -> Result<String, AllocError> {
-    let Ok(whole) = std::str::from_utf8(text) else {
-        return placed(alloc, number, line, text, "UTF-8");
+    let whole = match std::str::from_utf8(text) {
+        Ok(whole) => whole,
+        Err(fault) => {
+            let bad = text.get(fault.valid_up_to()..).unwrap_or(text);
+            return placed(alloc, number, line, bad, "UTF-8");
+        }
     };
     match read(alloc, kind, whole)? {
         Reading::Whole => placed(alloc, number, line, text, "a command"),
@@ -90,13 +94,14 @@ fn explain_text(
             Ok(said)
         }
         Reading::At(at) => {
-            let Some((front, rest)) = whole.split_at_checked(at) else {
+            let from = wrong_from(alloc, kind, whole, at)?;
+            let Some((front, rest)) = whole.split_at_checked(from) else {
                 return placed(alloc, number, line, text, "a command");
             };
             let mut said = begun(alloc, number, line, rest.as_bytes())?;
             said.push_str("expected ")?;
             push_expected(alloc, &mut said, kind, front)?;
-            push_found(&mut said, rest)?;
+            push_found(alloc, &mut said, rest.as_bytes())?;
             Ok(said)
         }
     }
@@ -113,11 +118,7 @@ fn placed(
     let mut said = begun(alloc, number, line, rest)?;
     said.push_str("expected ")?;
     said.push_str(wanted)?;
-    let found = match std::str::from_utf8(rest) {
-        Ok(found) => found,
-        Err(_) => "",
-    };
-    push_found(&mut said, found)?;
+    push_found(alloc, &mut said, rest)?;
     Ok(said)
 }
 
@@ -135,16 +136,61 @@ fn byte_of(line: &[u8], rest: &[u8]) -> usize
     line.len().saturating_sub(rest.len()).saturating_add(1)
 }
 
-// Appends the first character of what was found.
-fn push_found(said: &mut String, rest: &str) -> Result<(), AllocError> {
+// The letters of a word that is shown as it was found.
+const MOST_LETTERS: usize = 20;
+
+// Appends what was found: a word, as far as it is short, else a character, or a byte that is of
+// none.
+fn push_found(alloc: Global, said: &mut String, rest: &[u8]) -> Result<(), AllocError> {
     said.push_str(", found ")?;
-    match rest.chars().next() {
-        Some(found) => {
-            said.push_str("\"")?;
-            said.push(found)?;
-            said.push_str("\"")?;
-        }
-        None => said.push_str("the end of the line")?,
+    if let Some(word) = word_of(rest) {
+        return push_quoted(said, word);
     }
-    Ok(())
+    if let Some(found) = character_of(rest) {
+        said.push_str("\"")?;
+        said.push(found)?;
+        return said.push_str("\"");
+    }
+    match rest.first() {
+        Some(byte) => said.push_str(format!(in alloc; "byte {byte}")?.as_str()),
+        None => said.push_str("the end of the line"),
+    }
+}
+
+fn push_quoted(said: &mut String, text: &str) -> Result<(), AllocError> {
+    said.push_str("\"")?;
+    said.push_str(text)?;
+    said.push_str("\"")
+}
+
+// The letters with which these bytes begin, if there are some, and as many as are shown.
+fn word_of(bytes: &[u8]) -> Option<&str> {
+    let mut letters: usize = 0;
+    for byte in bytes.iter().take(MOST_LETTERS) {
+        if !byte.is_ascii_alphabetic() {
+            break;
+        }
+        letters = letters.saturating_add(1);
+    }
+    if letters == 0 {
+        return None;
+    }
+    match bytes.get(..letters) {
+        Some(word) => std::str::from_utf8(word).ok(),
+        None => None,
+    }
+}
+
+// The character with which these bytes begin, if it is one.
+fn character_of(bytes: &[u8]) -> Option<char> {
+    match std::str::from_utf8(bytes) {
+        Ok(text) => text.chars().next(),
+        Err(fault) => match bytes.get(..fault.valid_up_to()) {
+            Some(front) => match std::str::from_utf8(front) {
+                Ok(text) => text.chars().next(),
+                Err(_) => None,
+            },
+            None => None,
+        },
+    }
 }

@@ -12,6 +12,9 @@ pub struct RecentLinesReader<'a, R> {
     recent: Vec<u8>,
     // The number of the first line of these, from 1.
     first: u64,
+    // How many bytes of these are of lines that ended, and how many such lines there are.
+    ended: usize,
+    lines: u64,
 }
 
 impl<'a, R: Read> RecentLinesReader<'a, R> {
@@ -21,6 +24,8 @@ impl<'a, R: Read> RecentLinesReader<'a, R> {
             reader,
             recent: Vec::new(alloc),
             first: 1,
+            ended: 0,
+            lines: 0,
         }
     }
 
@@ -43,30 +48,37 @@ impl<'a, R: Read> RecentLinesReader<'a, R> {
         None
     }
 
-    // Keeps what was read, and lets go of the lines that ended before it. Without memory nothing is
-    // kept: then no line is found.
+    // Keeps what was read, and lets go of the lines that ended before it: of a long line each byte
+    // is looked at once. Without memory nothing is kept, and no line is found from then on.
     fn keep(&mut self, piece: &[u8]) {
         self.forget();
+        let before = self.recent.len();
         if self.recent.extend_from_slice(piece).is_err() {
             self.recent.clear();
-            self.first = 0;
+            self.first = u64::MAX;
+            return;
+        }
+        for (at, byte) in piece.iter().enumerate() {
+            if *byte == b'\n' {
+                self.ended = before.saturating_add(at).saturating_add(1);
+                self.lines = self.lines.saturating_add(1);
+            }
         }
     }
 
     // Lets go of the lines that have ended.
     fn forget(&mut self) {
-        let mut ended: usize = 0;
-        for (at, byte) in self.recent.iter().enumerate() {
-            if *byte == b'\n' {
-                ended = at.saturating_add(1);
-                self.first = self.first.saturating_add(1);
-            }
+        if self.ended == 0 {
+            return;
         }
-        let left = self.recent.len() - ended.min(self.recent.len());
+        let left = self.recent.len() - self.ended.min(self.recent.len());
         for at in 0..left {
             self.recent[at] = self.recent[at + (self.recent.len() - left)];
         }
         self.recent.truncate(left);
+        self.first = self.first.saturating_add(self.lines);
+        self.ended = 0;
+        self.lines = 0;
     }
 }
 

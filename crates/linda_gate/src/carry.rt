@@ -1,8 +1,8 @@
 //! The bytes of one connection, to the server and back.
 
-use linda_gate_pass::ClientGate;
+use linda_gate_pass::{ClientGate, PassFault};
 use std::alloc::Global;
-use std::io::{Read, Write};
+use std::io::{Eprint, Read, Write};
 use std::net::Shutdown;
 use std::os::unix::net::UnixStream;
 use std::sync::Wait;
@@ -21,12 +21,18 @@ pub(crate) struct Sides {
 
 impl Sides {
     /// Passes on what may pass, until the client ends or something comes that may not. In the first
-    /// case the server sees the end, and may still answer; in the other one both sides end.
-    pub(crate) fn carry_to_server(&self, rt: &impl Wait, alloc: Global) {
-        if self.pass_all(rt, alloc) {
-            let _ = self.server.shutdown(Shutdown::Write);
-        } else {
-            self.end();
+    /// case the server sees the end, and may still answer; in the other one both sides end, and a
+    /// line on standard error says why, but for who has no certificate: so HAProxy's checks come.
+    pub(crate) fn carry_to_server<R: Wait + Eprint>(&self, rt: &R, alloc: Global) {
+        match self.pass_all(rt, alloc) {
+            Ok(true) => {
+                let _ = self.server.shutdown(Shutdown::Write);
+            }
+            Ok(false) | Err(PassFault::NoHead) => self.end(),
+            Err(fault) => {
+                self.end();
+                say_refused(rt, alloc, fault);
+            }
         }
     }
 
@@ -50,24 +56,34 @@ impl Sides {
         let _ = self.server.shutdown(Shutdown::Both);
     }
 
-    // Passes on what may pass. Whether the client ended, and all before that passed.
-    fn pass_all(&self, rt: &impl Wait, alloc: Global) -> bool {
+    // Passes on what may pass. Whether the client ended, and all before that passed; else a side
+    // failed, or something came that may not pass.
+    fn pass_all(&self, rt: &impl Wait, alloc: Global) -> Result<bool, PassFault> {
         let mut gate = ClientGate::new(alloc);
         let mut out = Vec::new(alloc);
         let mut buffer = [0; PIECE];
         for _ in rt.forever() {
             let Ok(len) = (&self.client).read(&mut buffer) else {
-                return false;
+                return Ok(false);
             };
             if len == 0 {
-                return true;
+                return Ok(true);
             }
             out.clear();
             let read = gate.received(&buffer[..len], &mut out);
-            if (&self.server).write_all(&out).is_err() || read.is_err() {
-                return false;
+            let is_written = (&self.server).write_all(&out).is_ok();
+            read?;
+            if !is_written {
+                return Ok(false);
             }
         }
-        false
+        Ok(false)
+    }
+}
+
+// Says why a connection was ended.
+fn say_refused<R: Eprint>(rt: &R, alloc: Global, fault: PassFault) {
+    if let Ok(line) = format!(in alloc; "refused: {fault}") {
+        let _ = rt.eprintln(line);
     }
 }

@@ -5,8 +5,9 @@
 //! the server's for each connection. A connection begins with the head that HAProxy sends; what may
 //! pass after it is proved (`linda_gate_pass`). Replies are passed as they are.
 //!
-//! It prints `ready PATH`. The exit status is 2 for a wrong command line, and 3 if the system
-//! refuses what it needs, with a line on standard error.
+//! It prints `ready PATH`, and on standard error why it ended a connection: `refused: not allowed`,
+//! `no message` or `out of memory`. The exit status is 2 for a wrong command line, and 3 if the
+//! system refuses what it needs, with a line on standard error.
 #![tactic(auto)]
 
 mod carry;
@@ -18,7 +19,7 @@ use plan::{Plan, plan_of};
 use serving::serve;
 use socket::listen_at;
 use std::fmt::Display;
-use std::io::Write;
+use std::io::{Eprint, Write};
 use std::net::{Net, TcpListener, TcpStream};
 use std::process::ExitCode;
 use std::sync::Wait;
@@ -53,7 +54,7 @@ fn words(rt: &HostRuntime) -> io::Result<Vec<String>> {
 }
 
 // Listens, and serves who connects.
-fn run<S: Net<Listener = TcpListener, Stream = TcpStream> + Threads + Wait + Clock + Sync>(
+fn run<S: Net<Listener = TcpListener, Stream = TcpStream> + Threads + Wait + Clock + Eprint + Sync>(
     rt: &HostRuntime,
     threads: &S,
     plan: &Plan<'_>,

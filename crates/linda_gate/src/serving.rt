@@ -2,6 +2,7 @@
 
 use crate::carry::Sides;
 use std::alloc::Global;
+use std::io::Eprint;
 use std::net::{Net, TcpListener, TcpStream};
 use std::os::unix::net::{UnixListener, UnixStream};
 use std::sync::Wait;
@@ -16,7 +17,7 @@ const REST: u64 = 10;
 /// Serves the connections that come, each in two threads of its own. One that cannot be served is
 /// closed, and no other waits for it.
 pub(crate) fn serve<
-    R: Net<Listener = TcpListener, Stream = TcpStream> + Threads + Wait + Clock + Sync,
+    R: Net<Listener = TcpListener, Stream = TcpStream> + Threads + Wait + Clock + Eprint + Sync,
 >(rt: &R, alloc: Global, listener: &UnixListener, server: &str) {
     thread::scope(thread::scope_env(), rt, |scope| {
         begin_all(scope, rt, alloc, listener, server);
@@ -27,7 +28,7 @@ pub(crate) fn serve<
 fn begin_all<
     's,
     E,
-    R: Net<Listener = TcpListener, Stream = TcpStream> + Threads + Wait + Clock + Sync,
+    R: Net<Listener = TcpListener, Stream = TcpStream> + Threads + Wait + Clock + Eprint + Sync,
 >(scope: &'s Scope<'s, E>, rt: &'s R, alloc: Global, listener: &UnixListener, server: &'s str) {
     for stream in listener.incoming() {
         match stream {
@@ -38,25 +39,20 @@ fn begin_all<
 }
 
 // Begins to serve a connection. If no thread can be had it is closed.
-fn begin<'s, E, R: Net<Listener = TcpListener, Stream = TcpStream> + Threads + Wait + Clock + Sync>(
-    scope: &'s Scope<'s, E>,
-    rt: &'s R,
-    alloc: Global,
-    server: &'s str,
-    client: UnixStream,
-) {
+fn begin<
+    's,
+    E,
+    R: Net<Listener = TcpListener, Stream = TcpStream> + Threads + Wait + Clock + Eprint + Sync,
+>(scope: &'s Scope<'s, E>, rt: &'s R, alloc: Global, server: &'s str, client: UnixStream) {
     let _ = scope
         .spawn(move || converse(rt, alloc, server, client))
         .is_err();
 }
 
 // Serves one connection to its end.
-fn converse<R: Net<Listener = TcpListener, Stream = TcpStream> + Threads + Wait + Clock + Sync>(
-    rt: &R,
-    alloc: Global,
-    server: &str,
-    client: UnixStream,
-) {
+fn converse<
+    R: Net<Listener = TcpListener, Stream = TcpStream> + Threads + Wait + Clock + Eprint + Sync,
+>(rt: &R, alloc: Global, server: &str, client: UnixStream) {
     let Ok(server) = UnixStream::connect(rt, server) else {
         return;
     };

@@ -4,6 +4,7 @@ ghost use Rattle.std.specs.Prelude.{◌≤◌, IfSome};
 
 use form_urlencoded::parse;
 use linda_tuple::{Atom, MAX_TEXT, Text};
+use percent_encoding::percent_decode;
 use std::alloc::{AllocError, Global};
 
 /// How many rows a page has at most.
@@ -114,6 +115,8 @@ const NO_LIMIT: &str = "limit is a number from 1 to 1000";
 
 const TOO_LONG: &str = "a tag has at most 4095 bytes";
 
+const NO_TEXT: &str = "it is not UTF-8";
+
 const NO_NAME: &str = "its name is none of from, limit, tag";
 
 const NO_NAME_HERE: &str = "its name is none of from, limit";
@@ -130,11 +133,16 @@ pub(crate) fn read_part(
     query: &[u8],
     is_of_tuples: bool,
 ) -> Result<Result<ListRange, BadParameter>, AllocError> {
+    let is_text = is_text(alloc, query)?;
     let mut part = ListRange::new(is_of_tuples);
     let mut number: u64 = 0;
     for pair in parse(alloc, query) {
         let (name, value) = pair?;
         number = number.saturating_add(1);
+        if !is_text && (has_replacement(&name) || has_replacement(&value)) {
+            let why = NO_TEXT;
+            return Ok(Err(BadParameter { number, why }));
+        }
         if let Some(why) = part.take(alloc, name.as_bytes(), &value)? {
             return Ok(Err(BadParameter { number, why }));
         }
@@ -152,16 +160,33 @@ pub(crate) fn read_limit(
     alloc: Global,
     query: &[u8],
 ) -> Result<Result<usize, BadParameter>, AllocError> {
+    let is_text = is_text(alloc, query)?;
     let mut limit = None;
     let mut number: u64 = 0;
     for pair in parse(alloc, query) {
         let (name, value) = pair?;
         number = number.saturating_add(1);
+        if !is_text && (has_replacement(&name) || has_replacement(&value)) {
+            let why = NO_TEXT;
+            return Ok(Err(BadParameter { number, why }));
+        }
         if let Some(why) = set_limit(&mut limit, name.as_bytes(), &value) {
             return Ok(Err(BadParameter { number, why }));
         }
     }
     Ok(Ok(limit.unwrap_or(ROWS) as usize))
+}
+
+// Whether a query is UTF-8 once its escapes are read. If it is not, `parse` has replacement
+// characters in place of what is wrong.
+fn is_text(alloc: Global, query: &[u8]) -> Result<bool, AllocError> {
+    let mut bytes = Vec::new(alloc);
+    percent_decode(query).append_to(&mut bytes)?;
+    Ok(std::str::from_utf8(&bytes).is_ok())
+}
+
+fn has_replacement(text: &str) -> bool {
+    text.contains('\u{fffd}')
 }
 
 // Takes in how many are asked for. Returns what is wrong with it, if anything is.
