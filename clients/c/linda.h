@@ -198,7 +198,8 @@ typedef enum {
     LINDA_CODE_NO_HELLO = 12
 } linda_code;
 
-/* A frame. What its kind does not have is not looked at when it is encoded, and 0 when it was decoded:
+/* A frame. What its kind does not have is not looked at when it is encoded, and 0 when it was decoded. A Hello needs
+ * the version LINDA_VERSION, which nothing sets by itself:
  *
  *     Hello     version, client, flag (fresh)        Welcome   number (the last one)
  *     Out       number, items                        Stored    number, id

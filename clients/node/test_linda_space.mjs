@@ -29,6 +29,7 @@ import {
     Never, NoConnection, NoNumber, NumberInUse, Outcome, OutOfRange, pack, PACKED, Pool, range, Rd, Refused, Restored,
     Space, SpaceError, Stored, TEXT, TimedOut, unpack, Wrap,
 } from './linda_space.mjs';
+import { keyOfPorts } from './lib/locks.mjs';
 
 const HERE = path.dirname(fileURLToPath(import.meta.url));
 const TOP = path.dirname(path.dirname(HERE));
@@ -1033,8 +1034,11 @@ describe('over servers', { concurrency: 4 }, () => {
         for (let times = 0; times < 5_000; times += 1) empty = Choose(empty);
         assert.equal((await one.choose([empty, Rd('a')])).base, 0);
         assert.deepEqual(await one.take(['a']), ['a']);
-        const most = 2n ** 64n - 1n, signal = AbortSignal.timeout(50);
-        await fails(one.sync(Nack(most, Wrap(most, Alarm(most))), { signal }), Aborted);
+        const most = 2n ** 64n - 1n, end = new AbortController();
+        const call = fails(one.sync(Nack(most, Wrap(most, Alarm(most))), { signal: end.signal }), Aborted);
+        while (one.pending === null) await turn();      // it has begun, however busy the machine is
+        end.abort();
+        await call;
         assert.deepEqual(one.abandon(), [most]);
     });
 
@@ -1086,7 +1090,7 @@ describe('over servers', { concurrency: 4 }, () => {
         const child = spawn(process.execPath, ['--input-type=module', '-e', program], PIPED);
         let told = '';
         child.stdout.on('data', (piece) => { told += piece; });
-        assert.deepEqual(await once(child, 'exit'), [0, null]);
+        assert.deepEqual(await once(child, 'close'), [0, null]);
         assert.equal(told, 'over\n');
         assert.deepEqual(await (await scene.space(server, 8)).take(['a']), ['a']);
     });
@@ -2488,7 +2492,8 @@ class Program {
         this.file = file;
         this.said = '';
         this.child = spawn(process.execPath, [file, ...words.map(String)], { ...PIPED, ...more });
-        this.ended = once(this.child, 'exit');
+        // (not its `exit`, which may come before all that it wrote)
+        this.ended = once(this.child, 'close');
         this.child.stdout.on('data', (piece) => { this.said += piece; });
         scene.closed.push(() => this.child.kill('SIGKILL'));
     }
@@ -2596,17 +2601,25 @@ describe('work', { concurrency: 4 }, () => {
 
     play('a job that waits for its next try is held, and at most 32 are', async (scene) => {
         const server = await scene.serve(), one = await scene.space(server), boss = await scene.space(server, 8);
-        await boss.outMany(range(0, 34).map((item) => ['job', item, 0]));
-        const seen = [];
-        const call = async ([, item, failed]) => { seen.push([item, failed]); if (failed === 0) throw new Error('once'); };
-        const working = one.work(['job', INT, INT], call, { tries: 2, delay: 3_000, timeout: 0 });
-        const end = performance.now() + LONG;
-        while (seen.length < 32 && performance.now() < end) await sleep(5);
-        await sleep(100);
-        assert.deepEqual(seen, range(0, 32).map((item) => [item, 0]));
-        assert.deepEqual(await boss.takeMany(['job', INT, INT], { count: 99 }), [['job', 32, 0], ['job', 33, 0]]);
-        assert.equal(await working, 32);
-        assert.deepEqual(seen.slice(32).sort(([a], [b]) => a - b), range(0, 32).map((item) => [item, 1]));
+        // On a busy machine the first job may be due before the last one was tried: then the delay is longer.
+        for (const delay of [3_000, 20_000]) {
+            await boss.outMany(range(0, 34).map((item) => ['job', item, 0]));
+            const seen = [], begin = performance.now();
+            const call = async ([, item, failed]) => { seen.push([item, failed]); if (failed === 0) throw new Error('once'); };
+            const working = one.work(['job', INT, INT], call, { tries: 2, delay, timeout: 0 });
+            while (seen.length < 32 && performance.now() < begin + LONG) await sleep(5);
+            await sleep(100);
+            const soFar = [...seen], rest = await boss.takeMany(['job', INT, INT], { count: 99 });
+            if (delay < 20_000 && performance.now() > begin + delay) {
+                await working;
+                continue;
+            }
+            assert.deepEqual(soFar, range(0, 32).map((item) => [item, 0]));
+            assert.deepEqual(rest, [['job', 32, 0], ['job', 33, 0]]);
+            assert.equal(await working, 32);
+            assert.deepEqual(seen.slice(32).sort(([a], [b]) => a - b), range(0, 32).map((item) => [item, 1]));
+            break;
+        }
     });
 
     play('keeps a job for as long as its function runs', async (scene) => {
@@ -2849,6 +2862,19 @@ describe('work that holds the event loop', () => {
 });
 
 describe('a pool', { concurrency: 4 }, () => {
+    play('one signal for many calls', async (scene) => {
+        const heard = [], hear = ({ name }) => { if (name === 'MaxListenersExceededWarning') heard.push(name); };
+        process.on('warning', hear);
+        scene.closed.push(() => process.off('warning', hear));
+        const pool = new Pool([(await scene.serve()).port], { client: range(100, 120), size: 2 }), end = new AbortController();
+        scene.spaces.push(pool);
+        const calls = range(0, 20).map(() => fails(pool.take(['none'], { signal: end.signal }), Aborted));
+        await sleep(20);
+        end.abort();
+        await Promise.all(calls);
+        assert.deepEqual(heard, []);
+    });
+
     play('a web server, 200 requests at once', async (scene) => {
         const servers = [await scene.serve('left'), await scene.serve('right')];
         const pool = new Pool(servers.map(({ port }) => port), { client: range(100, 116) });
@@ -3131,10 +3157,14 @@ describe('a pool', { concurrency: 4 }, () => {
         for (const call of calls) await fails(call(0), TimedOut, unserved);
         for (const wrong of [-1, '5', NaN]) await fails(pool.out(['late'], { timeout: wrong }), OutOfRange);
         // What is left of its time is the call's on its member.
-        const begin = performance.now();
-        setTimeout(() => holds[0].release(), 4_000);
-        assert.equal(await pool.take(['none'], { timeout: 6_000 }), null);
-        const time = performance.now() - begin;
+        let time = 0;
+        for (let tries = 0; tries < 4 && (tries === 0 || time > 9_500); tries += 1) {
+            if (tries > 0) holds[0] = await pool.hold(['job', 1]);      // a busy machine was late
+            const begin = performance.now();
+            setTimeout(() => holds[0].release(), 4_000);
+            assert.equal(await pool.take(['none'], { timeout: 6_000 }), null);
+            time = performance.now() - begin;
+        }
         assert.ok(time > 5_500 && time < 9_500, `${time} ms`);
         assert.deepEqual(await pool.take(['job', INT], { timeout: 0 }), ['job', 1]);
         holds[1].release();
@@ -3379,17 +3409,58 @@ describe('client numbers', { concurrency: 4 }, () => {
             scene.closed.push(() => listener.close());
             listener.listen({ path: `\0linda_space/${sum(text)}/${number}`.padEnd(108, '\0'), exclusive: true });
         });
-        await bind(`ports ${ports.join(' ')}`, 300);
+        await bind(`ports ${[...ports].sort((one, other) => one - other).join(' ')}`, 300);
         assert.equal((await connect({ client: [300, 301] })).client, 301);
+        ports.reverse();                        // whatever order a program names them in
+        assert.equal((await connect({ client: [300, 302] })).client, 302);
+        assert.equal(keyOfPorts([10_000, 7000]), sum('ports 7000 10000'));
         mkdirSync(path.join(scene.folder, 'real'));
         symlinkSync(path.join(scene.folder, 'real'), path.join(scene.folder, 'link'));
         const real = path.join(realpathSync(scene.folder), 'real', 'numbers');
         writeFileSync(real, '400\n401\n');
+        const keys = [real, path.relative('.', real), path.join(scene.folder, 'link', 'numbers')].map((one) => keyOfPorts([one, 7000]));
+        assert.deepEqual(keys, new Array(3).fill(sum(`ports 7000 ${real}`)));
         await bind(real, 400);
         for (const spelled of [real, path.join(scene.folder, 'link', 'numbers'), path.join(scene.folder, 'link', '..', 'real', 'numbers')]) {
             writeFileSync(real, readFileSync(real, 'utf8').replace(/40[1-9]/, (number) => `${Number(number) + 1}`));
             const one = await connect({ numbers: spelled });
             assert.ok(one.client > 400 && one.client < 410, `${one.client}`);
+        }
+    });
+
+    /** The port of a server that answers the first message of each connection so, and no more. */
+    const answering = async (scene, answer) => {
+        const listener = net.createServer((stream) => { stream.once('data', () => answer(stream)); });
+        await new Promise((resolve) => { listener.listen(0, '127.0.0.1', resolve); });
+        scene.closed.push(() => listener.close());
+        return listener.address().port;
+    };
+
+    play('a server that answers the Hello and no more', async (scene) => {
+        const streams = [], port = await answering(scene, (stream) => { streams.push(stream.resume()); stream.write(welcome(3)); });
+        await failsAfter(1_500, Space.connect([port], { client: range(7, 9), ...SHORT }), NoConnection, { server: 0 });
+        assert.equal(streams.length, 1);
+    });
+
+    play('a fresh number that was used', async (scene) => {
+        // The first connection is lost before its Welcome, and the next Hello is not fresh.
+        const first = (peer) => peer.expect(frames.hello(7, true)), second = (last) => (peer) => greets(peer, last);
+        const fake = await scene.fake(first, second(3)), other = await scene.fake(first, second(0));
+        await fails(scene.space(fake, 7, { fresh: true }), Refused, { reason: 'Known', detail: 3, server: 0 });
+        await scene.space(other, 7, { fresh: true });
+    });
+
+    play('no new number is to be had', async (scene) => {
+        let count = 0;
+        const port = await answering(scene, (stream) => { count += 1; stream.end(refusal(2, 1)); });
+        await fails(Space.connect([port], { numbers: path.join(scene.folder, 'numbers') }), NoNumber);
+        assert.equal(count, 64);
+    });
+
+    play('a server that is there twice, and a stream that is none', async () => {
+        for (const port of [7000, 'localhost:7000']) await fails(Space.connect([7000, port]), OutOfRange);
+        for (const connect of [() => undefined, async () => { throw new Error('not heard'); }]) {
+            await fails(Space.connect([7000], { client: 7, connect }), OutOfRange);
         }
     });
 

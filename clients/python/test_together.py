@@ -11,10 +11,14 @@ from __future__ import annotations
 
 import asyncio
 import logging
+import os
 import random
+import signal
 import socket
 import ssl
 import subprocess
+import sys
+import textwrap
 import threading
 import time
 import unittest
@@ -70,6 +74,18 @@ class Many(WithServers):
         offers = [hold.__enter__() for hold in holds]
         self.assertEqual(space.purge("job", INT), 90)
         self.assertEqual([offer.accept() for offer in offers], [("job", number) for number in range(10)])
+
+    def test_no_room_for_an_ask(self) -> None:
+        """It is refused, and what is held stays so."""
+        space = self.space(self.serve())
+        space.out_many([("job", number) for number in range(64)])
+        offers = [space.hold("job", number).__enter__() for number in range(64)]
+        for call in (lambda: space.take_many("none", count=3), lambda: space.purge("none"), lambda: space.take("none", timeout=0)):
+            with self.assertRaisesRegex(Refused, "TooManyAsks"):
+                call()
+        self.assertEqual((space.pending, space.out("a"), all(offer.is_held for offer in offers)), (None, (0, 65), True))
+        offers[0].release()
+        self.assertEqual(space.take_many("job", INT, count=3), [("job", 0)])
 
     def test_wrong_values(self) -> None:
         space = self.space(self.serve())
@@ -476,6 +492,18 @@ class Pools(WithServers):
         self.assertEqual(late.end(), (0, 2))
         self.assertEqual(pool.take_many("job", INT, count=3), [("job", 3)])
 
+    def test_what_is_pending_is_waited_for_no_longer_than_patience(self) -> None:
+        server = self.serve()
+        pool = self.pool(server, size=1, patience=0.3)
+        pool.out("job", 1)
+        server.stop()
+        self.addCleanup(server.go_on)
+        for _ in range(3):
+            began = time.monotonic()
+            with self.assertRaises(TimedOut):
+                pool.out("job", 2, timeout=0.1)
+            self.assertLess(time.monotonic() - began, 1.5)
+
     def test_fewer_numbers_than_members(self) -> None:
         server = self.serve()
         pool = self.pool(server, range(100, 103), size=16, patience=1.0)
@@ -818,6 +846,59 @@ class Async(WithServers):
         self.assertEqual(run(course), 19)
         self.assertEqual(({one[1] for one in other.take_many("done", INT, count=50)}, other.take("dead", 3, 2, TEXT, timeout=0)),
                          (set(range(20)) - {3}, ("dead", 3, 2, "ValueError: three")))
+
+    def test_works_at_once_end_in_any_order(self) -> None:
+        """SIGTERM lets all of them finish their jobs, and does after them what it did before."""
+        server = self.serve()
+        program = f"""
+            import asyncio, os, signal, sys
+            from linda_space import INT, aio
+            async def function(job):
+                await asyncio.sleep(1)
+                return "done", job[1]
+            async def main():
+                async with aio.Space([{server.port}], 7) as one, aio.Space([{server.port}], 8) as two:
+                    await one.out("job", 1)
+                    first = asyncio.ensure_future(one.work(("none", INT), function, timeout=0.1))
+                    await asyncio.sleep(0.05)
+                    second = asyncio.ensure_future(two.work(("job", INT), function, timeout=1 if "after" in sys.argv else None))
+                    print(await first, flush=True)
+                    await asyncio.sleep(0.2)
+                    if "after" in sys.argv:
+                        print(await second, flush=True)
+                    os.kill(os.getpid(), signal.SIGTERM)
+                    print(await second, flush=True)
+                    await asyncio.sleep(30)
+            asyncio.run(main())
+        """
+        for words, status, lines in (([], 128 + signal.SIGTERM, "0\n"), (["after"], -signal.SIGTERM, "0\n1\n")):
+            done = subprocess.run([sys.executable, "-c", textwrap.dedent(program), *words], stdout=subprocess.PIPE, stderr=subprocess.DEVNULL, timeout=PATIENCE,
+                                  env={**os.environ, "PYTHONPATH": str(test_linda_space.HERE)}, universal_newlines=True)
+            self.assertEqual((done.returncode, done.stdout), (status, lines))
+            self.assertEqual(self.space(server, client=9 + len(words)).take("done", INT, timeout=0), ("done", 1))
+
+    def test_who_looks_at_a_hold_delays_no_answer(self) -> None:
+        """What a look reads for the call of another task is seen at once."""
+        port = self.serve().port
+
+        async def course() -> int:
+            async with aio.Space([port], 7) as space:
+                await space.out("lock")
+                async with space.hold("lock", keep=0.001) as offer:
+                    async def look() -> None:
+                        while offer.is_held:
+                            await asyncio.sleep(0)
+
+                    looking, late = asyncio.ensure_future(look()), 0
+                    for number in range(40):
+                        began = time.monotonic()
+                        await space.out("a", number)
+                        late += time.monotonic() - began > 0.4
+                    offer.release()
+                    await looking
+                    return late
+
+        self.assertLess(run(course), 4)
 
     def test_a_pool(self) -> None:
         server = self.serve()

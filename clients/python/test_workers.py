@@ -8,12 +8,15 @@ The program is the one that LINDA names, `linda` at the top of the repository if
 
 from __future__ import annotations
 
+import errno
+import inspect
 import logging
 import multiprocessing
 import os
 import pickle
 import random
 import signal
+import socket
 import subprocess
 import sys
 import textwrap
@@ -26,10 +29,12 @@ from typing import Any, Callable, List
 from unittest import mock
 
 import test_linda_space
-from test_linda_space import PATIENCE, Going, Peer, WithServers, frames, logged
+from test_linda_space import PATIENCE, Going, Peer, WithServers, frames, logged, welcome
 
+from linda_space import numbers as client_numbers, working
 from linda_space import (
-    ANY, INT, TEXT, Busy, Choose, Closed, Forked, Gone, In, NoNumber, NumberInUse, Offer, OutOfRange, Pool, Rd, Refused, Restored, Space, SpaceError, TimedOut)
+    ANY, INT, TEXT, Busy, Choose, Closed, Forked, Gone, In, NoConnection, NoNumber, NumberInUse, Offer, Outcome, OutOfRange, Pool, Rd, Refused, Restored, Space,
+    SpaceError, TimedOut)
 
 HERE = Path(__file__).resolve().parent
 
@@ -254,6 +259,8 @@ class Forks(WithServers):
             for call in (lambda: space.out("a", 1), lambda: space.take("job", INT), lambda: space.last_reply(), lambda: space.again(), lambda: space.leave(),
                          offer.accept, offer.renew, lambda: space.hold("job", INT).__enter__(), lambda: space.purge("job", INT), space.abandon):
                 self.assertIn(in_a_child(call), ("Forked", "Idle"))
+            space._machine.in_hand.append(Outcome(0, "took", (), (), 0, 2, ("job", 2)))     # of a take that an error ended: it is the parent's
+            self.assertEqual((in_a_child(space.again), space.again()), ("Forked", Outcome(0, "took", (), (), 0, 2, ("job", 2))))
             self.assertEqual([in_a_child(lambda: (offer.release(), space.close(), offer.is_held))], ["(None, None, False)"])
             self.assertTrue(offer.is_held)
             self.assertEqual((space.out("parent", 2), offer.accept()), ((0, 3), ("job", 1)))
@@ -462,6 +469,75 @@ class Numbers(WithServers):
         with self.free_space(lambda: Space([server.port], own)) as space:
             self.assertEqual((len(part), own.read_text()), (3, f"{part}x\n{space.client}\n"))
 
+    def test_servers_in_any_order(self) -> None:
+        """A program that is at work between two calls keeps its number when the servers were started again, whatever order another one names them in."""
+        servers = [self.serve("one"), self.serve("two")]
+        ports = [server.port for server in servers]
+        with Space(ports, range(100, 110)) as one:
+            one.out_many([("a",), ("a",)])
+            for name, server in zip(("one", "two"), servers):
+                server.kill()
+                self.serve(name, server.port)
+            with Space(ports[::-1], range(100, 110)) as two:
+                self.assertEqual((one.client, two.client, len(one.out("a"))), (100, 101, 2))
+        path, link = self.folder / "socket", self.folder / "link"
+        path.touch()
+        link.symlink_to(path)
+        keys = [client_numbers.Numbers(range(9)).key(ports) for ports in ([7000, 10_000], [10_000, 7000], [str(path), 7000], [7000, str(link)], [7000, os.path.relpath(path)])]
+        self.assertEqual((keys[0], len(set(keys[:2])), len(set(keys[2:]))), ("901c06c8948d7fbbbadd98dda2aac6dd", 1, 1))      # as in Node.js
+
+    def answered(self, *talks: bytes) -> int:
+        """The port of a server that answers the Hello of each connection with these bytes, and no more; with none it ends the connection."""
+        listener = socket.create_server(("127.0.0.1", 0))
+        self.addCleanup(listener.close)
+
+        def serve() -> None:
+            for talk in talks:
+                peer = Peer(stream=listener.accept()[0])
+                self.addCleanup(peer.close)
+                peer.receive()
+                if talk:
+                    peer.send(talk)
+                else:
+                    peer.close()
+
+        threading.Thread(target=serve, daemon=True).start()
+        return int(listener.getsockname()[1])
+
+    def test_a_server_that_answers_the_hello_and_no_more(self) -> None:
+        began = time.monotonic()
+        with self.assertRaises(NoConnection) as caught:
+            Space([self.answered(welcome(3))], range(100, 110), patience=0.5)
+        self.assertEqual(caught.exception.server, 0)
+        self.assertLess(time.monotonic() - began, PATIENCE / 2)
+
+    def test_a_fresh_number_that_was_used(self) -> None:
+        """It is refused, also if the first connection is lost before its Welcome: the next Hello is not fresh."""
+        for last, used in ((0, False), (3, True)):
+            port = self.answered(b"", welcome(last))
+            if used:
+                with self.assertRaisesRegex(Refused, "Known, detail 3, client number 97 was used before"):
+                    Space([port], 97, fresh=True)
+            else:
+                Space([port], 97, fresh=True).close()
+
+    def test_no_file_is_left(self) -> None:
+        """That is an error of the library, whatever needs the file first."""
+        for what in ("selectors.DefaultSelector", "socket.socket"):
+            with mock.patch(what, side_effect=OSError(errno.EMFILE, "none is left")), self.assertRaises(NoConnection) as caught:
+                Space([7000], 7)
+            self.assertEqual(getattr(caught.exception.__cause__, "errno", None), errno.EMFILE)
+
+    def test_a_server_that_is_there_twice(self) -> None:
+        for port in (7000, "localhost:7000"):
+            with self.assertRaisesRegex(OutOfRange, "twice"):
+                Space([7000, port])
+
+    def test_connect_that_returns_no_socket(self) -> None:
+        none: Any = None
+        with self.assertRaisesRegex(OutOfRange, "connect returns a socket: None"):
+            Space([7000], 7, connect=lambda port: none)
+
     def test_ports_by_name(self) -> None:
         server = self.serve()
         for place, name in enumerate(("localhost", "127.0.0.1")):
@@ -601,6 +677,48 @@ class Work(WithServers):
         self.assertEqual(process.wait(PATIENCE), 143)
         self.assertEqual([other.take("done", INT, timeout=0), other.take("job", INT, INT, timeout=0), other.take("job", INT, INT, timeout=0)],
                          [("done", 1), ("job", 2, 5), None])
+
+    def test_a_child_that_a_function_forks_ends_at_sigterm(self) -> None:
+        space = self.space(self.serve())
+        space.out("job", 1)
+
+        def function(job: Any) -> Any:
+            child = multiprocessing.get_context("fork").Process(target=time.sleep, args=(PATIENCE,))
+            child.start()
+            time.sleep(0.2)
+            child.terminate()
+            child.join(5)
+            self.addCleanup(child.kill)
+            return "ended", child.exitcode or 0
+
+        self.assertEqual((self.worked(space, function), space.take("ended", INT)), (1, ("ended", -signal.SIGTERM)))
+
+    def test_ctrl_c_between_two_steps(self) -> None:
+        """Nothing is held then, wherever the interrupt comes between the offer and the end of the job."""
+        server = self.serve()
+        other = self.space(server, client=8)
+        for call in (working.Worker.next_job, working.Worker.guarded, working.Worker.do, working.Worker.steps, working.play, Space._hold_or):
+            lines, first = inspect.getsourcelines(call)
+            for place in range(first, first + len(lines)):
+                other.purge("job", INT)
+                other.out("job", 1)
+                with self.space(server) as space:
+                    hits: list = []
+
+                    def trace(frame: Any, event: str, _: Any) -> Any:
+                        if frame.f_code is call.__code__ and frame.f_lineno == place and event == "line" and space._machine.held and not hits:
+                            hits.append(place)
+                            raise KeyboardInterrupt
+                        return trace if "linda_space" in frame.f_code.co_filename else None
+
+                    sys.settrace(trace)
+                    try:
+                        self.worked(space, lambda job: None, timeout=0)
+                    except KeyboardInterrupt:
+                        pass
+                    finally:
+                        sys.settrace(None)
+                    self.assertEqual(space._machine.held, {}, f"{call.__qualname__}, line {place}")
 
     def test_a_handler_of_its_own_is_called(self) -> None:
         space = self.space(self.serve())

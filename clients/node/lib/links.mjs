@@ -36,6 +36,7 @@ export function checkedPort(port) {
  * The connection to a server: there is none, or it is being made, or the Hello is not answered, or it is up.
  *
  * - `isOver`: the stream has ended or failed. It is heard to its end before it counts as lost.
+ * - `fresh`: how it is greeted next; `isNew`: whether the number was said to be one that was never used.
  * - `due`: when it is to be made, if there is none; `pause`: how long after that the next time is.
  * - `until`: when it has been away for too long; `busyUntil`: when Busy has been answered for too long, once it was.
  * - `lastSent`: the highest number that was handed to a stream that was up. No higher one can have been done.
@@ -65,6 +66,7 @@ export class Link {
         this.server = server;
         this.port = port;
         this.fresh = fresh;
+        this.isNew = fresh;
         this.until = until;
     }
 

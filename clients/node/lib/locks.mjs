@@ -35,11 +35,25 @@ export function keyOfFile(file) {
 }
 
 /**
- * What the locks of given numbers are named after: the servers.
+ * What the locks of given numbers are named after: the servers, in any order.
  * @param {readonly (number | string)[]} ports
  */
 export function keyOfPorts(ports) {
-    return keyOf(`ports ${ports.join(' ')}`);
+    const numbers = ports.filter((port) => typeof port === 'number').sort((one, other) => one - other);
+    const paths = ports.filter((port) => typeof port === 'string').map(realPath).sort();
+    return keyOf(['ports', ...numbers, ...paths].join(' '));
+}
+
+/**
+ * That of a socket, if it is there: programs in other folders have other paths to it.
+ * @param {string} path
+ */
+function realPath(path) {
+    try {
+        return realpathSync.native(path);
+    } catch {
+        return path;
+    }
 }
 
 /** @param {string} text */

@@ -63,6 +63,7 @@ import { worked } from './work.mjs';
 const MADE_BY_CONNECT = Symbol('made by Space.connect');
 const PATIENCE = 10_000;                // milliseconds for which a server may be away or owe an answer
 const BUSY_PATIENCE = 2_000;            // at most, for which a number may be in use by a connection that has ended
+const MOST_DRAWS = 64;                  // new numbers that are tried
 const BUSY_PASSES = 3;                  // how often several numbers are gone through if some are in use
 const RENEWED_EVERY = 500;              // milliseconds, while a call waits
 const OPTIONS = ['client', 'numbers', 'fresh', 'patience', 'connect', 'clock'];
@@ -221,7 +222,7 @@ export class Space {
             const numbers = await numbersOf(file), key = keyOfFile(file);
             const found = await firstOf(make, key, numbers.filter((number) => !others.has(number)), fresh, false);
             if (found !== null) return found;
-            for (;;) {
+            for (let draws = 1; ; draws += 1) {
                 const space = make(), number = drawnNumber();
                 if (!await space.#locks(key, number)) continue;
                 try {
@@ -231,6 +232,7 @@ export class Space {
                 } catch (fault) {
                     space.close();
                     if (!isTaken(fault)) throw fault;
+                    if (draws === MOST_DRAWS) throw new NoNumber(`none of ${draws} new client numbers is to be had`);
                 }
             }
         };
@@ -307,7 +309,7 @@ export class Space {
         }
         try {
             const kinds = [];
-            for (const { server } of this.#links) kinds.push((await this.lastReply(server))?.kind);
+            for (const link of this.#links) kinds.push(await this.#kindAt(link));
             if (!kinds.includes('left')) {
                 return kinds.includes('taken') ? 'taken' : kinds.every((kind) => kind === undefined) ? 'new' : 'used';
             }
@@ -317,6 +319,18 @@ export class Space {
         }
         this.close();
         return 'over';
+    }
+
+    /**
+     * The kind of the last reply of a server that answered the Hello, and may do no more.
+     * @param {Link} link
+     */
+    async #kindAt(link) {
+        try {
+            return (await this.lastReply(link.server, { timeout: this.#patience }))?.kind;
+        } catch (fault) {
+            throw fault instanceof TimedOut ? link.noConnection() : fault;
+        }
     }
 
     /** @param {number} number @param {boolean} fresh @param {boolean} isShared */
@@ -341,6 +355,9 @@ export class Space {
         const given = checkedOptions(options, OPTIONS), begin = performance.now();
         checkedNumbers(given);
         this.#ports = Array.from(ports, checkedPort);
+        if (new Set(this.#ports).size < ports.length) {
+            throw new OutOfRange(`a server is there twice, and has one connection of a number: ${shown(ports)}`);
+        }
         this.#patience = milliseconds('the patience', given.patience ?? PATIENCE, SHORTEST_PAUSE);
         this.#connect = given.connect ?? connectTo;
         this.#now = given.clock ?? (() => Math.floor(performance.now() - begin));
@@ -1179,6 +1196,11 @@ export class Space {
      */
     #welcome(link, last) {
         const machine = this.#machine, { server } = link, answered = machine.numbers[server] - 1n;
+        if (!link.wasUp && link.isNew && last > 0n) {
+            // It was greeted without `fresh`, as after a connection that was lost before this.
+            this.#letGo(link);
+            throw new Refused(server, 2, last, machine.client);
+        }
         if (!link.wasUp) {
             machine.numbers[server] = last + 1n;
         } else if (last < answered) {
@@ -1278,6 +1300,10 @@ export class Space {
             link.fault = fault;
             this.#lose(link);
             return;
+        }
+        if (typeof stream?.on !== 'function') {
+            Promise.resolve(stream).catch(() => {});        // an async function: what it throws is not said beside this
+            throw new OutOfRange(`connect returns a stream, at once: ${shown(stream)}`);
         }
         link.stream = stream;
         link.isMade = !(/** @type {any} */ (stream).connecting ?? false);

@@ -1,5 +1,6 @@
 /** Values, patterns, tuples and templates, and what the arguments of calls are checked by. */
 
+import { setMaxListeners } from 'node:events';
 import { OutOfRange } from './errors.mjs';
 import { LEAST_INTEGER, MOST_FIELDS, MOST_INTEGER, MOST_TEXT, plain, shown } from './limits.mjs';
 
@@ -188,6 +189,7 @@ export function checkedOptions(options, names) {
 /** @param {unknown} signal @returns {AbortSignal | null} */
 export function checkedSignal(signal) {
     if (signal != null && !(signal instanceof AbortSignal)) throw new OutOfRange('the signal is an AbortSignal');
+    if (signal != null) setMaxListeners(0, signal);     // one signal may end any number of calls, without a warning at the eleventh
     return signal ?? null;
 }
 

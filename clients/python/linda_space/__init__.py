@@ -33,7 +33,7 @@ from .results import Kept, Outcome, Stored
 from .space import Space
 from .values import ANY, BOOL, INT, PACKED, TEXT, Formal, Pattern, Template, Value, Values, pack, unpack
 
-__version__ = "0.20.0"
+__version__ = "0.21.0"
 __all__ = [
     "ANY", "Alarm", "Always", "BOOL", "BadReply", "Busy", "Choose", "Closed", "Event", "Forked", "Formal", "Gone", "Hold", "INT", "Idle", "In", "Kept", "Left",
     "Nack", "Never", "NoConnection", "NoNumber", "NumberInUse", "Offer", "OutOfRange", "Outcome", "PACKED", "Pattern", "Pool", "Rd", "Refused", "Restored", "Space",

@@ -21,10 +21,12 @@ import os
 import time
 from collections import deque
 from contextlib import asynccontextmanager
+from functools import partial
 from types import TracebackType
 from typing import (
     Any, AsyncContextManager, AsyncIterator, Awaitable, Callable, Deque, Dict, Generic, Iterable, List, Optional, Sequence, Tuple, Type, TypeVar, Union, cast,
     overload)
+from weakref import WeakMethod
 
 from . import offers, space as threads, working
 from .errors import Closed, Forked, Gone, NoConnection, NoNumber, OutOfRange, Refused, SpaceError, TimedOut
@@ -111,6 +113,7 @@ class Space:
         if greetings is None:
             return
         self._turn = asyncio.Lock()
+        self._inner._wake_task = partial(_call_soon, asyncio.get_running_loop(), WeakMethod(self._wake))
         try:
             await self._drive(greetings)
         except BaseException:
@@ -270,6 +273,7 @@ class Space:
     async def again(self, timeout: Optional[float] = None) -> Settled:
         """As `linda_space.Space.again`."""
         inner = self._inner
+        inner._be_mine()
         had = inner._only_in_hand()
         return had if had is not None else inner._again_as(await self._call(inner._machine.go_on, timeout, is_again=True))
 
@@ -379,6 +383,13 @@ class Space:
             self._waiter = None
             if timer is not None:
                 timer.cancel()
+
+
+def _call_soon(loop: asyncio.AbstractEventLoop, method: WeakMethod[Callable[[], None]]) -> None:
+    """In the loop, from any thread."""
+    call = method()
+    if call is not None and not loop.is_closed():
+        loop.call_soon_threadsafe(call)
 
 
 class _Calls:
@@ -557,13 +568,13 @@ class Pool:
 
     async def _finish(self, member: Space) -> None:
         """Finishes what an error or a cancelled task left at a member. What was taken for a call that ended so is put back."""
-        owed = self._owed.setdefault(member, deque())
+        owed, timeout = self._owed.setdefault(member, deque()), min(FINISH, member._inner._patience)
         owed.extend(self._left)
         self._left.clear()
         while True:
             what = member.pending
             if what is not None:
-                result = await member.again(timeout=FINISH)
+                result = await member.again(timeout=timeout)
                 if what == "sync" and isinstance(result, Outcome):
                     owed.append(result.tuple)
                 elif what == "take_many" and isinstance(result, list):
@@ -571,7 +582,7 @@ class Pool:
             elif owed:
                 outs = member._inner._machine.outs
                 try:
-                    await member.out(*owed[0], timeout=FINISH)
+                    await member.out(*owed[0], timeout=timeout)
                 except BaseException as fault:
                     if member.pending is not None or member._inner._machine.outs != outs and not isinstance(fault, SpaceError):
                         owed.popleft()                      # it is there, or will be

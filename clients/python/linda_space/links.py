@@ -56,6 +56,7 @@ def waits(fault: OSError) -> bool:
 class Link:
     """The connection to a server: there is none, or it is being made, or the Hello is not answered, or it is up.
 
+    - `fresh`: how it is greeted next; `is_new`: whether the number was said to be one that was never used.
     - `due`: when it is to be made, if there is none; `pause`: how long after that the next time is.
     - `until`: when it has been away for too long; `busy_until`: when Busy has been answered for too long, once it was answered.
     - `fault`: why the last connection could not be had, or ended.
@@ -65,6 +66,7 @@ class Link:
 
     def __init__(self, server: int, port: Port, fresh: bool, until: float) -> None:
         self.server, self.port, self.fresh, self.until = server, port, fresh, until
+        self.is_new = fresh
         self.stream: Optional[socket.socket] = None
         self.fault: Optional[OSError] = None
         self.is_made = self.is_up = self.was_up = self.was_tried = False

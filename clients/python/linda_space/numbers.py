@@ -18,10 +18,11 @@ import random
 import socket
 import sys
 import time
+from functools import partial
 from pathlib import Path
 from typing import TYPE_CHECKING, Generator, List, Optional, Sequence, Tuple, Union, cast
 
-from .errors import NoNumber, OutOfRange, Refused
+from .errors import NoConnection, NoNumber, OutOfRange, Refused, TimedOut
 from .limits import BUSY_PATIENCE, LONGEST_PAUSE, MOST_CLIENT
 from .results import Kept
 from .values import within
@@ -65,11 +66,12 @@ class Numbers:
             self.first = within("a client", client, 0, MOST_CLIENT)
 
     def key(self, ports: Sequence[object]) -> str:
-        """Under which name these numbers are claimed: those of one file, or of a list for these servers."""
+        """Under which name these numbers are claimed: those of one file, or of a list for these servers, in any order."""
         if self.path is not None:
             whole = os.fsencode(os.path.join(os.path.realpath(self.path.parent), self.path.name))
         else:
-            whole = " ".join(["ports", *map(str, ports)]).encode()
+            paths = [os.path.realpath(port) if os.path.exists(port) else port for port in ports if isinstance(port, str)]
+            whole = " ".join(["ports", *map(str, sorted(port for port in ports if isinstance(port, int))), *sorted(paths)]).encode()
         return hashlib.sha256(whole).hexdigest()[:32]
 
     def read(self) -> List[int]:
@@ -206,10 +208,12 @@ def _try(space: Space, key: str, number: int, fresh: bool) -> Generator[float, N
         yield from space._greet(number, fresh, True)
         kept: List[Optional[Kept]] = []
         for server in range(0 if fresh else len(space._links)):
-            ended = yield from space._course(lambda server=server: space._machine.repeat(server), None, False, None, None)     # type: ignore[misc]
+            ended = yield from space._course(partial(space._machine.repeat, server), space._patience, False, None, None)
             kept.append(cast(Optional[Kept], ended))
         if not any(reply is not None and reply.kind == "left" for reply in kept):
             return kept
+    except TimedOut as fault:           # it answered the Hello, and no more
+        raise NoConnection(fault.servers[0]) from None
     except Refused as fault:
         if fault.name not in ("Busy", "Known", "Left"):
             raise

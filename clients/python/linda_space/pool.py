@@ -25,7 +25,7 @@ from .values import Pattern, Value, Values, as_seconds, within
 
 MOST_MEMBERS = 1_024
 AWAY = 0.5                  # seconds until a member whose server is away is tried again
-FINISH = 2.0                # seconds for which the end of what a member has pending is waited for, before a call is done by it, whatever its timeout
+FINISH = 2.0                # seconds, `patience` at most, for which the end of what a member has pending is waited for before a call, whatever its timeout
 LOOK = 1.0                  # seconds until a call that waits for a member looks whether one belongs to a call that is gone
 Got = TypeVar("Got")
 
@@ -181,7 +181,7 @@ class Pool:
             owed.extend(self._left)
             self._left.clear()
         while True:
-            timeout = max(0.0, min(FINISH, until - time.monotonic()))
+            timeout = max(0.0, min(FINISH, member._patience, until - time.monotonic()))
             what = member.pending
             if what is not None:
                 result = member.again(timeout=timeout)

@@ -123,6 +123,8 @@ class Space:
         if not 1 <= len(ports) <= MOST_SERVERS:
             raise OutOfRange(f"there are {len(ports)} servers, and 1 to {MOST_SERVERS} are allowed")
         self._ports = [as_port(port) for port in ports]
+        if len(set(self._ports)) < len(ports):
+            raise OutOfRange(f"a server is there twice, and has one connection of a number: {ports!r}")
         self._patience = as_seconds("the patience", patience, SHORTEST_PAUSE)
         numbers = Numbers(client)
         self._connect = connect
@@ -136,7 +138,11 @@ class Space:
         self._over: Optional[SpaceError] = None             # what all calls raise from now on
         self._links: List[Link] = []
         self._machine = Machine(numbers.first, len(ports))
-        self._selector = selectors.DefaultSelector()
+        try:
+            self._selector = selectors.DefaultSelector()
+        except OSError as fault:                            # no file is left for it
+            raise NoConnection(0) from fault
+        self._wake_task: Callable[[], None] = lambda: None  # what waits in a task of asyncio looks at what was read
         self._keeper = Keeper(self)
         self._claim: Optional[Claim] = None                 # of the number, if it is one of several
         _spaces.add(self)
@@ -431,6 +437,7 @@ class Space:
 
         Raises Idle if nothing is pending; Gone for an accept that came too late; else as what it goes on with.
         """
+        self._be_mine()
         had = self._only_in_hand()
         return had if had is not None else self._again_as(self._call(self._machine.go_on, timeout, is_again=True))
 
@@ -546,8 +553,11 @@ class Space:
             return
         for server in {server for server, _ in self._machine.held} if servers is None else servers:
             link = self._links[server]
+            size = len(link.came)
             while link.stream is not None and link.is_up and self._read(link):
                 pass
+            if self._thread == TASK and (not link.is_up or len(link.came) > size):
+                self._wake_task()               # its loop does not see any more that there was something
 
     # ---- how it goes on
 
@@ -643,7 +653,7 @@ class Space:
             ended, machine.ended = machine.ended, None
             return ended
         except SpaceError as fault:
-            if isinstance(fault, Refused):
+            if isinstance(fault, Refused) and fault.name != "TooManyAsks":      # that server does all else, and holds what it held
                 self._end_trains()
             machine.give_up(False)
             self._send()
@@ -842,6 +852,9 @@ class Space:
         answered, or that of a message that was sent and is not answered yet; what is unanswered is sent again."""
         machine, server = self._machine, link.server
         answered = machine.numbers[server] - 1
+        if not link.was_up and link.is_new and last > 0:        # it was greeted without `fresh`, as after a connection that was lost before this
+            self._let_go(link)
+            raise Refused(server, 2, last, machine.client)
         if not link.was_up:
             machine.numbers[server], link.last_sent = last + 1, last
         elif last < answered:
@@ -864,12 +877,15 @@ class Space:
     def _join(self, link: Link) -> None:
         """Begins a connection."""
         try:
-            link.stream = self._connect(link.port)
+            stream = self._connect(link.port)
         except OSError as fault:
             link.fault = fault
             self._lose(link)
             return
-        link.stream.setblocking(False)
+        if not hasattr(stream, "setblocking"):
+            raise OutOfRange(f"connect returns a socket: {stream!r}")
+        link.stream = stream
+        stream.setblocking(False)
         link.left += spell_hello(self._machine.client, link.fresh)
         link.awaited = selectors.EVENT_READ | selectors.EVENT_WRITE
         self._selector.register(link.stream, link.awaited, link)

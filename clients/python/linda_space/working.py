@@ -30,6 +30,7 @@ import heapq
 import itertools
 import logging
 import math
+import os
 import signal
 import threading
 import time
@@ -159,7 +160,7 @@ class Worker:
         self.retries: List[Tuple[float, int, Offer, Values]] = []       # a heap: when it is due, a count, what is held, and what it becomes
         self.count = itertools.count()
         self.done = 0
-        self.is_stopped = False
+        self.is_stopped = self.is_signalled = False
 
     def steps(self) -> Steps:
         with self.ended_by_a_signal():
@@ -295,26 +296,64 @@ class Worker:
 
     @contextmanager
     def ended_by_a_signal(self) -> Iterator[None]:
-        """In the main thread SIGTERM ends the loop, and then does what it did before: a handler is called, else the program exits. A second one does so at once."""
-        before = signal.getsignal(signal.SIGTERM) if threading.current_thread() is threading.main_thread() else None
-        if before is None or before is signal.SIG_IGN:  # no thread for handlers, or a handler that is not of Python, or none is wanted
+        """In the main thread SIGTERM ends the loop, and then does what it did before: a handler is called, else the program exits. A second one does so at once.
+        It ends all loops of tasks that are under way at once, and the last of them does that."""
+        if not stops.begin(self):
             yield
             return
-
-        def stop(number: int, frame: Optional[FrameType]) -> None:
-            self.is_stopped = True
-            signal.signal(signal.SIGTERM, before)
-
-        signal.signal(signal.SIGTERM, stop)
         try:
             yield
         finally:
-            signal.signal(signal.SIGTERM, before)
-        if self.is_stopped:
-            if callable(before):
-                before(signal.SIGTERM, None)
+            is_last = stops.end(self)
+        if is_last and self.is_signalled:
+            if callable(stops.before):
+                stops.before(signal.SIGTERM, None)
             else:
                 raise SystemExit(128 + signal.SIGTERM)
+
+
+class Stops:
+    """The handler of SIGTERM, one for all workers of the main thread: tasks of asyncio have several at once, and they end in any order."""
+
+    def __init__(self) -> None:
+        self.workers: List[Worker] = []
+        self.before: Any = None
+        self.process = 0
+
+    def begin(self, worker: Worker) -> bool:
+        """Whether SIGTERM ends this worker."""
+        if threading.current_thread() is not threading.main_thread():
+            return False
+        if not self.workers or self.process != os.getpid():
+            self.workers, before = [], signal.getsignal(signal.SIGTERM)
+            if before == self.stop:                     # of a parent, whose function forked this process
+                before = self.before
+            if before is None or before is signal.SIG_IGN:      # a handler that is not of Python, or none is wanted
+                return False
+            self.before, self.process = before, os.getpid()
+            signal.signal(signal.SIGTERM, self.stop)
+        if any(other.is_signalled for other in self.workers):   # they are about to end: SIGTERM does again what it did before
+            return False
+        self.workers.append(worker)
+        return True
+
+    def stop(self, number: int, frame: Optional[FrameType]) -> None:
+        signal.signal(signal.SIGTERM, self.before)
+        if self.process != os.getpid():                 # a child that a worker's function forked has no job
+            os.kill(os.getpid(), number)
+            return
+        for worker in self.workers:
+            worker.is_stopped = worker.is_signalled = True
+
+    def end(self, worker: Worker) -> bool:
+        """Whether it was the last."""
+        self.workers = [other for other in self.workers if other is not worker]
+        if not self.workers:
+            signal.signal(signal.SIGTERM, self.before)
+        return not self.workers
+
+
+stops = Stops()
 
 
 class Calls:
@@ -328,5 +367,13 @@ class Calls:
 
 def work(space: Space, plan: Plan, function: Function) -> int:
     """Does one job after another, in this thread; how many were done."""
-    done: int = play(Worker(space, Calls(space), plan, function).steps())
-    return done
+    held, steps = space._held_now(), Worker(space, Calls(space), plan, function).steps()
+    try:
+        done: int = play(steps)
+        return done
+    except BaseException:
+        steps.close()
+        for offer in space._held_now():         # an interrupt came where no step had it in hand
+            if not any(offer is it for it in held):
+                space._release(offer)
+        raise

@@ -4,7 +4,7 @@
  */
 export function keyOfFile(file: string): any;
 /**
- * What the locks of given numbers are named after: the servers.
+ * What the locks of given numbers are named after: the servers, in any order.
  * @param {readonly (number | string)[]} ports
  */
 export function keyOfPorts(ports: readonly (number | string)[]): any;
