@@ -6,7 +6,7 @@ A bank is in the first form (LND1) or in the second (LND2). The tuples of a stat
 they were read in, so that states can be compared; `in_form` spells a bank again in another form. The first form has no spelling for a client that left.
 """
 
-from dataclasses import dataclass, field, replace
+from dataclasses import dataclass, field
 from pathlib import Path
 
 NUMBERS = 2**63
@@ -49,37 +49,40 @@ class Bytes:
     """Bytes that are read from the front, with values in a form."""
 
     def __init__(self, data: bytes, form: int = NEW) -> None:
-        self.data, self.at, self.form = data, 0, form
+        self.data, self.at, self.form = bytes(data), 0, form
 
     def take(self, size: int) -> bytes:
-        if self.at + size > len(self.data):
+        begin, self.at = self.at, self.at + size
+        if self.at > len(self.data):
             raise Bad
-        self.at += size
-        return self.data[self.at - size:self.at]
+        return self.data[begin:self.at]
 
     def number(self, size: int = 8) -> int:
         return int.from_bytes(self.take(size), "big")
 
     def atom(self) -> bytes:
         """An atom, as the bytes that the second form has for it."""
-        width, longest, _ = LIMITS[self.form]
-        kind = self.number(1)
-        if kind == 1:
-            return b"\1" + self.take(8)
-        if kind == 2:
-            size = self.number(width)
+        data, begin = self.data, self.at
+        kind = data[begin:begin + 1]
+        if kind == b"\1":
+            return self.take(9)
+        if kind == b"\2":
+            width, longest, _ = LIMITS[self.form]
+            front = begin + 1 + width
+            size = int.from_bytes(data[begin + 1:front], "big")
+            whole = self.take(1 + width + size)
+            text = data[front:self.at]
             if size > longest:
                 raise Bad
-            text = self.take(size)
             try:
                 text.decode()
             except UnicodeDecodeError:
                 raise Bad from None
-            return b"\2" + size.to_bytes(2, "big") + text
-        truth = self.number(1)
-        if kind != 3 or truth > 1:
+            return whole if width == 2 else b"\2" + size.to_bytes(2, "big") + text
+        whole = self.take(2)
+        if kind != b"\3" or whole[1] > 1:
             raise Bad
-        return bytes([3, truth])
+        return whole
 
     def tuple(self) -> bytes:
         """A tuple, as the bytes that the second form has for it: each tuple has one spelling there."""
@@ -172,7 +175,7 @@ def do(state: State, deed: tuple) -> State:
             raise Bad
         state.bag[state.next] = what
         state.book[client] = number, ("Stored", state.next)
-        return replace(state, next=state.next + 1)
+        return State(state.next + 1, state.bag, state.book)
     if kind == 2:
         if what not in state.bag:
             raise Bad

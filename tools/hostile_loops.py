@@ -32,7 +32,7 @@ MIB = 1 << 20
 # The longest tuple: 32 texts of 4,095 bytes.
 WIDE = ("y" * 4_095,) * 32
 # How many seconds a load goes on, and how often a wait above its bound is measured.
-SECONDS, TRIES = 3.0, 4
+SECONDS, TRIES = 2.0, 4
 # Stores are in memory, if the system has such a folder: then no figure is one of its disk.
 SHARED = "/dev/shm" if os.access("/dev/shm", os.W_OK) else None
 

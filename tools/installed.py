@@ -33,8 +33,10 @@ NEEDS = {
     "env/bin/": ["python3", "-c", "import ensurepip, venv"],
     "/usr/bin/python3 ": ["/usr/bin/python3", "--version"],
 }
+# The pages of a release as they are in the tree. Their commands are played in its archive.
+PAGES = ("CHANGELOG.md", "SECURITY.md", *(f"docs/{name}.md" for name in ("GUIDE", "COMMANDS", "OPERATING", "BEYOND", "FORMATS", "EVENTS")))
 RELOAD = "systemctl --system daemon-reload"
-SERVERS = "linda.service linda@*.service"
+SERVERS = "linda.service linda@*.service linda-gate*.service"
 # What each script of the package calls if systemd is at work, and what if it is not: its words, and the calls of both.
 SCRIPTS = (
     ("postinst configure", ["systemd-sysusers linda.conf", RELOAD], ["systemd-sysusers linda.conf"]),
@@ -184,15 +186,20 @@ class Installed:
         else:
             self.left_out.append("the page of the package, for which a mount over /usr is needed")
         kept, link = root / "var/lib/linda/left.bank", root / "etc/systemd/system/multi-user.target.wants/linda.service"
-        for path in (kept, link):
-            path.parent.mkdir(parents=True)
+        library = root / "usr/lib/python3/dist-packages/linda_space"
+        compiled = library / "__pycache__/space.cpython-311.pyc"
+        for path in (kept, link, compiled):
+            path.parent.mkdir(parents=True, exist_ok=True)
         kept.write_text("a bank")
+        compiled.write_text("what Python keeps when root imports the library")
         link.symlink_to("/usr/lib/systemd/system/linda.service")
         self.dpkg(root, "--install", later)
         self.dpkg(root, "--remove", "cml-linda")
         self.dpkg(root, "--purge", "cml-linda")
         if (root / "usr/bin/linda").exists() or link.is_symlink() or not kept.is_file():
             self.wrong.append(f"{package.name}: a purge leaves the program or the link of its unit, or removes a space")
+        if library.exists():
+            self.wrong.append(f"{package.name}: a purge leaves {library.relative_to(root)}, which Python still imports")
 
     def page_with_program(self, page: Path) -> Path:
         """The page of the package, which names the folder of the program."""

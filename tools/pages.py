@@ -53,6 +53,10 @@ class Row(NamedTuple):
     def is_file(self) -> bool:
         return self.value in ("FILE", "PATH")
 
+    def is_many(self) -> bool:
+        """Whether it may be there more than once."""
+        return "once for each" in self.help
+
 
 class Help(NamedTuple):
     """What a command's help has."""
@@ -109,8 +113,11 @@ class Form(NamedTuple):
 
 
 def form_of(name: str, it: Help, without: set[str]) -> Form:
-    words = tuple(word for word in it.usage[0].split() if word not in ("linda", name, "[OPTIONS]"))
-    return Form(name, words, tuple(row for row in it.options if row.long not in {*words, *without, "--help"}))
+    words = [word for word in it.usage[0].split() if word not in ("linda", name, "[OPTIONS]")]
+    for row in it.options:
+        if row.is_many() and row.long in words:
+            words[words.index(row.long) + 1] += "..."
+    return Form(name, tuple(words), tuple(row for row in it.options if row.long not in {*words, *without, "--help"}))
 
 
 def forms_of(name: str, helps: dict[str, Help], sockets: dict[str, Help]) -> list[Form]:
@@ -126,14 +133,14 @@ def synopsis_of(form: Form) -> list[str]:
     while at < len(form.words):
         word = form.words[at]
         if word.startswith("--"):
-            shown.append(f".BI {escaped(word)}\\~ {form.words[at + 1].strip('<>')}")
+            shown.append(f".BI {escaped(word)}\\~ {form.words[at + 1].replace('<', '').replace('>', '')}")
             at += 1
         else:
             shown.append(f".IR {word.replace('<', '').replace('>', '')}")
         at += 1
     for row in form.options:
         value = f"\\~\\fI{row.value}\\fP" if row.value else ""
-        shown.append(f".RB [ {escaped(row.long)}{value} ]")
+        shown.append(f".RB [ {escaped(row.long)}{value} ]{'...' if row.is_many() else ''}")
     return [f".B linda {form.command}", *shown, ".br"]
 
 
@@ -296,7 +303,7 @@ def zsh_page(helps: dict[str, Help]) -> str:
         if not row.long:
             return quoted(f"{'*' if is_many else ''}:{row.value}:{kind}", "")
         told = quoted(f"{first_lower(row.help)}", ":[]")[1:-1]
-        return f"'{row.long}[{told}]{f':{row.value}:{kind}' if row.value else ''}'"
+        return f"'{'*' if row.is_many() else ''}{row.long}[{told}]{f':{row.value}:{kind}' if row.value else ''}'"
 
     def rows_of(it: Help) -> str:
         words = [*(row_in_zsh(row, False) for row in it.options), *(row_in_zsh(row, f"<{row.value}>..." in it.usage[0]) for row in it.arguments)]

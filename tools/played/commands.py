@@ -1,12 +1,14 @@
 """Checks of commands of users: `call` with one server and with two, over kills of servers and of itself; its lines, its clock, and how long it tries."""
 
 import socket
+import subprocess
 import time
 
+import blocks
 import client as frames
 from played.calls import Call
 from played.peers import connection
-from played.program import PATIENCE, equal, run, wait_until
+from played.program import PATIENCE, PROGRAM, TOP, equal, run, wait_until
 from played.servers import Server
 
 
@@ -140,6 +142,33 @@ def calls_again(folder):
         with Server(folder, server.port):
             equal(run("call", "--client", 7, "--again", server.port, given='last\nout ("b")\n'),
                   (0, 'server 0 client 7 5 taken 2 ("job", 2)\n7 stored 0 5\n', ""))
+
+
+def a_worker_in_a_shell(folder):
+    """The call of square.sh, as docs/GUIDE.md has it, ends with a shell that is killed: it takes nothing more, and its number is free. A worker whose server is gone ends with 1."""
+    lines = next(block.lines for block in blocks.blocks(TOP / "docs/GUIDE.md") if block.file() == "square.sh")
+    with Server(folder) as server:
+        script, said = folder / "square.sh", folder / "said"
+        script.write_text("\n".join(lines).replace("./linda", str(PROGRAM)).replace("7000", str(server.port)) + "\n")
+        boss = Call(1, server.port)
+
+        def worker(number, place):
+            life = subprocess.Popen(["bash", script, "14"], stdin=subprocess.DEVNULL, stderr=said.open("w"))
+            equal(boss.ask(f'out ("sum", {number})'), f"1 stored 0 {place}")
+            equal(boss.ask(f'sync in ("summed", {number}, ?i)'),
+                  f'1 took 0 {place + 1} ("summed", {number}, {number ** 2}) binds [{number ** 2}] labels [] raised []')
+            return life
+
+        first = worker(3, 1)
+        time.sleep(0.3)
+        first.kill()
+        first.wait()
+        equal(run("call", "--client", 14, "--again", server.port, given="last\n"), (0, "server 0 client 14 2 stored 2\n", ""))
+        second = worker(4, 3)
+        server.kill()
+        equal((second.wait(PATIENCE), said.read_text()), (1, "server 0: no connection\n"))
+        boss.process.kill()
+        boss.end()
 
 
 def last_of_two_servers(folder):

@@ -79,6 +79,39 @@ def a_copy_while_banks_change(folder):
         equal(len(tuples_in(copy)), 10 + SNAPSHOT_RECORDS + 75)
 
 
+SLOW_MV = """#!/bin/sh
+touch '{folder}/moves'
+while [ ! -e '{folder}/move' ]; do sleep 0.01; done
+exec /bin/mv "$@"
+"""
+
+
+def copies_to_one_place(folder):
+    """Of two copies by examples/backup.sh to one place at once the first to end is whole there; the other ends with 1, and leaves nothing."""
+    space, copy, moves, copies = (folder / name for name in ("space", "copy", "slow mv", "slow cp"))
+    for it, name, text in ((moves, "mv", SLOW_MV), (copies, "cp", SLOW_CP)):
+        it.mkdir()
+        (it / name).write_text(text.format(folder=folder))
+        (it / name).chmod(0o755)
+    space.mkdir()
+
+    def begin(first):
+        return subprocess.Popen([TOP / "examples/backup.sh", space, copy], env={**os.environ, "PATH": f"{first}:{os.environ['PATH']}"}, stderr=subprocess.PIPE, text=True)
+
+    with Server(space) as server:
+        puts(server.port, 7, 10)
+        one = begin(moves)
+        wait_until((folder / "moves").exists, True)
+        other = begin(copies)
+        wait_until((folder / "begun").exists, True)
+        (folder / "move").touch()
+        found = one.communicate(timeout=PATIENCE), one.returncode, sorted(it.name for it in copy.iterdir())
+        (folder / "go").touch()
+        other.communicate(timeout=PATIENCE)
+    equal(found, ((None, ""), 0, ["left.bank", "right.bank"]))
+    equal((other.returncode, len(tuples_in(copy)), list(folder.glob("copy.*"))), (1, 10, []))
+
+
 def snapshots_in_steps(folder):
     """A bank of more than 256 KiB has its snapshot in steps, while tuples are put: one comes, and then the next one. Each time the server counts as many
     records as the bank has, and every tuple is there."""

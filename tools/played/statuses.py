@@ -136,14 +136,14 @@ def listened():
 def explained_faults(folder):
     """With --explain a second line says where a line is no command and what was expected there, or what the system says; without it there is only the first."""
     def said(words, text=""):
-        done = subprocess.run([PROGRAM, *map(str, words)], input=text, capture_output=True, text=True, timeout=PATIENCE)
+        done = subprocess.run([PROGRAM, *map(str, words)], input=text, capture_output=True, text=True, errors="surrogateescape", timeout=PATIENCE)
         return done.returncode, done.stderr
 
     anything = "a text in double quotes, a number, true or false"
     for line, byte, words in (
             ("out ('job', 1)", 6, f"expected {anything}, found \"'\""),
             ('out("job" 1)', 11, 'expected ")", ",", found "1"'),
-            ('take ("job", ?i)', 1, 'expected out, sync, abandon or leave, found "t"'),
+            ('take ("job", ?i)', 1, 'expected out, sync, abandon or leave, found "take"'),
             ('out ("job", 1.5)', 14, 'expected ")", ",", a number, found "."'),
             ('out ("job", 99999999999999999999)', 5, "an integer of more than 64 bits"),
             ('sync in ("job", ?x)', 18, 'expected i, s or b, found "x"'),
@@ -153,7 +153,11 @@ def explained_faults(folder):
             ('out ("job', 10, "expected a closing double quote, found the end of the line"),
             ('out ("a\\q")', 9, 'expected ", \\, n, r or t, found "q"'),
             (f'out ("{"x" * 4096}")', 5, "a text of more than 4,095 bytes"),
-            ("leave now", 7, 'expected the end of the line, found "n"')):
+            ('out ("job", foo)', 13, f'expected {anything}, found "foo"'),
+            ('out ("job", tru', 13, f'expected {anything}, found "tru"'),
+            ("sync chose [alarm 1]", 6, 'expected in or rd, alarm, always, choose, wrap or nack, never, found "chose"'),
+            ('out ("caf\udce9", 1)', 10, "expected UTF-8, found byte 233"),
+            ("leave now", 7, 'expected the end of the line, found "now"')):
         fault = "line 3: not a command\n"
         script = f'# a comment\n1 out ("a")\n1 {line}\n'
         equal(said(["run", "--servers", 1], script), (4, fault))
@@ -166,5 +170,11 @@ def explained_faults(folder):
     for words in (["serve", "--port", 0, "--dir", path], ["inspect", path]):
         equal(said(words), (3, "store: disk\n"))
         equal(said([*words, "--explain"]), (3, f"store: disk\n{path}: No such file or directory (os error 2)\n"))
+    twins = folder / "twins"
+    twins.mkdir()
+    (twins / "left.bank").touch()
+    (twins / "right.bank").symlink_to("left.bank")
+    for words in (["serve", "--port", 0, "--dir", twins], ["inspect", twins]):
+        equal(said([*words, "--explain"]), (3, f"store: disk\n{twins}: left.bank and right.bank are one file\n"))
     with listened() as port:
         equal(said(["serve", "--port", port, "--dir", folder, "--explain"]), (3, f"io\n{port}: Address already in use (os error 98)\n"))
