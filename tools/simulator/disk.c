@@ -13,7 +13,9 @@
    is killed when PART thousandths of the call are done), `eio` or `enospc` (the call fails when so many are done).
    `slow 0 MICROSECONDS 0` makes each sync take so long. A call that went wrong is written to the file `fired`, with the
    side of its bank (`none` of the folder) and its name. SIDE.early is there if a bank was last read while its log was
-   not empty: what was read then may be gone after a power cut.
+   not empty: what was read then may be gone after a power cut. The file `said` has a line for each name of a log that
+   was not empty, or of a SIDE.new that was there, while something was written to the standard output: the server said
+   there that it is ready.
 
    Bugs of a server are planted by the lines `change 0 lie N`, each sync whose number N divides reports success and
    syncs nothing; `change 0 retry 0`, a sync that fails is tried again, and reports success then; `change 0 early 0`, no
@@ -294,6 +296,29 @@ static void mark_read(int file) {
     }
     int mark = open_in(is_left ? "left.early" : "right.early", O_CREAT | O_WRONLY);
     if (mark >= 0) syscall(SYS_close, mark);
+}
+
+/* Something is written to the standard output: writes down what is not synced at that moment. */
+static void mark_said(void) {
+    const char *names[] = { "left.undo", "right.undo", "left.new", "right.new" };
+    struct stat now;
+    char path[4096], line[40];
+    for (int at = 0; at < 4; at++) {
+        if (!path_of(path, sizeof path, names[at]) || syscall(SYS_newfstatat, AT_FDCWD, path, &now, 0) != 0) continue;
+        if (at < 2 && now.st_size == 0) continue;
+        int size = snprintf(line, sizeof line, "%s\n", names[at]), said = open_in("said", O_CREAT | O_WRONLY | O_APPEND);
+        if (said < 0 || syscall(SYS_write, said, line, size) != size) abort();
+        syscall(SYS_close, said);
+    }
+}
+
+ssize_t write(int file, const void *bytes, size_t size) {
+    if (file != STDOUT_FILENO) return syscall(SYS_write, file, bytes, size);
+    pthread_mutex_lock(&lock);
+    mark_said();
+    ssize_t done = syscall(SYS_write, file, bytes, size);
+    pthread_mutex_unlock(&lock);
+    return done;
 }
 
 ssize_t pread(int file, void *bytes, size_t size, off_t at) {

@@ -95,7 +95,7 @@ class Disk:
     def plan(self, lines: list[str]) -> None:
         """What goes wrong in the next life."""
         (self.side / "plan").write_text("".join(f"{line}\n" for line in lines))
-        for name in ("fired", *(f"{side}.early" for side in banks.SIDES)):
+        for name in ("fired", "said", *(f"{side}.early" for side in banks.SIDES)):
             (self.side / name).unlink(missing_ok=True)
 
     def fired(self) -> list[str]:
@@ -106,6 +106,14 @@ class Disk:
     def has_read_unsynced(self) -> bool:
         """Whether this life last read a bank while some of that was not synced."""
         return any(self.side.glob("*.early"))
+
+    def unsynced_when_ready(self) -> list[str]:
+        """What was not synced when this life said that it is ready: `SIDE.undo` for what is in a bank, `SIDE.new` for its name.
+
+        A server may begin a snapshot as soon as it has said so: whoever looks at the banks then comes too late.
+        """
+        file = self.side / "said"
+        return file.read_text().splitlines() if file.exists() else []
 
     def has_unsynced(self) -> bool:
         """Whether the banks have what a power cut may take."""
