@@ -3,7 +3,7 @@
 
     examples/client.py demo                 starts linda pipe, puts, reads, takes and waits, and prints what came back
     examples/client.py demo PORT CLIENT     the same with a server that listens on this port of this machine, as a client that was never used
-    examples/client.py decode < lines       tells lines of hexadecimal digits, each a whole frame, in words
+    examples/client.py decode < lines       explains lines of hexadecimal digits, each a whole frame, in words
 
 The demo starts the program that LINDA names; else `linda` on the PATH; else that of the folder around, a repository or an unpacked release.
 
@@ -219,7 +219,7 @@ class Client:
         return None
 
     def take(self, tag, *patterns):
-        """Takes a matching tuple: asks, accepts the offer, and asks again where it was gone."""
+        """Takes a matching tuple: asks, accepts the offer, and asks again if it was gone."""
         while True:
             offer = self.wait_for(tag, *patterns)
             self.number += 1

@@ -12,7 +12,7 @@ kill and once after it; what it led to is put once. It does the same after an er
 The demo starts the program that LINDA names; else `linda` on the PATH; else that of the folder around, a repository or an unpacked release.
 
 What of this is proved: the server takes no tuple twice, keeps what it answered over a kill -9 (if files keep what was synced), and answers a repeated
-number with the reply that it gave. That this program uses it rightly is shown by the demo alone.
+number with the reply that it gave. That this program uses it rightly is shown only by the demo.
 """
 
 import os

@@ -4,10 +4,10 @@
 It proves and builds `main.rt.txt` (so named since CI reads each `.rt` file) over the crates of this repository, in a folder of its own,
 and runs it at some 1,000, 100,000 and 1,000,000 deeds (whole records of 64) `("job", i)`, and at 1,000,000 records of one, on a bank of each
 form: a deed has 28 bytes in LND1 and 29 in LND2. The two forms go in turn, so that both have the same noise.
-The files lie in memory where /dev/shm is there, so that a sync costs little and the work of the program is seen. A time is the least of
+The files are in memory if /dev/shm is there, so that a sync costs little and the work of the program is seen. A time is the least of
 seventeen runs. It prints a line for each size with the time of a deed, the growth of that time from the first size to the last with records
 of 64, and the greatest memory in use of a process that opens the bank, also for each byte of the bank; the program itself is among it. Of the
-smallest bank none is told: it is that of this script, which the process is when it starts. It fails where the time of a deed in an append or
+smallest bank none is printed: it is that of this script, which the process is when it starts. It fails if the time of a deed in an append or
 an opening grows more than twice, or is more than 1.05 times as long in LND2 as in LND1 at 1,000,000 deeds.
 
 `run.py PROGRAM [FOLDER]` runs a program that is built already; the files are made in FOLDER.
@@ -47,7 +47,7 @@ def build(folder):
 
 
 def run(*words):
-    """The number that the program tells, and the greatest memory in use, in bytes."""
+    """The number that the program prints, and the greatest memory in use, in bytes."""
     child = subprocess.Popen(words, stdout=subprocess.PIPE, text=True)
     number = child.stdout.read()
     _, status, usage = os.wait4(child.pid, 0)

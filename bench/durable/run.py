@@ -3,7 +3,7 @@
 
 It proves and builds `main.rt.txt` (so named since the gate reads each `.rt` file) over the crates of this repository, in a folder of its own.
 A record of one put or of 64, and then of as many takes, is written and synced in four device calls, two of them data syncs; the plain loop
-writes as many bytes and syncs as often, and no more. A time is the least of five runs. The ratio is the plain loop's time to the server's; it fails where
+writes as many bytes and syncs as often, and no more. A time is the least of five runs. The ratio is the plain loop's time to the server's; it fails if
 that is below 0.8 on files. Then the server with 1,000,000 tuples writes a snapshot and is opened again, with the memory that took.
 
 `run.py PROGRAM [FOLDER]` runs a program that is built already; the files are made in FOLDER (the folder for temporary files, if none).

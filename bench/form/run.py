@@ -3,7 +3,7 @@
 
 It proves and builds `main.rt.txt` (so named since CI reads each `.rt` file) over the crates of this repository, in a folder of its own, and
 runs it for the two forms in turn, so that both have the same noise. A time is the least of eleven runs of 2,000,000 rounds. It prints the
-time of a round in each, and fails where the second form takes more than 1.05 times as long as the first.
+time of a round in each, and fails if the second form takes more than 1.05 times as long as the first.
 
 `run.py PROGRAM` runs a program that is built already.
 """

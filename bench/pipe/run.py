@@ -1,9 +1,9 @@
 #!/usr/bin/env python3
 """Times `linda pipe` on streams of 50,000, 100,000 and 200,000 puts.
 
-For each it tells the frames answered in a second, the microseconds a frame, the greatest memory in use, and how many
+For each it prints the frames answered in a second, the microseconds a frame, the greatest memory in use, and how many
 times longer it took than `xxd -r -p` does to read the same digits. Times are processor times, the best of ten runs.
-It fails where twice the frames take more than 2.3 times as long, or where a reply is missing.
+It fails if twice the frames take more than 2.3 times as long, or if a reply is missing.
 """
 
 import os

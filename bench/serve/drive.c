@@ -19,7 +19,7 @@
 //     slice N            what was acknowledged in a 50 ms slice; one line for each
 //     wake OFFER TAKEN   nanoseconds from the put until a taker has the offer, and the tuple; one line for each put
 //     latency A B C      nanoseconds: 50, 99 and 99.9 in 100 of all puts, pairs or wakes took no longer
-//     gap N              nanoseconds: the greatest time between two acknowledgements, whoever had them
+//     gap N              nanoseconds: the greatest time between two acknowledgements of any clients
 //     server A N V I     acknowledged puts and takes in all, and what the server used for them: nanoseconds of the
 //                        processors, voluntary and involuntary context switches of its threads
 //     driver P E         nanoseconds of a processor that this thread used meanwhile, and that went by

@@ -34,8 +34,8 @@ The other cells, with each program:
   them, and its threads. What the kernel has for sockets and threads is not counted.
 - A start with 1,000,000 tuples `("job", i)` in a snapshot, which the system still has in memory: the time until
   `ready`, and the most memory in use. `tools/large` measures large tuples, `bench/durable` an opening without a server.
-- A snapshot of 1,000,000 such tuples while 16 clients put: the greatest time between two acknowledgements, whoever had
-  them, and the time that the log says. Then the same with replies that are kept for 60,000 clients more, while another
+- A snapshot of 1,000,000 such tuples while 16 clients put: the greatest time between two acknowledgements of any
+  clients, and the time that the log says. Then the same with replies that are kept for 60,000 clients more, while another
   process asks for `/tags` each second.
 
 With --realtime server, driver and loop run in a real-time class (which takes root), ahead of all else on the machine.

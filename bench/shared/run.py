@@ -58,7 +58,7 @@ def empty(folder, name):
 
 
 def records(path):
-    """How many records stand behind the snapshot in a bank's file: how many deeds each has is not read."""
+    """How many records are after the snapshot in a bank's file: how many deeds each has is not read."""
     with open(path, "rb") as file:
         bank = file.read()
     at = 17 + int.from_bytes(bank[13:17], "big")

@@ -13,7 +13,7 @@
  *     switch (linda_decode(LINDA_SERVER, came, came_size, &reply, &used, &offset)) {
  *     case LINDA_OK:       // reply is the frame of the first `used` bytes; its texts point into `came`
  *     case LINDA_MORE:     // a frame has begun, and is not whole: read more, and try again from its first byte
- *     default:             // no frame; what comes behind it is none either
+ *     default:             // no frame; what comes after it is none either
  *     }
  *
  * It sends nothing and waits for nothing: docs/EVENTS.md says what a client does.
@@ -29,7 +29,7 @@
 #define LINDA_VERSION 2
 #define LINDA_MOST_TEXT 4095        /* bytes of UTF-8 in a text */
 #define LINDA_MOST_FIELDS 32        /* fields of a tuple, and patterns of a template, beside the tag */
-#define LINDA_MOST_LENGTH 262144    /* bytes of a frame behind its length, as its reader takes them */
+#define LINDA_MOST_LENGTH 262144    /* bytes of a frame after its length, as its reader takes them */
 #define LINDA_MOST_BYTES 135256     /* of a frame with its length, as it is written: an Offer of the largest tuple */
 
 /* ---- values */

@@ -52,7 +52,7 @@ const FIRST_REPLY = 0x11;
  *     id: bigint, tuple: Tuple }} Reply
  */
 
-/** Reads what is in a frame behind its length, from left to right. */
+/** Reads what is in a frame after its length, from left to right. */
 class FrameReader {
     /** @param {Uint8Array} data */
     constructor(data) {
@@ -109,7 +109,7 @@ class FrameReader {
         const number = kind === 'refused' ? BigInt(this.byte()) : this.number();
         const id = ['stored', 'offer', 'read', 'taken', 'refused'].includes(kind) ? this.number() : 0n;
         const tuple = ['offer', 'read', 'taken'].includes(kind) ? this.tuple() : [];
-        if (this.at !== this.data.length) throw new BadFrame('a frame has more behind its body');
+        if (this.at !== this.data.length) throw new BadFrame('a frame has more after its body');
         return { kind, number, id, tuple };
     }
 }
@@ -138,7 +138,7 @@ export const frames = Object.freeze({
     /** @param {number | bigint} number */
     leave: (number) => frame(6, spellNumber(number)),
     /**
-     * What is behind the length of a frame of a server.
+     * What is after the length of a frame of a server.
      * @param {Uint8Array} data
      */
     reply: (data) => new FrameReader(data).reply(),

@@ -4,7 +4,7 @@ export const VERSION = 2;
 export const MOST_TEXT = 4_095;                // bytes of UTF-8 in a text
 export const MOST_FIELDS = 32;                 // fields of a tuple, and patterns of a template, beside the tag
 export const LEAST_INTEGER = -(1n << 63n), MOST_INTEGER = (1n << 63n) - 1n;
-export const MOST_FRAME = 262_144;             // bytes of a frame behind its length
+export const MOST_FRAME = 262_144;             // bytes of a frame after its length
 export const NUMBER_LIMIT = 1n << 63n;         // numbers of messages and tickets stay below it
 export const MOST_CLIENT = 2 ** 32 - 1;
 export const MOST_SERVERS = 16;

@@ -1084,7 +1084,7 @@ export class Space {
     }
 
     /**
-     * Something has come, or is due. It is looked at behind all that can be read now: so what came in time counts, also
+     * Something has come, or is due. It is looked at after all that can be read now: so what came in time counts, also
      * if this program had no processor for a while.
      */
     #soon() {

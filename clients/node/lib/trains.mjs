@@ -1,6 +1,6 @@
 /**
  * Several numbered messages under way at once, 64 at most: outs, or the Accepts of takes. Those to one server have
- * rising numbers, and are answered in order; if one is refused those behind it are refused too, and none is done.
+ * rising numbers, and are answered in order; if one is refused those after it are refused too, and none is done.
  *
  * After a lost connection Welcome's last number says how many of them were done: those up to it.
  */
@@ -137,7 +137,7 @@ export class OutTrain {
 
     /**
      * Those before `last` were done, and no server keeps their replies. That with `last` is sent again for its reply,
-     * and what is behind it because it was not done: but not behind one that was refused.
+     * and what is after it because it was not done: but not after one that was refused.
      * @param {number} server @param {bigint} last
      */
     reconnected(server, last) {
@@ -156,7 +156,7 @@ export class OutTrain {
  * is always answered: what was not offered until then is not there, and is cancelled. What is offered is accepted at
  * once. An Accept over the connection of its Offer is always answered by Taken.
  *
- * - `tickets`: those that are asked under, and were not offered anything. `isAsking`: the answer behind them is due.
+ * - `tickets`: those that are asked under, and were not offered anything. `isAsking`: the answer after them is due.
  * - `isEmpty`: the server has no more. `got`, `taken`: how many were taken, and which, if they are kept.
  * - `told`: how many of `taken` an error has said. `isDropped`: it ended by an error, and only answers are waited for.
  */

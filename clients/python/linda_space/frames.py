@@ -81,7 +81,7 @@ def is_left(reply: Reply) -> bool:
 
 
 class Reader:
-    """Reads what is in a frame behind its length, from left to right; ValueError if it is none."""
+    """Reads what is in a frame after its length, from left to right; ValueError if it is none."""
 
     def __init__(self, data: bytes) -> None:
         self.data, self.at = data, 0
@@ -125,5 +125,5 @@ class Reader:
         else:
             reply = Reply(kind, self.number(), self.number() if kind in HAVE_ID else 0, self.values() if kind in HAVE_TUPLE else ())
         if self.at != len(self.data):
-            raise ValueError("a frame has more behind its body")
+            raise ValueError("a frame has more after its body")
         return reply

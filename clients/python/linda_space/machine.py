@@ -1,4 +1,4 @@
-"""The client as docs/EVENTS.md has it: it says what is to be sent, and is told what came. It knows no connections and no time but what it is told."""
+"""The client as docs/EVENTS.md has it: it says what is to be sent, and is given what came. It knows only the connections and the time that it is given."""
 
 from __future__ import annotations
 
@@ -27,7 +27,7 @@ class Machine:
     pending has ended, `ended` is how.
 
     - `is_up`, `probes`: for each server whether it is greeted, and how many answers to messages with number 0 it owes.
-    - `held`: the offers that are held, by server and ticket; `lost_offers`: those that were lost, and of which nobody was told yet.
+    - `held`: the offers that are held, by server and ticket; `lost_offers`: those that were lost, which no error has reported yet.
     - `in_hand`: what was taken for calls that ended by an error before.
     - `dropped`: the nack numbers of a synchronization that ended by an error, until the next one.
     - `is_interrupted`: the task is of a call that an exception ended that is not of this module. The next call waits for its end first, which is `settled`
@@ -130,13 +130,13 @@ class Machine:
         self.sent += [(server, spell_cancel(NUMBER_LIMIT - 1)) for server in servers]
 
     def tell_lost(self, offer: Offer) -> bool:
-        """Somebody is told now that this offer was lost; whether it was lost, and nobody was told before."""
+        """The loss of this offer is reported now. True if it was lost and this was not reported before."""
         was_lost = any(lost is offer for lost in self.lost_offers)
         self.lost_offers = [lost for lost in self.lost_offers if lost is not offer]
         return was_lost
 
     def release(self, offer: Offer) -> None:
-        """Gives what is held free again, if it is held and no Accept of it is unanswered. Nobody is told any more that it was lost."""
+        """Gives what is held free again, if it is held and no Accept of it is unanswered. Its loss is no longer reported."""
         self.tell_lost(offer)
         if self.held.get((offer.server, offer.ticket)) is offer and not (isinstance(self.task, Taking) and self.task.offer is offer):
             del self.held[offer.server, offer.ticket]

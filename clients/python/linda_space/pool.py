@@ -248,7 +248,7 @@ class Pool:
             self._waiting.popleft().release()
 
     def _reclaim(self) -> None:
-        """Frees the members of calls that are gone: an interrupt may come where a call cannot give its own back. The gate is closed meanwhile."""
+        """Frees the members of calls that are gone: an interrupt may come when a call cannot give its own back. The gate is closed meanwhile."""
         for member, user in list(self._users.items()):
             if user() is None:
                 if member in self._members and all(one is not member for one, _ in self._free):

@@ -132,7 +132,7 @@ class Space:
         self._now = clock if clock is not None else lambda: int((time.monotonic() - self._start) * 1000)
         self._process = os.getpid()
         self._is_closed = self._is_inherited = False
-        self._gate = threading.RLock()                      # whoever has it may touch the machine and the links; a call gives it up while it waits
+        self._gate = threading.RLock()                      # the thread that has it may touch the machine and the links; a call gives it up while it waits
         self._thread: Optional[int] = None                  # the thread that is in a call
         self._late: Optional[float] = None
         self._over: Optional[SpaceError] = None             # what all calls raise from now on
@@ -509,7 +509,7 @@ class Space:
             return not self._is_closed and self._machine.held.get((offer.server, offer.ticket)) is offer
 
     def _is_lost(self, offer: Offer) -> bool:
-        """Whether it was lost, and nobody was told yet; now somebody is."""
+        """True if it was lost and no error has reported it before; this call counts as the report."""
         if self._is_inherited or self._is_closed or os.getpid() != self._process:
             return False
         with self._gate:
@@ -537,8 +537,8 @@ class Space:
         return list(self._machine.held.values())
 
     def _end_holds(self, held: List[Offer], fault: BaseException) -> None:
-        """An interrupt came where a hold begins or ends, so that nobody may have it in hand: nothing is held any more then, as after one in a call. Of what was
-        held before Gone tells."""
+        """An interrupt came while a hold began or ended, so that nobody may have it in hand: nothing is held any more then, as after one in a call. Of what was
+        held before, Gone reports it."""
         if isinstance(fault, (SpaceError, TypeError, ValueError)) or self._is_inherited or os.getpid() != self._process:
             return
         with self._gate:
@@ -581,7 +581,7 @@ class Space:
         return self._drive(self._course(begin, timeout, is_again, offer, is_over))
 
     def _drive(self, course: Course[Got]) -> Got:
-        """Runs a call, and waits where it waits."""
+        """Runs a call, and waits when it waits."""
         me = threading.get_ident()
         with self._gate:                        # not by acquire(): an interrupt that comes right after that would leave the gate closed
             self._enter(me)
@@ -669,7 +669,7 @@ class Space:
             raise
 
     def _tell_lost(self, accepted: Optional[Offer] = None) -> None:
-        """Raises Gone of what was lost and not told yet; of only this offer, if it is being accepted, since that will tell. Every connection is looked at: by one
+        """Raises Gone of what was lost and not reported yet; only of this offer, if it is being accepted, since the accept reports the others. Every connection is looked at: by one
         that has ended nothing is sent, so that what is sent is known."""
         self._look([link.server for link in self._links if link.is_up])
         if accepted is None and self._machine.lost_offers:
@@ -685,7 +685,7 @@ class Space:
                     self._let_go(link)
 
     def _settle(self, until: float) -> Course[None]:
-        """Waits for the end of what an earlier call left behind."""
+        """Waits for the end of what an earlier call left unfinished."""
         machine = self._machine
         if isinstance(machine.task, Syncing):
             machine.give_up(True)
@@ -781,7 +781,7 @@ class Space:
         return min(self._links[server].said for server in holders) + RENEWAL
 
     def _serve(self, ready: Iterable[Tuple[selectors.SelectorKey, int]]) -> None:
-        """Writes and reads where that is possible now."""
+        """Writes and reads what is possible now."""
         if self._is_closed:
             raise Closed("the space was closed while a call waited")
         for key, what in ready:

@@ -13,7 +13,7 @@ gives one of the first.
 
 **Tries.** With `tries=N` the last field of a job says how often it failed, 0 at first, and the last pattern is INT. If the function raises, the job stays held
 by this worker for `delay` seconds, twice as long after each further failure, while other jobs are done; then it is put with one failure more, and the old one is
-taken. After N failures it is put as a dead letter instead, at once: its tag is `dead`, and behind the fields of the job are the count of failures and the error's
+taken. After N failures it is put as a dead letter instead, at once: its tag is `dead`, and after the fields of the job are the count of failures and the error's
 text, of 1,000 bytes at most. A worker that is killed meanwhile gives its jobs free at once, with the old count.
 
 **The end.** `work` goes on until a tuple that fits `stop` is there, if that is a read (`Rd("stop")`); or until `stop.is_set()`, as of a threading.Event; or
@@ -373,7 +373,7 @@ def work(space: Space, plan: Plan, function: Function) -> int:
         return done
     except BaseException:
         steps.close()
-        for offer in space._held_now():         # an interrupt came where no step had it in hand
+        for offer in space._held_now():         # an interrupt came while no step had it in hand
             if not any(offer is it for it in held):
                 space._release(offer)
         raise
