@@ -197,8 +197,8 @@ fn serve_plainly<
     )
 }
 
-// Begins the threads beside those of connections: one tells the watcher, one takes snapshots, until
-// it is over.
+// Begins the threads beside those of connections: one reports to the watcher, one takes snapshots,
+// until it is over.
 fn begin_beside<
     's,
     E,

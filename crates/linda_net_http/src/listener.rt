@@ -7,7 +7,8 @@ use std::net::TcpListener;
 use std::os::fd::{AsFd, OwnedFd};
 use std::os::unix::net::UnixListener;
 
-/// Where connections come in. Who may connect to a unix socket is up to the mode of its file.
+/// A listener on which connections come in. Who may connect to a unix socket is up to the mode of
+/// its file.
 #[derive(Drop)]
 pub enum Listener {
     /// A port of this machine.
@@ -54,8 +55,8 @@ impl PollListener {
         }
     }
 
-    /// A descriptor more of it, that is good for nothing but to be closed; none if the system has
-    /// no more.
+    /// A second descriptor of it, which is only there to be closed; `None` if the system has no
+    /// more.
     pub(crate) fn spare(&self) -> Option<OwnedFd> {
         match self {
             PollListener::Port(port) => port.as_fd().try_clone_to_owned().ok(),

@@ -1,4 +1,4 @@
-//! A listener where pages are asked for, and the connections that ask.
+//! A listener at which pages are asked for, and the connections that ask.
 
 use crate::connection::HttpConnection;
 use crate::listener::{Listener, PollListener};
@@ -34,12 +34,13 @@ const PIECE: usize = 8_192;
 /// How many bytes a page has at first.
 const PAGE: usize = 8_192;
 
-/// How long is waited if nothing happens, in milliseconds: then it is looked whether it is over.
+/// How many milliseconds the server waits if nothing happens: then it looks whether it is over.
 const QUIET: u64 = 100;
 
-/// Where pages are asked for, and who asks. At most 64 connections are there, each for ten seconds
-/// and a tenth of one at most if the clock does not fail; none is waited for. One descriptor is
-/// kept back: so somebody is answered if the process may have no more.
+/// A listener at which pages are asked for, and the connections that ask. At most 64 connections
+/// are there, each for ten seconds and a tenth of one at most if the clock does not fail; none is
+/// waited for. One descriptor is kept back: so somebody is answered if the process may have no
+/// more.
 #[derive(Drop)]
 pub struct HttpServer {
     alloc: Global,
@@ -55,7 +56,7 @@ pub struct HttpServer {
     room: PageBuffer,
 }
 
-/// Where a page is spelled, and then the whole answer.
+/// The texts in which a page is spelled, and then the whole answer; and the bytes that are read.
 #[derive(Drop)]
 struct PageBuffer {
     page: String,

@@ -7,7 +7,7 @@ use Rattle.linda_net_session.specs.Between.{TakesNothing, TakesOne}
 use Rattle.linda_net_loops.specs.declared.connection.ConnectionEvent.{ConnectionEvent}
 use Rattle.linda_net_loops.specs.declared.connection.ConnectionEvent.TheVariants as nexts
 
--- A message that is given was taken, and goes where its session says; else nothing was taken.
+-- A message that is given was taken, with the route that its session says; else nothing was taken.
 abbrev pub Gives : Session → ConnectionEvent → Session → Type 0
 Gives old (nexts.Message m route) new = TakesOne old m route new
 Gives old nexts.Kept new = TakesNothing old new

@@ -26,7 +26,7 @@ const MOST_READS: u32 = 16;
 
 /// What a connection has next.
 pub(crate) enum ConnectionEvent {
-    /// A message, and where it goes.
+    /// A message, and its route.
     Message(Message, Route),
     /// A message that cannot go yet: it is given again.
     Kept,
@@ -106,7 +106,7 @@ impl<S: Socket, L: Ledger> Connection<S, L> {
         self.is_shut = self.is_shut || is_shut;
     }
 
-    /// Whether something of it is on its way. Until it came back the connection stays where it is.
+    /// Whether something of it is on its way. Until that came back the connection keeps its place.
     pub(crate) fn is_waiting(&self) -> bool {
         self.session.is_waiting()
     }
@@ -172,7 +172,7 @@ impl<S: Socket, L: Ledger> Connection<S, L> {
 
     /// Its next message, if there is room for it. It is read if less than one is there.
     pub(crate) fn next(&mut self, buffer: &mut [u8], room: OpenWays) -> ConnectionEvent
-        // It is what the session took, and where that says that it goes.
+        // It is the message that the session took, with the route that the session says.
         ensures gives { Gives self.old.session result self.new.session }
         ensures account { self.new.account ≡ self.old.account }
     {

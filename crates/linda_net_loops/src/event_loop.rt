@@ -25,15 +25,15 @@ const WAKER: usize = 1;
 /// How many events are taken at once.
 const EVENTS: usize = 1_024;
 
-/// How long is waited at most if nothing happens, in milliseconds: then it is looked whether the
-/// server is down.
+/// How many milliseconds a loop waits at most if nothing happens: then it looks whether the server
+/// is down.
 const QUIET: u64 = 1_000;
 
 /// How often a loop goes round at most once the server is down, before connections are closed that
 /// take nothing.
 const MOST_ENDING: u32 = 1_024;
 
-/// How often it is looked at most for more that is ready before a group is written to the disks.
+/// How often a loop looks at most for more that is ready before it writes a group to the disks.
 const MOST_LOOKS: u32 = 8;
 
 /// A loop: some of the connections, and what of theirs goes to the server next.
@@ -43,9 +43,9 @@ pub(crate) struct Loop<L: Ledger> {
     events: Events,
     sessions: Sessions<Stream, L>,
     batch: Groups<L>,
-    // Where connections are put that were handed to it.
+    // Room for connections that were handed to it.
     streams: Vec<Stream>,
-    // Where connections come in, if that is here.
+    // What lets connections in, if this loop does that.
     acceptor: Option<Acceptor>,
     // No connection is handed to it any more.
     is_closed: bool,

@@ -23,7 +23,7 @@ pub fn account_has_parts_for_all()
 /// What came of a look at a connection.
 #[derive(Clone, Copy)]
 pub(crate) enum LookOutcome {
-    /// A message was taken, and is where its session says that it goes.
+    /// A message was taken, and put on the route that its session says.
     Taken,
     /// There is one that cannot go yet: it is given again.
     Kept,
@@ -33,8 +33,8 @@ pub(crate) enum LookOutcome {
     Later,
 }
 
-/// Takes the next message of the connection of this key, if there is room for it, and puts it where
-/// its session says that it goes.
+/// Takes the next message of the connection of this key, if there is room for it, and puts it on
+/// the route that its session says.
 pub(crate) fn take_next<S: Socket, L: Ledger>(
     connection: &mut Connection<S, L>,
     key: usize,
@@ -60,7 +60,7 @@ pub(crate) fn take_next<S: Socket, L: Ledger>(
     }
 }
 
-// Puts a message of the connection of this key where its session says that it goes.
+// Puts a message of the connection of this key on the route that its session says.
 fn put<S: Socket, L: Ledger>(
     connection: &mut Connection<S, L>,
     key: usize,

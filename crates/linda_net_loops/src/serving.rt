@@ -1,5 +1,5 @@
-//! Serving, the connections of one loop without a system below: whoever has it says which may be
-//! read or written.
+//! Serving, the connections of one loop without a system below: the caller says which may be read
+//! or written.
 
 use crate::groups::Groups;
 use crate::service::{serve_asks, serve_deeds};
@@ -33,7 +33,7 @@ impl<S: Socket, L: Ledger> Serving<S, L> {
         Ok(Serving { sessions, batch })
     }
 
-    /// A connection comes, of which something may be read. Returns its key; none if there is no
+    /// A connection comes, of which something may be read. Returns its key; `None` if there is no
     /// memory, and then it is closed.
     pub fn let_in(&mut self, socket: S) -> Option<usize> {
         let key = self.sessions.insert(socket)?;

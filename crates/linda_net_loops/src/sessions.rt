@@ -40,7 +40,7 @@ pub(crate) struct Sessions<S: Socket, L: Ledger> {
     to_write: Vec<usize>,
     /// Clients that come and go: at most one for each connection.
     pub(crate) calls: VecDeque<LoopCall>,
-    // Where replies are put that other loops handed to this one.
+    // Room for replies that other loops handed to this one.
     handed: Vec<Sent>,
     // How many bytes clients were given since this was asked last.
     bytes_sent: u64,
@@ -102,7 +102,7 @@ impl<S: Socket, L: Ledger> Sessions<S, L> {
         self.clients.contains_key(&client)
     }
 
-    /// A connection comes. Returns its key; none if there is no memory, and then it is closed.
+    /// A connection comes. Returns its key; `None` if there is no memory, and then it is closed.
     pub(crate) fn insert(&mut self, stream: S) -> Option<usize> {
         if self.make_room().is_err() {
             return None;

@@ -10,7 +10,7 @@ use std::io;
 #[derive(Clone, Copy)]
 pub enum ConnectionNotice<'m> {
     /// This message was to greet its client, which is welcome, with the number of its last request,
-    /// or refused by a code and a detail; none if the server could not say.
+    /// or refused by a code and a detail; `None` if the server could not say.
     Greeted(&'m Message, Option<Result<u64, (u8, u64)>>),
     /// A second Hello was answered.
     Busy,

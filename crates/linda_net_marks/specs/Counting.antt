@@ -44,7 +44,7 @@ more_than now before = record {
 abbrev pub none_refused : RefusalValues
 none_refused = record { busy = 0; clients = 0; greetings = 0; malformed = 0 }
 
--- One connection fewer, where they are counted.
+-- One connection fewer, if they are counted.
 abbrev pub one_less : Option ℕ → Option ℕ
 one_less None = None
 one_less (Some left) = Some (left - 1)

@@ -1,8 +1,8 @@
-//! Counts of what happens at connections, whatever serves them.
+//! Counts of what happens at connections, however they are served.
 //!
 //! - `Counters` has the counts, which threads share; a `CounterValues` is what they come to.
 //! - A `Notice` is what is reported of them, and `RefusalReason` says why a client was refused.
-//! - `word_of` is what a client is told last if the server has a fault.
+//! - `word_of` is the last word to a client if the server has a fault.
 //! - Only a client number that is refused Busy again and again counts (`BusyRuns`).
 #![tactic(auto)]
 

@@ -20,11 +20,11 @@ pub enum Notice {
     Missed,
     /// Clients are refused for this reason: reported as `Full` is.
     Turned(RefusalReason),
-    /// No thread could be had for whoever watches: nothing more is reported.
+    /// No thread could be had for the watcher: nothing more is reported.
     Unwatched,
     /// No thread could be had for snapshots: none is taken.
     NoThread,
-    /// The system has no thread or no room for who answers what is asked: nothing is answered.
+    /// The system has no thread or no room for the status server: nothing is answered.
     NoStatus,
     /// The server went down.
     Down,

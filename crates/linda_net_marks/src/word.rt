@@ -6,7 +6,7 @@ ghost use Rattle.linda_net_marks.specs.Word.{word_of};
 use linda_shared_accounts::SharedFault;
 use linda_wire::Refusal;
 
-/// The last word to a client if the server has this fault; none if memory ran out.
+/// The last word to a client if the server has this fault; `None` if memory ran out.
 pub fn word_of(fault: SharedFault) -> Option<Refusal>
     ensures { result ≡ word_of fault }
 {

@@ -38,7 +38,7 @@ impl EventInbox {
         self.arrived.notify_one();
     }
 
-    /// What came first, after the number of its server; `None` where nothing has come for a
+    /// What came first, after the number of its server; `None` if nothing has come for a
     /// millisecond.
     pub fn take<R: Wait + Clock>(&self, rt: &R) -> Option<(u32, ServerEvent)> {
         let (mut kept, _) = self.arrived.wait_timeout_while(

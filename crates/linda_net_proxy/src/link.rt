@@ -14,8 +14,8 @@ use std::sync::{Mutex, Wait};
 use std::thread;
 use std::time::{Clock, Duration};
 
-/// How often it is looked whether a server that was given up is to be tried again, in milliseconds
-/// apart.
+/// How many milliseconds pass between two looks at whether a server that was given up is to be
+/// tried again.
 const LOOK: u64 = 10;
 
 /// The connection to one server. One thread keeps it up, another sends.
@@ -23,7 +23,7 @@ const LOOK: u64 = 10;
 pub struct ServerLink {
     server: u32,
     port: u16,
-    // Where the server listens in place of a port: on a unix socket at this path.
+    // The path of the unix socket on which the server listens, if it does not listen on a port.
     path: Option<String>,
     client: u32,
     // The client was never used before.
@@ -34,7 +34,7 @@ pub struct ServerLink {
     retries: Mutex<bool>,
 }
 
-// A connection, for whoever sends or ends it.
+// A connection, for the thread that sends or ends it.
 #[derive(Drop)]
 struct LinkConnection {
     stream: TcpStream,
@@ -80,8 +80,8 @@ impl ServerLink {
         *self.retries.lock(rt) = true;
     }
 
-    /// Sends where there is a greeted connection. Where there is none, or it is lost, what counts
-    /// is sent again after the next greeting.
+    /// Sends if there is a greeted connection. If there is none, or it is lost, what counts is sent
+    /// again after the next greeting.
     ///
     /// # Errors
     ///
@@ -178,7 +178,8 @@ impl ServerLink {
         self.let_go(rt);
     }
 
-    // Waits until the server is to be tried again. Says whether it is: else nobody takes any more.
+    // Waits until the server is to be tried again. Returns whether it is: else nobody takes any
+    // more.
     fn wait_retry<R: Wait + Clock>(&self, rt: &R, inbox: &EventInbox) -> bool {
         for _ in rt.forever() {
             if inbox.is_over(rt) {
@@ -214,8 +215,8 @@ impl ServerLink {
         }
     }
 
-    // One greeting. The connection can be ended from outside before it is waited for: whoever ends
-    // all says so in the inbox first.
+    // One greeting. The connection can be ended from outside before it is waited for: a thread that
+    // ends all says so in the inbox first.
     fn greet<R: Net<Stream = TcpStream> + Wait>(
         &self,
         rt: &R,
@@ -238,7 +239,7 @@ impl ServerLink {
         Ok(proxy)
     }
 
-    // A connection to where the server listens.
+    // A connection to the server, at its path or on its port.
     fn connect<R: Net<Stream = TcpStream>>(
         &self,
         rt: &R,

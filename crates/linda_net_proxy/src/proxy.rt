@@ -69,7 +69,8 @@ impl Proxy {
     }
 
     /// Greets the server: with `fresh` as a client that was never used, which a server refuses that
-    /// keeps a reply for it. Gives the last number that the server keeps. It waits for the answer.
+    /// keeps a reply for it. Returns the last number that the server keeps. It waits for the
+    /// answer.
     ///
     /// # Errors
     ///
@@ -80,7 +81,7 @@ impl Proxy {
         welcome_in(&self.receive(alloc)?)
     }
 
-    /// Another hand on the same connection, for whoever sends or ends it while somebody else
+    /// A second handle of the same connection, for a thread that sends or ends it while another one
     /// receives.
     ///
     /// # Errors
@@ -97,8 +98,8 @@ impl Proxy {
     ///
     /// # Errors
     ///
-    /// `Lost` where the connection ended; `NotAServer` if what came is no reply; `Memory`, after
-    /// which it may be called again.
+    /// `Lost` if the connection ended; `NotAServer` if what came is no reply; `Memory`, after which
+    /// it may be called again.
     pub fn receive(&mut self, alloc: Global) -> Result<Reply, ProxyFault> {
         let mut buffer = [0; PIECE];
         for _ in 0..MAX_READS {
@@ -117,8 +118,8 @@ impl Proxy {
     }
 }
 
-// The reply at the front of what came, which is then read; `None` where less than a whole frame is
-// there. What gives something else is no server.
+// The reply at the front of what came, which is then read; `None` if there is less than a whole
+// frame. What gives something else is no server.
 fn next_reply(feed: &mut ReplyFeed, alloc: Global) -> Result<Option<Reply>, ProxyFault>
     ensures found { IfOk result (λ o.
         IfSome o (λ r. feed.old ≡ frame (replies.spell r) ++ feed.new)) }

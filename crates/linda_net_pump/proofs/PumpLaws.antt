@@ -1,4 +1,4 @@
--- The loops of a pump: what holds before each turn, and what follows where they end.
+-- The loops of a pump: what holds before each turn, and what follows when they end.
 use Rattle.std.proofs.Common.{◌≡◌, ◌≢◌, ℕ, ◌+◌, ◌<◌, ◌≤◌, arith, List, [], ◌++◌, length, take, refl, sym, subst}
 use Rattle.std.specs.Prelude.{Option, Some, None, Result, Ok, Err, IfOk, IfErr}
 use Rattle.std.specs.Io.KnownBytes.{Keeps, Consumes}

@@ -46,12 +46,14 @@ abbrev pub ReadsOn : List ℕ → List ℕ → Message → List Message → Type
 ReadsOn bytes rest first messages =
     (more : List Message) × ((messages ≡ first ∷ more) × IsReading bytes more rest)
 
--- How the bytes after the last message stand: no whole frame and no fault, or a fault.
+-- What the bytes after the last message are: no whole frame without a fault, or a fault with this
+-- offset.
 abbrev pub StandsAs : Option ℕ → List ℕ → Type 0
 StandsAs None rest = message_front rest ≡ Partial
 StandsAs (Some detail) rest = IsMalformed rest detail
 
--- All messages in the bytes were taken, up to a rest that stands so.
+-- All messages in the bytes were taken, up to this rest, which has a fault at this offset, if one
+-- is given.
 abbrev pub AllTaken : List ℕ → Option ℕ → List ℕ → Known → Known → Type 0
 AllTaken bytes stand rest old new =
     (messages : List Message)
@@ -63,8 +65,8 @@ SomeTaken bytes old new =
     (messages : List Message)
     × ((rest : List ℕ) × (IsReading bytes messages rest × TakesSome old new messages))
 
--- What a call that hands over all messages in the bytes did: it says how the bytes after them
--- stand.
+-- What a call that hands over all messages in the bytes did: it returns the offset of a fault after
+-- them, if there is one.
 abbrev pub HandsOver : List ℕ → List ℕ → Known → Known → Result (Option ℕ) ConverseFault → Type 0
 HandsOver bytes rest old new (Ok stand) = AllTaken bytes stand rest old new
 HandsOver bytes rest old new (Err fault) = IsOfIntake fault × SomeTaken bytes old new

@@ -8,9 +8,9 @@ ghost use Rattle.linda_net_pump.specs.Pumping.{Takes, TakesSome, IsOfIntake};
 use linda_store::ConverseFault;
 use linda_wire::Message;
 
-/// Whoever takes the messages of a stream.
+/// What takes the messages of a stream.
 pub trait Intake {
-    /// The messages that were taken, in order; `None` where nothing is said of them, as of a server
+    /// The messages that were taken, in order; `None` if nothing is said of them, as of a server
     /// that threads share.
     ghost taken: { Self → Option (List MessageValue) };
 

@@ -1,8 +1,8 @@
 //! The reading loop of a connection.
 //!
 //! - `pump` reads a stream to its end and hands the message of each whole frame to an `Intake`,
-//!   once and in the order read, whatever the pieces that come: all messages that are whole at a
-//!   time go together, 64 at most.
+//!   once and in the order read, however the bytes are cut into pieces: all messages that are whole
+//!   at a time go together, 64 at most.
 //! - A list in memory is an `Intake` that keeps what it takes.
 #![tactic(auto)]
 

@@ -25,9 +25,9 @@ const PIECE: usize = 4096;
 ///
 /// # Errors
 ///
-/// `Read` where the reader failed, `Turns` after 4,294,967,295 reads: the messages of all whole
-/// frames that were read were handed over. `Memory`, and what the intake answers: those of some
-/// first frames.
+/// `Read` if the reader failed, `Turns` after 4,294,967,295 reads: the messages of all whole frames
+/// that were read were handed over. `Memory`, and what the intake answers: those of some first
+/// frames.
 pub fn pump<R: Read, I: Intake>(
     alloc: Global,
     reader: &mut R,

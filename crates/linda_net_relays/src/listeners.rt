@@ -1,10 +1,10 @@
-//! Listeners, where connections come in.
+//! Listeners, on which connections come in.
 
 use std::io;
 use std::net::TcpListener;
 use std::os::unix::net::UnixListener;
 
-/// Where connections come in: a port of this machine, a unix socket, or both.
+/// The listeners on which connections come in: a port of this machine, a unix socket, or both.
 #[derive(Drop)]
 pub struct ListeningSockets {
     /// The listener of a port.

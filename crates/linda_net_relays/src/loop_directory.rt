@@ -54,7 +54,7 @@ impl LoopDirectory {
         Ok(())
     }
 
-    /// The client is no more served by this loop. Where another one has it already, that stays.
+    /// This loop serves the client no more. If another one has it already, that stays.
     pub fn shut<R: Wait>(&self, rt: &R, client: u32, index: usize) {
         let mut routes = self.routes.lock(rt);
         if routes.get(&client) == Some(&index) {

@@ -7,7 +7,7 @@ use std::alloc::Global;
 use std::sync::atomic::{AtomicU64, Ordering};
 use std::sync::{Mutex, Wait};
 
-/// Connections that came and replies to clients of the loop, and how the loop stands.
+/// Connections that came and replies to clients of the loop, and the state of the loop.
 #[derive(Drop)]
 struct InboxContents {
     streams: Vec<Stream>,
@@ -22,7 +22,7 @@ struct InboxContents {
     is_down: bool,
 }
 
-/// How a loop stands.
+/// The state of a loop.
 #[derive(Clone, Copy)]
 pub struct InboxFlags {
     /// A reply to one of its clients was lost: no session of it can go on.
@@ -33,7 +33,7 @@ pub struct InboxFlags {
     pub is_down: bool,
 }
 
-/// What others hand to one loop. Whoever has its lock asks for no other.
+/// What others hand to one loop. A thread that has its lock asks for no other.
 #[derive(Drop)]
 pub struct LoopInbox {
     inbox: Mutex<InboxContents>,

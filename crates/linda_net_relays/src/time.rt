@@ -1,4 +1,4 @@
-//! The time of a loop, by which it is seen for how long something is so. It is never ahead of the
+//! The time of a loop, by which it measures for how long something is so. It is never ahead of the
 //! clock.
 
 ghost use Rattle.std.specs.Prelude.{◌≡◌};
@@ -20,7 +20,7 @@ const MILLI: u64 = 1_000_000;
 pub struct Time {
     // When the clock was read last.
     last: Option<Instant>,
-    // What it is, and what it was when the turn began, and when connections were looked at last.
+    // The time now, at the beginning of the turn, and when connections were last looked at.
     now: u64,
     began: u64,
     looked: u64,

@@ -154,7 +154,7 @@ pub unread_more : (held : Option Message) (feed bytes : List ℕ) → unread_of 
 unread_more None feed bytes = refl
 unread_more (Some m) feed bytes = sym (append_assoc (message_frame m) feed bytes)
 
--- ---- what is told
+-- ---- what is queued
 
 pub said_lawful : (r : Reply) (s : Session) → is_closed s.ends ≡ false → IsLawful s → IsLawful (said r s)
 said_lawful r s is l = record {
@@ -188,7 +188,7 @@ said_lawful r s is l = record {
     open_last (ends.Told word) told is = absurd cc
     open_last ends.Broken told is = tt
 
--- what went out is the front of the frames of what was told
+-- what went out is the front of the frames of the replies that were queued
 pub went_out : (e : SessionEnd) (told : List Reply) (sent pending : List ℕ) → HasSaid e told sent pending
     → IsPrefixOf sent (flat_map reply_frame told)
 went_out ends.Never told sent pending h = (pending, h)

@@ -13,7 +13,7 @@ use Rattle.linda_net_session.specs.Lawful.{IsPrefixOf, IsLawful, HaveOneStory}
 framed : IsFramed message
 framed = record { lawful = message_is; sized = message_size }
 
--- a message stands at the front as it is spelled
+-- bytes that begin with the frame of a message have that message at the front
 pub message_again : (m : Message) (rest : List ℕ) → FitsMessage m → message_front (message_frame m ++ rest) ≡ Whole m rest
 message_again m rest fits = front_again message framed m rest fits
 

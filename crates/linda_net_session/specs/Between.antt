@@ -6,7 +6,7 @@ use Rattle.linda_net_session.specs.declared.route.Route.{Route}
 use Rattle.linda_net_session.specs.Session.{Session}
 use Rattle.linda_net_session.specs.Turns.{Finishes}
 
--- Nothing was taken, told or sent, and it is as far as it was.
+-- Nothing was taken, queued or sent, and it is as far as it was.
 abbrev pub TakesNothing : Session → Session → Type 0
 TakesNothing old new =
     (new.taken ≡ old.taken) × (new.told ≡ old.told) × (new.sent ≡ old.sent)
@@ -24,6 +24,6 @@ Sends old new =
     × (((new.sent ++ new.pending ≡ old.sent ++ old.pending) × (new.ends ≡ old.ends))
     ⊎ (new.ends ≡ ends.Broken))
 
--- Its last word was told, if it was due, and then bytes went out.
+-- Its last word was queued, if it was due, and then bytes went out.
 abbrev pub Flushes : Session → Session → Type 0
 Flushes old new = (told : Session) × (Finishes old told × Sends told new)

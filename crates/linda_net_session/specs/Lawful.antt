@@ -1,4 +1,4 @@
--- Laws of each session, whatever was called before.
+-- Laws of each session, which hold after any calls.
 use Rattle.std.specs.Prelude.{◌≡◌, ℕ, ◌≤◌, true, List, [], ◌∷◌, ◌++◌, All}
 use Rattle.std.specs.Prelude.{Some, None}
 use Rattle.std.specs.List.{flat_map}
@@ -22,8 +22,8 @@ pub record IsReading (bytes : List ℕ) (ms : List Message) (rest : List ℕ) : 
   pub fit : All FitsMessage ms
   pub spelled : bytes ≡ flat_map message_frame ms ++ rest
 
--- What went out and what waits are the frames of what was told; of a broken session, what went out
--- is the front of them.
+-- What went out and what waits are the frames of the replies that were queued; of a broken session,
+-- what went out is the front of them.
 abbrev pub HasSaid : SessionEnd → List Reply → List ℕ → List ℕ → Type 0
 HasSaid ends.Never told sent pending = flat_map reply_frame told ≡ sent ++ pending
 HasSaid ends.Shut told sent pending = flat_map reply_frame told ≡ sent ++ pending
@@ -32,7 +32,7 @@ HasSaid (ends.Told word) told sent pending = flat_map reply_frame told ≡ sent 
 HasSaid ends.Broken told sent pending =
     (pending ≡ []) × IsPrefixOf sent (flat_map reply_frame told)
 
--- The last word, if there is one, is the last reply that was told.
+-- The last word, if there is one, is the last reply that was queued.
 abbrev pub HasLast : SessionEnd → List Reply → Type 0
 HasLast ends.Never told = Unit {0}
 HasLast ends.Shut told = Unit {0}
@@ -45,7 +45,8 @@ HasLast ends.Broken told = Unit {0}
 pub record IsLawful (s : Session) : Type 0 where
   -- what was taken are the messages of the whole frames that were received, once and in order
   pub read : IsReading s.received (messages s.taken) s.unread
-  -- what was and will be written are the frames of what was told, in order, and nothing else
+  -- what was and will be written are the frames of the replies that were queued, in order, and
+  -- nothing else
   pub said : HasSaid s.ends s.told s.sent s.pending
   pub last : HasLast s.ends s.told
   -- few messages are on their way

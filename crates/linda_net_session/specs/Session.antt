@@ -1,4 +1,4 @@
--- Sessions as contracts see them: what one received, took, reported and wrote, and how far it is.
+-- Sessions as contracts see them: what one received, took, queued and wrote, and how far it is.
 use Rattle.std.specs.Prelude.{ℕ, ◌==◌, ◌&&◌, nat_le, Bool, true, false, not, if◌then◌else◌}
 use Rattle.std.specs.Prelude.{List, [], ◌∷◌, ◌++◌, length, map, take, drop, Option, Some, None}
 use Rattle.std.specs.Prelude.{option_map}
@@ -25,7 +25,7 @@ pub record Session : Type 0 where
   pub unread : List ℕ
   -- the messages that were taken, and where each of them went
   pub taken : List (Message × Route)
-  -- the replies that were told, all bytes that went out, and those that wait
+  -- the replies that were queued, all bytes that went out, and those that wait
   pub told : List Reply
   pub sent : List ℕ
   pub pending : List ℕ
@@ -34,7 +34,7 @@ pub record Session : Type 0 where
   -- no whole message is left, as was seen
   pub rests : Bool
 
--- the messages, without where they went
+-- the messages, without their routes
 abbrev pub messages : List (Message × Route) → List Message
 messages taken = map (λ t. t.0) taken
 
@@ -56,7 +56,7 @@ is_fed (ends.Ending word) = false
 is_fed (ends.Told word) = false
 is_fed ends.Broken = false
 
--- Whether nothing more is told.
+-- Whether nothing more is queued.
 abbrev pub is_closed : SessionEnd → Bool
 is_closed ends.Never = false
 is_closed ends.Shut = false
@@ -64,7 +64,7 @@ is_closed (ends.Ending word) = false
 is_closed (ends.Told word) = true
 is_closed ends.Broken = true
 
--- Nothing more is taken. The first word that there was is told last.
+-- Nothing more is taken. The first word that is given is queued last.
 abbrev pub ended_by : Option Refusal → SessionEnd → SessionEnd
 ended_by word ends.Never = ends.Ending word
 ended_by word ends.Shut = ends.Ending word
@@ -114,11 +114,11 @@ wants_read s = may_take s && (is_fed s.ends && s.rests)
 abbrev pub has_more : Session → Bool
 has_more s = may_take s && not (is_fed s.ends && s.rests)
 
--- Whether nothing is on its way, and it was told all, or is broken.
+-- Whether nothing is on its way, and nothing more is queued.
 abbrev pub has_left : Session → Bool
 has_left s = is_closed s.ends && (on_way s.phase == 0)
 
--- Whether all is answered, told and written.
+-- Whether all is answered, queued and written.
 abbrev pub is_over : Session → Bool
 is_over s = has_left s && (length s.pending == 0)
 
@@ -162,7 +162,7 @@ abbrev pub took : Message → List ℕ → Route × Phase → Session → Sessio
 took m rest placed s =
     record s { unread = rest; taken = s.taken ++ (m, placed.0) ∷ []; phase = placed.1 }
 
--- It was told this.
+-- This reply is queued.
 abbrev pub said : Reply → Session → Session
 said r s = record s { told = s.told ++ r ∷ []; pending = s.pending ++ reply_frame r }
 

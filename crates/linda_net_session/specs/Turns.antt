@@ -15,11 +15,11 @@ use Rattle.linda_net_session.specs.Place.{place, kind_of, on_way, is_keep}
 use Rattle.linda_net_session.specs.Session.{Session, is_closed, may_take, word_of}
 use Rattle.linda_net_session.specs.Session.{ended, at_rest, took, said, broken}
 
--- The client is told this; if there is no memory for it, the session is broken.
+-- This reply is queued; if there is no memory for it, the session is broken.
 abbrev pub Says : Reply → Session → Session → Type 0
 Says r old new = (new ≡ said r old) ⊎ (new ≡ broken old)
 
--- The client is told this, but after the last word nothing.
+-- This reply is queued, but nothing is after the last word.
 abbrev pub TellsBy : Bool → Reply → Session → Session → Type 0
 TellsBy true r old new = new ≡ old
 TellsBy false r old new = Says r old new
@@ -27,7 +27,7 @@ TellsBy false r old new = Says r old new
 abbrev pub Tells : Reply → Session → Session → Type 0
 Tells r old new = TellsBy (is_closed old.ends) r old new
 
--- What follows of a message that was taken, by where it went: a second Hello is refused.
+-- What follows of a message that was taken, by its route: a second Hello is refused.
 abbrev pub Leads : Route → Session → Session → Type 0
 Leads routes.Greet old new = new ≡ old
 Leads routes.Busy old new = Says (refused refusals.Busy) old new
@@ -65,7 +65,7 @@ abbrev pub Nexts : OpenWays → Session → Option (Message × Route) → Sessio
 Nexts room old (Some found) new = Takes room old found.0 found.1 new
 Nexts room old None new = WaitsBy (may_take old) room old new
 
--- The last word is told, if there is one.
+-- The last word is queued, if there is one.
 abbrev pub Closes : SessionEnd → Session → Session → Type 0
 Closes ends.Never old new = new ≡ old
 Closes ends.Shut old new = new ≡ old

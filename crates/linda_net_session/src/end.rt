@@ -12,9 +12,9 @@ pub enum SessionEnd {
     Never,
     /// No more bytes come. What came is taken to its end.
     Shut,
-    /// Nothing more is taken from it. Once all is answered it is told this, if there is something.
+    /// Nothing more is taken from it. Once all is answered, this word is queued, if there is one.
     Ending(Option<Refusal>),
-    /// It was told this last, if there was something, and is told nothing more.
+    /// This word was queued last, if there was one, and nothing more is queued.
     Told(Option<Refusal>),
     /// It can be neither read nor written.
     Broken,
@@ -34,7 +34,7 @@ impl SessionEnd {
         }
     }
 
-    /// Whether nothing more is told.
+    /// Whether nothing more is queued.
     pub fn is_closed(self) -> bool
         ensures { result ≡ is_closed self }
     {
@@ -47,7 +47,7 @@ impl SessionEnd {
         }
     }
 
-    /// Nothing more is taken, and this is told last, if nothing else is.
+    /// Nothing more is taken, and this word is queued last, unless there is another one.
     pub(crate) fn ended_by(self, word: Option<Refusal>) -> SessionEnd
         ensures { result ≡ ended_by word self }
     {

@@ -16,8 +16,8 @@ pub fn one_story(one: &Session, other: &Session)
     other.lawful();
 }
 
-/// The bytes that went out are the first ones of the frames of what was told, also if the session
-/// broke.
+/// The bytes that went out are the first ones of the frames of the replies that were queued, also
+/// if the session broke.
 pub fn goes_out_as_told(session: &Session)
     ensures { IsPrefixOf session.now.sent (flat_map reply_frame session.now.told) }
 {

@@ -1,8 +1,8 @@
 //! One connection of a server as a machine over bytes: a `Session` makes no call.
 //!
 //! The bytes that come in go to `received`, and `next` gives their messages, each with the way that
-//! it goes. What is said to the client goes to `tell`, and `unsent` has the bytes that are to be
-//! written. The caller moves the bytes and asks the server.
+//! it goes. A reply to the client goes to `tell`, which queues it, and `unsent` has the bytes that
+//! are to be written. The caller moves the bytes and asks the server.
 #![tactic(auto)]
 
 mod end;

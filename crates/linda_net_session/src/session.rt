@@ -24,7 +24,7 @@ use std::alloc::{AllocError, Global};
 use std::marker::Model;
 
 /// One connection of a server: what was received and is not taken, and what is to be written.
-/// Contracts see all that it received, took, told and wrote.
+/// Contracts see all that it received, took, queued and wrote.
 #[derive(Drop)]
 pub struct Session {
     alloc: Global,
@@ -117,8 +117,8 @@ impl Session {
         self.end = self.end.shut();
     }
 
-    /// The next message, and where it goes: never `Keep`, and after `Busy` nothing is to be done
-    /// with it. `None` if no message is whole, or it cannot go now.
+    /// The next message, and its route: never `Keep`, and after `Busy` nothing is to be done with
+    /// it. `None` if no message is whole, or it cannot go now.
     pub fn next(&mut self, room: OpenWays) -> Option<(Message, Route)>
         ensures { Nexts room self.old result self.new }
     {
@@ -196,14 +196,14 @@ impl Session {
         self.end(word);
     }
 
-    /// A message that went this way came back, after all that it led to was told.
+    /// A message that went this way came back, after the replies that it led to were queued.
     pub fn answered(&mut self, way: Way)
         ensures { self.new ≡ heard way self.old }
     {
         self.phase = self.phase.answered(way);
     }
 
-    /// The client is told this, after all that it was told before; nothing after its last word.
+    /// Queues this reply after all others; nothing after the last word.
     pub fn tell(&mut self, reply: &Reply)
         ensures { Tells reply.now self.old self.new }
     {
@@ -212,7 +212,7 @@ impl Session {
         }
     }
 
-    // The client is told this.
+    // Queues this reply.
     fn say(&mut self, reply: &Reply)
         requires { is_closed self.old.ends ≡ false }
         ensures { Says reply.now self.old self.new }
@@ -223,7 +223,7 @@ impl Session {
         }
     }
 
-    /// Nothing more is taken, and this is told last, if nothing else is.
+    /// Nothing more is taken, and this word is queued last, unless there is another one.
     pub fn end(&mut self, word: Option<Refusal>)
         ensures { self.new ≡ ended word self.old }
     {
@@ -238,8 +238,7 @@ impl Session {
         self.end = SessionEnd::Broken;
     }
 
-    /// The client is told the last word, if there is one, once nothing more is taken and all is
-    /// answered.
+    /// Queues the last word, if there is one, once nothing more is taken and all is answered.
     pub fn finish(&mut self)
         ensures { Finishes self.old self.new }
     {
@@ -251,7 +250,7 @@ impl Session {
         }
     }
 
-    // It is told its last word, if there is one.
+    // Queues the last word, if there is one.
     fn close(&mut self, word: Option<Refusal>)
         requires { self.old.ends ≡ SessionEnd.Ending word }
         ensures { Closes self.old.ends self.old self.new }
@@ -342,14 +341,14 @@ impl Session {
         self.end
     }
 
-    /// Whether nothing more is taken and told, and nothing is on its way: its client may leave.
+    /// Whether nothing more is taken or queued, and nothing is on its way: its client may leave.
     pub fn has_left(&self) -> bool
         ensures { result ≡ spec.has_left self.now }
     {
         self.end.is_closed() && !self.is_waiting()
     }
 
-    /// Whether all is answered, told and written, and nothing more is taken.
+    /// Whether all is answered, queued and written, and nothing more is taken.
     pub fn is_over(&self) -> bool
         ensures { result ≡ spec.is_over self.now }
     {

@@ -11,7 +11,7 @@ use std::sync::ledger::Ledger;
 use std::sync::{Condvar, CondvarTimeouts, Mutex, Wait};
 use std::time::{Clock, Duration};
 
-/// A second outlet, for whoever waits for news.
+/// A second outlet, for the thread that waits for news.
 #[derive(Drop)]
 struct Slot<L: Ledger> {
     outlet: Option<Outlet<L>>,
@@ -23,8 +23,8 @@ struct Slot<L: Ledger> {
 #[derive(Drop)]
 pub(crate) struct ThreadConnection<L: Ledger> {
     stream: TcpStream,
-    // Whoever has it writes. It is locked before a mailbox is emptied, so replies go out in their
-    // order.
+    // The thread that has its lock writes. It is locked before a mailbox is emptied, so replies go
+    // out in their order.
     talk: Mutex<Talk<L>>,
     slot: Mutex<Slot<L>>,
     filled: Condvar,
@@ -44,7 +44,7 @@ impl<L: Ledger> ThreadConnection<L> {
         }
     }
 
-    /// Where the messages come from.
+    /// The socket, which the messages come from.
     pub(crate) fn stream(&self) -> &TcpStream {
         &self.stream
     }
@@ -172,7 +172,7 @@ impl<L: Ledger> ThreadConnection<L> {
 }
 
 /// Writes what others' messages send to the client of this connection, until no more comes or it
-/// cannot be written. A connection that is not greeted yet is looked at once a second: where the
+/// cannot be written. A connection that is not greeted yet is looked at once a second: if the
 /// server is down, nothing more is read.
 pub(crate) fn write_unsolicited<D: Disk, L: Ledger, R: Wait + Clock>(
     rt: &R,

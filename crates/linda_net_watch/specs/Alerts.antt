@@ -35,13 +35,13 @@ came_since now before down = record {
   malformed = nat_lt before.turned.malformed now.turned.malformed;
 }
 
--- the notice where its trouble came and was not told, and else the other one
+-- the notice, if its trouble came and was not reported; else the other one
 abbrev pub notice_or : Bool → Bool → Notice → Option Notice → Option Notice
 notice_or true false notice other = Some notice
 notice_or true true notice other = other
 notice_or false told notice other = other
 
--- the first of the troubles of clients that was not told
+-- the first of the troubles of clients that was not reported
 abbrev pub first_turned : Alerts → Alerts → Option Notice
 first_turned came told =
     notice_or came.busy told.busy (notices.Turned whys.Busy)
@@ -49,7 +49,7 @@ first_turned came told =
     (notice_or came.greeting told.greeting (notices.Turned whys.Greeting)
     (notice_or came.malformed told.malformed (notices.Turned whys.Malformed) None)))
 
--- the first of the troubles that was not told: those of the server come before those of clients
+-- the first of the troubles that was not reported: those of the server come before those of clients
 abbrev pub first_untold : Alerts → Alerts → Option Notice
 first_untold came told =
     notice_or came.full told.full notices.Full
@@ -57,7 +57,7 @@ first_untold came told =
     (notice_or came.missed told.missed notices.Missed
     (notice_or came.down told.down notices.Down (first_turned came told))))
 
--- those that were told, once this notice is told too
+-- the troubles that were reported, once this notice is reported too
 abbrev pub with_told : Alerts → Notice → Alerts
 with_told t notices.Minute = t
 with_told t (notices.Snapshot millis) = t
@@ -74,12 +74,12 @@ with_told t notices.NoThread = t
 with_told t notices.NoStatus = t
 with_told t notices.Down = record t { down = true }
 
--- those that were told, once what there is to tell is told
+-- the troubles that were reported, once this notice is reported too, if there is one
 abbrev pub with_first : Alerts → Option Notice → Alerts
 with_first t None = t
 with_first t (Some notice) = with_told t notice
 
--- What is told of a snapshot that took so many milliseconds: nothing where the server is down.
+-- What is reported of a snapshot that took so many milliseconds: nothing if the server is down.
 abbrev pub notice_of_snapshot : {A : Type 0} → Result A SharedFault → ℕ → Option Notice
 notice_of_snapshot (Ok done) millis = Some (notices.Snapshot millis)
 notice_of_snapshot (Err faults.Full) millis = Some (notices.NoSnapshot millis)

@@ -7,7 +7,7 @@ ghost use Rattle.linda_net_watch.specs.Alerts.{no_trouble, came_since, first_unt
 use crate::alerts::Alerts;
 use linda_net_marks::{CounterValues, Notice};
 
-/// What was told: of each trouble that it began, and the counts when the last minute began.
+/// What was reported: the troubles that began; and the counts when the last minute began.
 #[derive(Clone, Copy)]
 pub(crate) struct AlertState {
     since: CounterValues,
@@ -15,7 +15,7 @@ pub(crate) struct AlertState {
 }
 
 impl AlertState {
-    /// Nothing was told yet.
+    /// Nothing was reported yet.
     pub(crate) fn new() -> AlertState
         ensures { (result.since ≡ no_tally) × (result.told ≡ no_trouble) }
     {

@@ -52,7 +52,7 @@ impl Alerts {
         }
     }
 
-    /// The first of them that was not told.
+    /// The first of them that was not reported.
     pub(crate) fn first_untold(&self, told: &Alerts) -> Option<Notice>
         ensures { result ≡ first_untold self.now told.now }
     {
@@ -63,7 +63,7 @@ impl Alerts {
         notice_or(self.full, told.full, Notice::Full, notice)
     }
 
-    // The first of those of clients that was not told.
+    // The first of those of clients that was not reported.
     fn first_turned(&self, told: &Alerts) -> Option<Notice>
         ensures { result ≡ first_turned self.now told.now }
     {
@@ -93,7 +93,7 @@ impl Alerts {
         )
     }
 
-    /// This notice is told.
+    /// This notice is reported.
     pub(crate) fn tell(&mut self, notice: Notice)
         ensures { self.new ≡ with_told self.old notice }
     {
@@ -116,7 +116,7 @@ impl Alerts {
     }
 }
 
-// The notice if its trouble came and was not told, and else the other one.
+// The notice, if its trouble came and was not reported; else the other one.
 fn notice_or(came: bool, told: bool, notice: Notice, other: Option<Notice>) -> Option<Notice>
     ensures { result ≡ notice_or came told notice other }
 {

@@ -13,11 +13,12 @@ use std::sync::{Mutex, Wait};
 use std::thread;
 use std::time::{Clock, Duration};
 
-/// How often it is looked whether a snapshot pays for itself, and what happened, in milliseconds.
+/// How many milliseconds pass from one look to the next, at whether a snapshot pays for itself and
+/// at what happened.
 const LOOK: u64 = 100;
 
-/// How many times as long as a snapshot took it is waited before the next one is looked for:
-/// however full the bank is, messages are served most of the time.
+/// After a snapshot no other is looked for during this many times as long as it took: however full
+/// the bank is, messages are served most of the time.
 const PAUSES: u64 = 3;
 
 /// Takes a snapshot whenever one is to be taken, and has room written ahead and receipts forgotten,
@@ -49,7 +50,7 @@ pub fn take_snapshots<D: Disk, L: Ledger, R: Wait + Clock>(
     }
 }
 
-// What is left of a pause of so many milliseconds after a look. Nothing where it is over.
+// What is left of a pause of so many milliseconds after a look; `None` if it is over.
 fn left_of(pause: u64) -> Option<u64>
     ensures more { 100 ≤ pause → result ≡ Some (pause - 100) }
     ensures over { pause < 100 → result ≡ None }

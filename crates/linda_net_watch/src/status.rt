@@ -33,7 +33,7 @@ pub trait StatusPages {
     ) -> Result<PageStatus, AllocError>;
 }
 
-/// Where it is asked how the server does, and who has the pages.
+/// The listener at which the status is asked for, and who has the pages.
 #[derive(Drop)]
 pub struct Status<A: StatusPages> {
     pub listener: Listener,

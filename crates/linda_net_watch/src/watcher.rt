@@ -21,13 +21,13 @@ const MINUTE: u64 = 60_000;
 /// How many troubles there are that are reported when they begin.
 const TROUBLES: u32 = 8;
 
-/// Who is told what happens while connections are served.
+/// Gets the notices of what happens while connections are served.
 pub trait Watcher {
-    /// This happened; so much the server and its connections come to then.
+    /// This happened, with the numbers of the server and of its connections at that moment.
     fn tell<C: Clock>(&mut self, clock: &C, notice: Notice, gauge: &Gauge, tally: &CounterValues);
 
-    /// Whether what the server writes is kept, as far as whoever is told knows: asked once a
-    /// minute. If it is not the server goes down.
+    /// Whether what the server writes is kept, as far as the watcher knows: asked once a minute. If
+    /// it is not, the server goes down.
     fn is_kept<C: Clock>(&mut self, _clock: &C) -> bool {
         true
     }
@@ -48,7 +48,7 @@ impl Watcher for Silent {
 }
 
 /// Looks ten times a second until it is over, and then once more, reports what happened, and says
-/// to the server which second it is. Only this thread waits if who is told does not go on.
+/// to the server which second it is. Only this thread waits if the watcher does not go on.
 pub fn watch<D: Disk, L: Ledger, R: Wait + Clock, T: Watcher>(
     rt: &R,
     shared: &Shared<D, L>,
@@ -100,7 +100,7 @@ pub(crate) fn take_snapshot<D: Disk, L: Ledger, R: Wait + Clock>(
     millis
 }
 
-// What is told of a snapshot that took so many milliseconds.
+// What is reported of a snapshot that took so many milliseconds.
 fn notice_of(taken: &Result<(), SharedFault>, millis: u64) -> Option<Notice>
     ensures { result ≡ notice_of_snapshot taken.now millis }
 {
@@ -134,7 +134,7 @@ fn tell_troubles<D: Disk, L: Ledger, R: Wait + Clock, T: Watcher>(
     }
 }
 
-/// Reports a notice, with what the server and its connections come to.
+/// Reports a notice, with the numbers of the server and of its connections.
 pub fn tell<D: Disk, L: Ledger, R: Wait + Clock, T: Watcher>(
     rt: &R,
     shared: &Shared<D, L>,

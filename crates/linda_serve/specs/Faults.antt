@@ -37,7 +37,7 @@ abbrev pub served_as : {A : Type 0} → Result A SharedFault → Result A Servin
 served_as (Ok done) = Ok done
 served_as (Err fault) = Err faults.Down
 
--- How an inspection ends: a report that was not flushed failed, whatever it came to.
+-- How an inspection ends: a report that was not flushed failed, even if it was written whole.
 abbrev pub inspected_as : {A : Type 0} → Result A InspectFault → Bool → Result A ServingFault
 inspected_as report false = Err faults.Io
 inspected_as (Ok done) true = Ok done

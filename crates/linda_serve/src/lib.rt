@@ -4,7 +4,7 @@
 //!   up.
 //! - `serve_folder` serves it by a `ServePlan`, to clients that connect to a port of this machine.
 //!   If there is a sink, a `Log` of what happens goes there: a line for each `Notice` of linda_net,
-//!   one at the begin and one at the end, with its `Cause`.
+//!   one at the beginning and one at the end, with its `Cause`.
 //! - `inspect_folder` says what it comes to, and opens its files only for reading;
 //!   `inspect_folder_as_json` does so as one JSON object.
 //!

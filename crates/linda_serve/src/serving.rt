@@ -162,7 +162,7 @@ fn share<L: Ledger, R: Wait>(
     Ok(shared)
 }
 
-// Says where it listens, and serves.
+// Writes where it listens, and serves.
 fn tell_and_serve<
     L: Ledger + Send + Sync,
     S: Net<Listener = TcpListener, Stream = TcpStream> + Threads + Wait + Clock + Sync,

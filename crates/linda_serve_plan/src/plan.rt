@@ -18,7 +18,7 @@ pub struct ServePlan {
     pub waits: bool,
     /// Whether each connection has two threads; else a few loops serve all of them.
     pub by_threads: bool,
-    /// Where the server says over HTTP how it does, if it does.
+    /// Where the server gives its status over HTTP, if it does.
     pub status: Option<StatusPlace>,
     /// The texts for which it says there how many tuples have them for their tag.
     pub metrics: Vec<String>,
@@ -26,7 +26,7 @@ pub struct ServePlan {
     pub version: &'static str,
 }
 
-/// A unix socket where a server listens: its path, and the mode of its file, which says who may
+/// A unix socket on which a server listens: its path, and the mode of its file, which says who may
 /// connect.
 #[derive(Debug, Drop)]
 pub struct SocketFile {
@@ -36,7 +36,7 @@ pub struct SocketFile {
     pub mode: u32,
 }
 
-/// Where a server says over HTTP how it does.
+/// Where a server gives its status over HTTP.
 #[derive(Debug, Drop)]
 pub enum StatusPlace {
     /// On this port of this machine, from 1.

@@ -1,4 +1,4 @@
--- Whether all answers may be told.
+-- Whether all answers have their copies, and so may go out.
 use Rattle.std.proofs.Common.{◌≡◌, Bool, true, false, List, [], ◌∷◌, All, IsTrue, true≢false, refl, sym}
 use Rattle.std.proofs.lemmas.List.Elements.{All-nil, All-cons}
 use Rattle.linda_shared.specs.Batch.{all_true}

@@ -1,4 +1,4 @@
--- A greeting is that of the server as it stands.
+-- A greeting is that of the server in the state that it has.
 use Rattle.std.proofs.Common.{Result, Ok, Err, IfOk}
 use Rattle.linda_wire.specs.declared.message.Message.{Message}
 use Rattle.linda_store_state.specs.State.{State}

@@ -1,4 +1,4 @@
--- Messages of which nothing was told, and what seats say that they were told.
+-- Messages of which nothing was reported, and the count of the deeds that were reported to seats.
 use Rattle.std.proofs.Common.{◌≡◌, ◌⊎◌, inl, inr, subst, ℕ, ◌+◌, ◌-◌, ◌^◌, min, List, [], ◌∷◌, Option, Some, None}
 use Rattle.std.proofs.Common.{IfSome, IsSome, true≢false, refl, sym, ap, ◌∙◌, arith}
 use Rattle.std.proofs.lemmas.List.Sums.{sum_by-cons}
@@ -9,7 +9,7 @@ use Rattle.linda_shared_accounts.specs.declared.fault.SharedFault.TheVariants as
 use Rattle.linda_shared_accounts.specs.Account.{Account}
 use Rattle.linda_shared_queue.specs.Seat.{with_all, AreToldOf, IsLeftBy, deeds_told}
 
--- ---- messages of which nothing was told
+-- ---- messages of which nothing was reported
 
 abbrev nothing_told : List Message → List (Option Receipt)
 nothing_told [] = []
@@ -29,7 +29,7 @@ nothing_left ms a fault new (inl is) same =
     subst (λ f. IsLeftBy ms a f new) (sym is) (record { told = nothing_told ms; account = same ∙ sym (all_nothing a ms); deeds = are_nothing a.client ms })
 nothing_left ms a fault new (inr is) same = subst (λ f. IsLeftBy ms a f new) (sym is) same
 
--- ---- what seats say that they were told
+-- ---- the count of the deeds that were reported to seats
 
 -- One more is counted.
 pub more_told : (told next : Option ℕ) (more all : ℕ) (a : Account) (before rest : List Account)

@@ -12,7 +12,7 @@ worked_more f [] (s ∷ seats) x seat all one = absurd all
 worked_more f (y ∷ xs) [] x seat all one = absurd all
 worked_more f (y ∷ xs) (s ∷ seats) x seat all one = (all.0, worked_more f xs seats x seat all.1 one)
 
--- What is seen of two lists stays the same where one more is the same.
+-- What is seen of two lists stays the same if one more is the same.
 pub same_more : {A B C : Type 0} (f : A → C) (g : B → C) (xs : List A) (ys : List B) (x : A) (y : B)
     → map f xs ≡ map g ys → f x ≡ g y → map f (xs ++ x ∷ []) ≡ map g (ys ++ y ∷ [])
 same_more f g xs ys x y all one = map-append f xs (x ∷ []) ∙ (ap (λ l. l ++ f x ∷ []) all ∙ (ap (λ v. map g ys ++ v ∷ []) one ∙ sym (map-append g ys (y ∷ []))))

@@ -4,7 +4,7 @@ use Rattle.linda_shared_accounts.specs.Account.{Account}
 use Rattle.linda_shared_accounts.specs.declared.fault.SharedFault.{SharedFault}
 use Rattle.linda_shared_accounts.specs.declared.fault.SharedFault.TheVariants as faults
 
--- It is the same client's, which was told of no fewer deeds.
+-- It is the same client's, and no fewer deeds were reported to it.
 pub record HasWorked (before after : Account) : Type 0 where
   pub client : after.client ≡ before.client
   pub deeds : before.deeds ≤ after.deeds
@@ -16,7 +16,7 @@ AllHaveWorked [] (b ∷ bs) = ⊥
 AllHaveWorked (a ∷ xs) [] = ⊥
 AllHaveWorked (a ∷ xs) (b ∷ bs) = HasWorked a b × AllHaveWorked xs bs
 
--- where a fault stands among all
+-- the position of a fault among all
 abbrev pub rank : SharedFault → ℕ
 rank faults.Down = 0
 rank faults.Full = 1
@@ -26,7 +26,8 @@ rank (faults.Stuck client) = 4
 rank faults.NoThread = 5
 rank faults.Memory = 6
 
--- of two ends the fault that stands first, if there is one; the earlier one of two that stand alike
+-- of two ends the fault that comes first among all, if there is one; of two with the same position
+-- the earlier one
 abbrev pub first_of : {A : Type 0} → Result A SharedFault → Result A SharedFault
     → Result A SharedFault
 first_of (Ok a) other = other

@@ -26,8 +26,8 @@ pub(crate) fn addressed<L: Ledger>(
     Ok((copy, ReplySlot::new(place, mailbox)))
 }
 
-/// A copy of each message, in order, with the address of the place in its client's mailbox at which
-/// it stands.
+/// A copy of each message, in order, each with the address of a place in its client's mailbox: the
+/// place whose number is its position, from 0 on.
 pub(crate) fn address_all<L: Ledger>(
     alloc: Global,
     mailbox: &Arc<Mailbox<L>, Global>,

@@ -80,8 +80,8 @@ impl<L: Ledger> LeaderBatch<L> {
         }
     }
 
-    /// Serves all that was asked, and writes an answer with a copy for each. Where there is no
-    /// memory for all copies the server is given up, and the answers are lost.
+    /// Serves all that was asked, and writes an answer with a copy for each. If there is no memory
+    /// for all copies, the server is given up, and the answers are lost.
     pub(crate) fn serve<D: Disk>(&mut self, alloc: Global, held: &mut Held<D, L>) -> bool
         ensures served { self.new.messages ≡ [] }
         ensures each { length self.new.answers

@@ -3,8 +3,8 @@
 use std::sync::Wait;
 use std::time::Clock;
 
-/// What says when a worker's message may go, and is told when it was answered. Workers ask in
-/// threads of their own. A client's messages are counted from 1.
+/// Says when a worker's message may go, and is called when it was answered. Workers ask in threads
+/// of their own. A client's messages are counted from 1.
 pub trait Gate {
     /// Whether this message of the client may go now.
     fn may<R: Wait + Clock>(&self, rt: &R, client: u32, call: u64) -> bool;

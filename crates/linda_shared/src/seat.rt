@@ -12,7 +12,7 @@ use std::marker::Model;
 use std::sync::Arc;
 use std::sync::ledger::Ledger;
 
-/// What a session carries: what its client was told, and the client's mailbox, which its answers
+/// What a session carries: the account of its client, and the client's mailbox, which its answers
 /// come to. Contracts see the account. Between two calls nothing is on its way.
 #[derive(Drop)]
 pub struct Seat<L: Ledger> {
@@ -52,21 +52,21 @@ impl<L: Ledger> Seat<L> {
         self.account.client()
     }
 
-    /// Of how many deeds it was told.
+    /// How many deeds were reported to it, `u64::MAX` at most.
     pub fn deeds(&self) -> u64
         ensures { result ≡ min self.now.deeds (2 ^ 64 - 1) }
     {
         self.account.deeds()
     }
 
-    /// The number of the last receipt that it was given, 0 where there is none.
+    /// The number of the last receipt that it was given, 0 if there is none.
     pub fn last_number(&self) -> u64
         ensures { result ≡ last_number self.now.ring }
     {
         self.account.last_number()
     }
 
-    // What was told to it.
+    // The account of what was reported to it.
     pub(crate) fn into_account(self) -> Account<L>
         ensures { result ≡ self }
     {

@@ -1,7 +1,7 @@
 //! A server that threads share.
 
-// Locks the server, calls it, lets it go, and ends all that wait if it is down. Gives what the call
-// gave, and whether the server is down.
+// Locks the server, calls it, lets it go, and ends all that wait if it is down. Returns what the
+// call returned, and whether the server is down.
 macro_rules! with_locked {
     ($shared:expr, $rt:expr, |$locked:ident| $call:expr) => {{
         let mut guard = $shared.locked.lock($rt);
@@ -53,7 +53,7 @@ pub struct Shared<D: Disk, L: Ledger> {
 }
 
 impl<D: Disk, L: Ledger> Shared<D, L> {
-    /// Shares a server that is up, of which nobody was told anything yet.
+    /// Shares a server that is up, of which nothing was reported yet.
     ///
     /// # Errors
     ///
@@ -83,7 +83,7 @@ impl<D: Disk, L: Ledger> Shared<D, L> {
     }
 
     /// Waits until there is a reply, the server is down or the seat was hung up, and takes what is
-    /// there: so nothing where no reply comes any more. Never asks for the server.
+    /// there: so no replies if none comes any more. Never asks for the server.
     pub fn drain_wait<R: Wait>(&self, rt: &R, outlet: &mut Outlet<L>) -> Vec<Reply> {
         outlet.drain_wait(rt, self.alloc)
     }
@@ -93,7 +93,8 @@ impl<D: Disk, L: Ledger> Shared<D, L> {
         self.locked.lock(rt).held.is_down()
     }
 
-    /// The server counts as down from now on: for whoever sees that what it writes is not kept.
+    /// The server counts as down from now on: for a caller that sees that what it writes is not
+    /// kept.
     pub fn give_up<R: Wait>(&self, rt: &R) {
         self.locked.lock(rt).held.give_up();
         self.end_if_down(rt, true);
@@ -123,8 +124,8 @@ impl<D: Disk, L: Ledger> Shared<D, L> {
         self.locked.lock(rt).held.count_from(base);
     }
 
-    /// What the server comes to at a moment, in numbers, for whoever tells its operator. Takes no
-    /// memory.
+    /// The numbers of the server at one moment, for a caller that reports them to its operator.
+    /// Takes no memory.
     pub fn gauge<R: Wait>(&self, rt: &R) -> Gauge {
         self.locked.lock(rt).held.gauge()
     }
@@ -204,9 +205,9 @@ impl<D: Disk, L: Ledger> Shared<D, L> {
         answer
     }
 
-    /// Forgets the receipts of deeds that were told, if there are many, and gives back the memory
-    /// of some that were forgotten. Each group does so too: this is for a program that serves, in
-    /// which no group may come for long. Nothing changes that a session sees.
+    /// Forgets the receipts of deeds that were reported, if there are many, and gives back the
+    /// memory of some that were forgotten. Each group does so too: this is for a program that
+    /// serves, in which no group may come for long. Nothing changes that a session sees.
     pub fn forget<R: Wait>(&self, rt: &R) {
         self.locked.lock(rt).forget(self.alloc, MAX_GROUP);
     }

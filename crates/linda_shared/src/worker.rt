@@ -61,13 +61,12 @@ impl Calls {
 }
 
 /// Lets the worker do its steps until it ends. The seat stays its client's, and loses nothing that
-/// it was told.
+/// was reported to it.
 ///
 /// # Errors
 ///
-/// What `submit` refuses; `Stuck` where the gate stays closed; and where the worker waits and no
-/// reply comes any more
-/// `Down`, or `Memory` if the server is up.
+/// The fault of `submit`; `Stuck` if the gate stays closed; and if the worker waits and no reply
+/// comes any more, `Down`, or `Memory` if the server is up.
 pub(crate) fn work<D: Disk, L: Ledger, W: Worker, G: Gate, R: Wait + Clock>(
     rt: &R,
     alloc: Global,

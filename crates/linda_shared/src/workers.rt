@@ -28,14 +28,14 @@ use std::time::Clock;
 pub struct Worked<L: Ledger> {
     /// Their seats, in order.
     pub seats: Vec<Seat<L>>,
-    /// Whether all ended by themselves; else the fault of one, that which stands first in
+    /// Whether all ended by themselves; else the fault of one, the one that comes first in
     /// `SharedFault`.
     pub end: Result<(), SharedFault>,
 }
 
 /// Lets each worker do its steps in a thread of its own, with a seat and an outlet. The seats come
-/// back in order, beside a fault too, each its client's and with all that it was told. Where no
-/// thread can be started for a worker that is `NoThread`, and the others go on to their ends.
+/// back in order, also after a fault, each its client's and with all that was reported to it. If no
+/// thread can be started for a worker, that is `NoThread`, and the others go on to their ends.
 ///
 /// # Errors
 ///
@@ -146,7 +146,7 @@ impl<L: Ledger> Worked<L> {
     }
 }
 
-// Of two ends the one that is returned: the fault that stands first in `SharedFault`, if there is
+// Of two ends the one that is returned: the fault that comes first in `SharedFault`, if there is
 // one.
 fn first_of(one: Result<(), SharedFault>, other: Result<(), SharedFault>) -> Result<(), SharedFault>
     ensures { result ≡ spec.first_of one other }
@@ -158,7 +158,7 @@ fn first_of(one: Result<(), SharedFault>, other: Result<(), SharedFault>) -> Res
     }
 }
 
-// Where the fault stands in `SharedFault`, from 0 on.
+// The position of the fault in `SharedFault`, from 0 on.
 fn rank(fault: SharedFault) -> u8
     ensures { result ≡ spec.rank fault }
 {

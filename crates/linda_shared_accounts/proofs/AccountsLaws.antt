@@ -20,7 +20,7 @@ use Rattle.linda_shared_accounts.specs.Accounts.{Places, receipts_at, IsPlaceOf,
 abbrev pub at_place : (Place → ℕ) → Option Place → ℕ
 at_place f o = unwrap_or (option_map f o) 0
 
--- Of a place that is put in holds what is said of it, and of the others what held before.
+-- After a place is put in, what is parked is still each client's own.
 own_put : (ps : Places) (c : ℕ) (p : Place) → IsPlaceOf c p → ((q : ℕ) → IfSome (get ps q) (IsPlaceOf q))
     → (q : ℕ) → IfSome (get (insert ps c p) q) (IsPlaceOf q)
 own_put ps c p here own q =
@@ -73,7 +73,7 @@ not_out None there = refl
 not_out (Some places.Out) there = absurd (true≢false there)
 not_out (Some (places.Parked ring deeds for_good)) there = refl
 
--- A seat goes out: what its client was told is counted no more among those that are back.
+-- A seat goes out: the deeds that were reported to its client no longer count among those of the seats that are back.
 pub goes_out : (out back : ℕ) (ps : Places) (c : ℕ) (o : Option Place) → Tallies out back ps → get ps c ≡ o → is_away o ≡ false
     → (at_place deeds_at o ≤ back) × Tallies (out + 1) (back - at_place deeds_at o) (insert ps c places.Out)
 goes_out out back ps c o t is there =
@@ -90,7 +90,7 @@ goes_out out back ps c o t is there =
       },
     )
 
--- A seat comes back with what its client was told.
+-- A seat comes back, with the number of deeds that were reported to its client.
 comes_back : (out back : ℕ) (ps : Places) (c : ℕ) (p : Place) → Tallies out back ps → get ps c ≡ Some places.Out → weight_out p ≡ 0 → IsPlaceOf c p
     → Tallies (out - 1) (back + deeds_at p) (insert ps c p)
 comes_back out back ps c p t is parked here =
@@ -132,11 +132,11 @@ put_over out back ps c p q t is weighs counts here =
       own = own_put ps c q here t.own;
     }
 
--- What was counted as far as a number goes is the whole, where that is small enough.
+-- A count that stops at the greatest u64 is the whole amount if the total is below 2 ^ 64.
 counted_whole : (counted amount total : ℕ) → counted ≡ min amount (2 ^ 64 - 1) → amount ≤ total → total < 2 ^ 64 → counted ≡ amount
 counted_whole counted amount total is few small = grind (arith, is, few, small)
 
--- A seat comes back with what was counted, and that is all that its client was told.
+-- A seat comes back with its count, which is the number of all deeds that were reported to its client.
 pub comes_back_counted : (out back counted amount total : ℕ) (ps : Places) (c : ℕ) (p : Place) → Tallies out back ps → get ps c ≡ Some places.Out
     → counted ≡ min amount (2 ^ 64 - 1) → (amount ≤ total) × (total < 2 ^ 64) → weight_out p ≡ 0 → deeds_at p ≡ counted → IsPlaceOf c p
     → Tallies (out - 1) (back + amount) (insert ps c p)
@@ -153,7 +153,7 @@ gives_up_uncounted out back counted amount total ps c t is counts most none =
     let same : back ≡ back + amount = omega (arith, all, none) in
     subst (λ n. Tallies (out - 1) n (remove ps c)) same (gives_up out back ps c t is)
 
--- Where nobody is counted out, no place is.
+-- If the number of seats that are out is 0, no place is out.
 pub nobody_out : (ps : Places) → seats_out ps ≡ 0 → (c : ℕ) → get ps c ≡ Some places.Out → ⊥
 nobody_out ps none c is =
     let outs = sum_removed weight_out ps c places.Out is in

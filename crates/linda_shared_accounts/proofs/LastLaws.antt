@@ -46,7 +46,7 @@ all_there entries ps view_is all =
 last_among : (rs : List Receipt) (r : Receipt) → last_item rs ≡ Some r → Contains rs r
 last_among rs r is = (length rs - 1, slice_get_within rs (length rs - 1) r is, get_or_from_slice_get rs (length rs - 1) r r is)
 
--- A last receipt that is not kept stands in its client's place.
+-- A last receipt that is not kept is in its client's place.
 pub not_kept : (ps : Places) (st : State) (k : ℕ) (p : Place) (fault : SharedFault) → map.get ps k ≡ Some p
     → IfSome (map.get ps k) (IsPlaceOf k) → NamesLast st (receipts_at (Some p)) fault → NamesNotKept ps st fault
 not_kept ps st k p fault is own names =

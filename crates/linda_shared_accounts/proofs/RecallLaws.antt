@@ -32,7 +32,7 @@ its_place c places.Out own = own
 its_place c (places.Parked ring deeds true) own = own
 its_place c (places.Parked ring deeds false) own = (own.0, kept_ring ring.client 1 ring.receipts own.1)
 
--- Where one place is shortened, the tallies stay.
+-- If one place is shortened, the tallies stay.
 pub tallies_stay : (out back : ℕ) (ps qs : Places) (c : ℕ) → Tallies out back ps → get qs c ≡ shortened_at (get ps c)
     → ((q : ℕ) → q ≢ c → get qs q ≡ get ps q) → Tallies out back qs
 tallies_stay out back ps qs c t here others = by (get ps c) refl
@@ -47,7 +47,7 @@ tallies_stay out back ps qs c t here others = by (get ps c) refl
         subst (Tallies out back) all (put_over out back ps c p (shortened p) t is (weighs_same p)
         (counts_same p) (its_place c p (subst (λ o. IfSome o (IsPlaceOf c)) is (t.own c))))
 
--- Where the number that the book keeps for a client is noted, each is one that it keeps.
+-- If the number that the book keeps for a client is noted, all numbers are still those that it keeps.
 pub noted : (st : State) (old new : BTreeMap ℕ ℕ) (k : ℕ) → tree.Updates nat_cmp old new k (Some (last_number st k)) → AreKept st old → AreKept st new
 noted st old new k updates kept q =
     let is : tree.get nat_cmp new q ≡ cond (q == k) (Some (last_number st k)) (tree.get nat_cmp old q) =

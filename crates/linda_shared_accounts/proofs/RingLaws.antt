@@ -59,7 +59,7 @@ ring_more client rs r ring next =
       rising = rising_less n (rs ++ r ∷ []) (rising_more rs r ring.rising next.above);
     }
 
--- Where a number is below the first, no receipt has it.
+-- If a number is below that of the first receipt, no receipt has it.
 pub all_newer : (rs : List Receipt) (first r : Receipt) → AreRising rs → slice_get rs 0 ≡ Some first → number_in r < number_in first → AgreesWith rs r
 all_newer rs first r up is below k d inside same =
     let by : IsNonDecreasingBy number_in rs =

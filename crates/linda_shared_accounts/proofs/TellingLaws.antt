@@ -1,4 +1,4 @@
--- What is told of messages that were answered is true of their deeds.
+-- The receipts that are reported for messages that were answered are true of their deeds.
 use Rattle.std.proofs.Common.{◌≡◌, ℕ, ◌≤◌, cond, drop, List, [], ◌∷◌, ◌++◌, map, length, Option, Some, None}
 use Rattle.std.proofs.Common.{option_to_list, refl, sym, ap, ◌∙◌, subst, append-nil, append_assoc, arith}
 use Rattle.std.proofs.Math.Seq.{drop-append_seam}
@@ -39,7 +39,7 @@ kept_again n kept.Left = refl
 abbrev answer_with : Option Deed → List (ℕ × Reply) → Soft → Answer
 answer_with deed sends soft = record { deed = deed; sends = sends; soft = soft }
 
--- What is told of answers, also by their counts.
+-- The receipts of these answers are true, and are also those that the counts give.
 record IsGood (base : State) (ds : List Deed) (answers : List Answer) (new : State) : Type 0 where
   pub is_true : IsTrueOf base ds answers new
   pub told : told_by (map counts_of answers) (deeds_of answers) (sends_of answers) ≡ map receipt_of answers
@@ -110,7 +110,7 @@ pub true_of_all : (base st new : State) (soft behind : Soft) (ms : List (ℕ × 
     → IsState base → AreDone base ds st → AreAnswered st soft ms answers new behind → IsTrueOf base ds answers new
 true_of_all base st new soft behind ms ds answers is done are = (all_good base is ms st new soft behind ds answers done are).is_true
 
--- What is told of what was served is what its answers come to.
+-- What is reported of messages that were served is the receipts of their answers.
 pub told_of_served : (st new : State) (soft behind : Soft) (ms : List (ℕ × Message)) (served : Served) (told : List (Option Receipt))
     → told ≡ told_by served.counts.items served.deeds.items served.sends.items
     → IsState st → (has : IsServed st soft ms served new behind) → told ≡ map receipt_of has.answers
@@ -140,7 +140,7 @@ more_true st ds (r ∷ rs) qs first later =
 
 -- ---- how many
 
--- Each count is told of once.
+-- There is one report for each count.
 pub told_each : (ss : List StepCounts) (ds : List Deed) (sends : List (ℕ × Reply)) → length (told_by ss ds sends) ≡ length ss
 told_each [] ds sends = refl
 told_each (s ∷ ss) ds sends =
@@ -155,13 +155,13 @@ answered_each (m ∷ ms) st new soft behind answers are =
     let same : length answers ≡ length (are.0 ∷ are.1.1.0) = ap length are.1.1.1.1.1 in
     omega (arith, same, rest)
 
--- Each message is told of once.
+-- There is one report for each message.
 pub told_once : (st new : State) (soft behind : Soft) (ms : List (ℕ × Message)) (told : List (Option Receipt)) (sends : List (ℕ × Reply))
     → HasTold st soft ms told sends new behind → length told ≡ length ms
 told_once st new soft behind ms told sends has =
     ap length has.told_is ∙ (length-map has.answers receipt_of ∙ answered_each ms st new soft behind has.answers has.answered)
 
--- At the end of the counts nothing is left to be told.
+-- At the end of the counts nothing is left to report.
 pub told_whole : (told : List (Option Receipt)) (ss : List StepCounts) (n : ℕ) (ds : List Deed) (sends : List (ℕ × Reply)) (all : List (Option Receipt))
     → length ss ≤ n → told ++ told_by (drop n ss) ds sends ≡ all → told ≡ all
 told_whole told ss n ds sends all past is = sym (append-nil told) ∙ (ap (λ l. told ++ told_by l ds sends) (sym (drop_all n ss past)) ∙ is)

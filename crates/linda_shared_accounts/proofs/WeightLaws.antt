@@ -1,4 +1,4 @@
--- What is told weighs as many as there are receipts.
+-- The weight of what is reported is the number of receipts.
 use Rattle.std.proofs.Common.{◌≡◌, ◌+◌, List, [], ◌∷◌, ◌++◌, map, length, length-append, Option, Some, None, option_to_list, refl, arith}
 use Rattle.std.proofs.lemmas.List.Sums.{sum_by-cons}
 use Rattle.linda_shared_accounts.specs.declared.receipt.Receipt.{Receipt}

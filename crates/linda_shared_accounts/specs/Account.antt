@@ -2,7 +2,7 @@
 use Rattle.std.specs.Prelude.{ℕ, List}
 use Rattle.linda_shared_accounts.specs.declared.receipt.Receipt.{Receipt}
 
--- Its client, of how many deeds it was told, how many messages are on their way, and the last
+-- Its client, how many deeds were reported to it, how many messages are on their way, and the last
 -- receipts.
 pub record Account : Type 0 where
   pub client : ℕ

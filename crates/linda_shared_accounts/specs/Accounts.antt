@@ -13,7 +13,7 @@ use Rattle.linda_shared_accounts.specs.declared.place.Place.TheVariants as place
 use Rattle.linda_shared_accounts.specs.Ring.{IsRing, ring_of}
 use Rattle.linda_shared_accounts.specs.Account.{Account, account_of}
 
--- a place for each client that has a seat, or was told of deeds
+-- a place for each client that has a seat, or to which deeds were reported
 abbrev pub Places : Type 0
 Places = map.FinMap nat_cmp Place
 
@@ -32,12 +32,12 @@ is_away None = false
 is_away (Some places.Out) = true
 is_away (Some (places.Parked ring deeds for_good)) = for_good
 
--- one where the seat is out
+-- 1 if the seat is out, else 0
 abbrev pub weight_out : Place → ℕ
 weight_out places.Out = 1
 weight_out (places.Parked ring deeds for_good) = 0
 
--- of how many deeds the seat was told that is parked
+-- how many deeds were reported to the seat that is parked, 0 if it is out
 abbrev pub deeds_at : Place → ℕ
 deeds_at places.Out = 0
 deeds_at (places.Parked ring deeds for_good) = deeds
@@ -60,13 +60,14 @@ account_at c None = account_of c 0 0 []
 account_at c (Some places.Out) = account_of c 0 0 []
 account_at c (Some (places.Parked ring deeds for_good)) = account_of c deeds 0 ring.receipts
 
--- where an account comes back to: none where it was told of no deed, if it is not parked for good
+-- the place of an account that comes back: none if no deed was reported to it, unless it is parked
+-- for good
 abbrev pub place_for : Account → Bool → Option Place
 place_for a true = Some (places.Parked (ring_of a.client a.ring) a.deeds true)
 place_for a false =
     if a.deeds == 0 then None else Some (places.Parked (ring_of a.client a.ring) a.deeds false)
 
--- what is parked, with the last receipt alone, if it is not parked for good
+-- what is parked, with only the last receipt, if it is not parked for good
 abbrev pub shortened : Place → Place
 shortened places.Out = places.Out
 shortened (places.Parked ring deeds true) = places.Parked ring deeds true
@@ -84,7 +85,7 @@ shortened_at (Some place) = Some (shortened place)
 abbrev pub seats_out : Places → ℕ
 seats_out ps = sum_by weight_out (values_of (map.entries ps))
 
--- of how many deeds the parked seats were told
+-- how many deeds were reported to the parked seats
 abbrev pub deeds_back : Places → ℕ
 deeds_back ps = sum_by deeds_at (values_of (map.entries ps))
 
@@ -93,8 +94,8 @@ abbrev pub with_place : Places → ℕ → Option Place → Places
 with_place ps c None = map.remove ps c
 with_place ps c (Some place) = map.insert ps c place
 
--- So many seats are out, so many deeds were told to those that are back, and what is parked is each
--- client's own.
+-- So many seats are out, so many deeds were reported to those that are back, and what is parked is
+-- each client's own.
 pub record Tallies (out back : ℕ) (ps : Places) : Type 0 where
   pub out_is : out ≡ seats_out ps
   pub back_is : back ≡ deeds_back ps
@@ -105,7 +106,7 @@ pub record ComesBack (ps : Places) (a : Account) : Type 0 where
   pub out : map.get ps a.client ≡ Some places.Out
   pub all_here : a.asked ≡ 0
 
--- Each place is as before, or its ring keeps its last receipt alone.
+-- Each place is as before, or its ring keeps only its last receipt.
 abbrev pub AreShortened : Places → Places → Type 0
 AreShortened old new =
     (c : ℕ) → (map.get new c ≡ map.get old c) ⊎ (map.get new c ≡ shortened_at (map.get old c))

@@ -10,11 +10,11 @@ use Rattle.linda_shared_accounts.specs.Receipts.{client_in, number_in, IsKept}
 use Rattle.linda_shared_accounts.specs.Agreement.{AgreesWith}
 use Rattle.linda_shared_accounts.specs.Accounts.{Places, receipts_at}
 
--- what the client of a receipt was told, as far as it is parked
+-- the receipts that were reported to the client of this one, if its seat is parked
 abbrev pub ring_for : Places → Receipt → List Receipt
 ring_for ps r = receipts_at (map.get ps (client_in r))
 
--- Its client was told it so, where it still has a receipt of that number.
+-- The client of the receipt has this one, if it still has a receipt of that number.
 abbrev pub IsToldSo : Places → Receipt → Type 0
 IsToldSo ps r = AgreesWith (ring_for ps r) r
 
@@ -22,8 +22,8 @@ IsToldSo ps r = AgreesWith (ring_for ps r) r
 abbrev pub LastIsKept : State → List Receipt → Type 0
 LastIsKept st ring = (mine : Receipt) → last_item ring ≡ Some mine → IsKept st mine
 
--- The fault names a receipt that a client was told, and among those stored is another of its client
--- and number.
+-- The fault names a receipt that was reported to a client, and among those stored there is another
+-- one of its client and number.
 pub record NamesAnother (ps : Places) (rs : List Receipt) (fault : SharedFault) : Type 0 where
   pub mine : Receipt
   pub told : Contains (ring_for ps mine) mine
@@ -41,13 +41,14 @@ pub record NamesLast (st : State) (ring : List Receipt) (fault : SharedFault) : 
   pub named : fault ≡ faults.Receipt (client_in mine) (number_in mine)
   pub differs : IsKept st mine → ⊥
 
--- The fault names the last receipt that a client was told, and the book keeps something else.
+-- The fault names the last receipt that was reported to a client, and the book keeps something
+-- else.
 pub record NamesNotKept (ps : Places) (st : State) (fault : SharedFault) : Type 0 where
   pub mine : Receipt
   pub told : last_item (ring_for ps mine) ≡ Some mine
   pub named : fault ≡ faults.Receipt (client_in mine) (number_in mine)
   pub differs : IsKept st mine → ⊥
 
--- The fault names a receipt that a client was told, and that differs from what was stored.
+-- The fault names a receipt that was reported to a client, and that differs from what was stored.
 abbrev pub Names : Places → State → List Receipt → SharedFault → Type 0
 Names ps st rs fault = NamesAnother ps rs fault ⊎ NamesNotKept ps st fault

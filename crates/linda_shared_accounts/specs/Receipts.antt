@@ -15,7 +15,7 @@ client_in r = client_of r.deed
 abbrev pub number_in : Receipt → ℕ
 number_in r = number_of r.deed
 
--- the deeds alone
+-- the deeds of the receipts, without the replies
 abbrev pub deeds_in : List Receipt → List Deed
 deeds_in rs = map (λ (r : Receipt). r.deed) rs
 

@@ -15,12 +15,12 @@ pub record Ring : Type 0 where
 abbrev pub ring_of : ℕ → List Receipt → Ring
 ring_of client receipts = record { client = client; receipts = receipts }
 
--- the number of a receipt, 0 where there is none
+-- the number of a receipt, 0 if there is none
 abbrev pub number_at : Option Receipt → ℕ
 number_at None = 0
 number_at (Some r) = number_in r
 
--- the number of the last one, 0 where there is none
+-- the number of the last one, 0 if there is none
 abbrev pub last_number : List Receipt → ℕ
 last_number receipts = number_at (last_item receipts)
 
@@ -39,7 +39,7 @@ pub record IsNext (client : ℕ) (receipts : List Receipt) (r : Receipt) : Type 
   pub its : client_in r ≡ client
   pub above : last_number receipts < number_in r
 
--- the receipts with one more; the oldest goes where there is no room
+-- the receipts with one more; the oldest is dropped if there is no room
 abbrev pub with_receipt : List Receipt → Receipt → List Receipt
 with_receipt receipts r = keep_last RING_SIZE (receipts ++ r ∷ [])
 

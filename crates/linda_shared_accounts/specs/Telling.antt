@@ -17,7 +17,7 @@ use Rattle.linda_store_step.specs.Served.{AreAnswered, deeds_of, sends_of}
 use Rattle.linda_shared_accounts.specs.declared.receipt.Receipt.{Receipt}
 use Rattle.linda_shared_accounts.specs.Receipts.{deeds_in, AreTrue}
 
--- what is kept where this is sent of a deed
+-- what is kept of a deed if this reply is sent for it
 abbrev pub kept_of : Reply → Option KeptReply
 kept_of (replies.Welcome last) = None
 kept_of (replies.Stored n id) = Some (kept.Stored id)
@@ -39,7 +39,7 @@ receipt_for None sends = None
 receipt_for (Some d) [] = None
 receipt_for (Some d) (s ∷ sends) = receipt_with d (kept_of s.1)
 
--- the receipt of an answer, none where it did no deed
+-- the receipt of an answer, none if it did no deed
 abbrev pub receipt_of : Answer → Option Receipt
 receipt_of a = receipt_for a.deed a.sends
 
@@ -54,7 +54,8 @@ told_by (s ∷ ss) ds sends =
     (if s.has_deed then receipt_for (slice_get ds 0) sends else None)
     ∷ told_by ss (if s.has_deed then drop 1 ds else ds) (drop s.sends sends)
 
--- The messages were answered one after another, and this is told of them and sent.
+-- The messages were answered one after another; these are the receipts that are reported for them,
+-- and the replies that are sent.
 pub record HasTold (st : State) (soft : Soft) (ms : List (ℕ × Message))
     (told : List (Option Receipt))
     (sends : List (ℕ × Reply)) (new : State) (behind : Soft) : Type 0 where
@@ -63,7 +64,7 @@ pub record HasTold (st : State) (soft : Soft) (ms : List (ℕ × Message))
   pub told_is : told ≡ map receipt_of answers
   pub sends_is : sends ≡ sends_of answers
 
--- What is told of the answers is true of the deeds, which are done after these.
+-- The receipts of the answers are true of their deeds, which are done after these.
 pub record IsTrueOf (base : State) (before : List Deed) (answers : List Answer) (new : State)
     : Type 0 where
   pub done : AreDone base (before ++ deeds_of answers) new

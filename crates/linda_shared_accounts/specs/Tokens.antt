@@ -1,8 +1,8 @@
 -- Tokens under a lock, as contracts see them.
 use Rattle.std.specs.Prelude.{ℕ}
 
--- The total of all amounts, what the accounts that are back were told, and how many accounts are
--- out.
+-- The total of all amounts, how many deeds were reported to the accounts that are back, and how
+-- many accounts are out.
 pub record Tokens : Type 0 where
   pub total : ℕ
   pub back : ℕ

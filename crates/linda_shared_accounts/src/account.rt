@@ -16,12 +16,13 @@ use crate::shared_receipt::SharedReceipt;
 use std::marker::Model;
 use std::sync::ledger::{Ledger, Share};
 
-/// What a session carries: its client, of how many deeds it was told, its last receipts, and its
-/// parts of the ledger, of which one goes with each message that is on its way.
+/// What a session carries: its client, how many deeds were reported to it, its last receipts, and
+/// its parts of the ledger, of which one goes with each message that is on its way.
 #[derive(Drop)]
 pub struct Account<L: Ledger> {
     pub(crate) ring: Ring,
-    // Of how many deeds it was told; more than a u64 holds are counted in the share alone.
+    // How many deeds were reported to it; those above the greatest u64 are counted only in the
+    // share.
     pub(crate) deeds: u64,
     pub(crate) asked: u64,
     pub(crate) share: Share<L>,
@@ -53,7 +54,7 @@ impl<L: Ledger> Account<L> {
         self.ring.client()
     }
 
-    /// Of how many deeds it was told.
+    /// How many deeds were reported to it, `u64::MAX` at most.
     pub fn deeds(&self) -> u64
         ensures { result ≡ min self.now.deeds (2 ^ 64 - 1) }
     {
@@ -68,7 +69,7 @@ impl<L: Ledger> Account<L> {
         self.asked
     }
 
-    /// The number of the last receipt, 0 where there is none.
+    /// The number of the last receipt, 0 if there is none.
     pub fn last_number(&self) -> u64
         ensures { result ≡ last_number self.now.ring }
     {
@@ -87,7 +88,7 @@ impl<L: Ledger> Account<L> {
         PendingAck { address, part }
     }
 
-    /// A message comes back that nobody took on.
+    /// A message that nobody took on comes back.
     pub fn recall<A: Drop>(&mut self, asked: PendingAck<A, L>) -> A
         requires { 0 < self.old.asked }
         ensures account { self.new ≡ account_of self.old.client self.old.deeds (self.old.asked - 1)
@@ -120,8 +121,8 @@ impl<L: Ledger> Account<L> {
         (address, told)
     }
 
-    /// Notes a receipt, where it is of this client and its number is above all others; else nothing
-    /// changes.
+    /// Notes a receipt and returns true, if it is of this client and its number is above all
+    /// others; else nothing changes.
     pub fn note(&mut self, receipt: SharedReceipt) -> bool
         ensures noted { result ≡ true → IsNext self.old.client self.old.ring receipt × (self.new
             ≡ account_of self.old.client self.old.deeds self.old.asked

@@ -22,8 +22,8 @@ use std::alloc::{AllocError, Global};
 use std::marker::Model;
 use std::sync::ledger::{Blank, Ledger, Share};
 
-/// How many deeds were told in all, and a place for each client that has a seat, or was told of
-/// deeds.
+/// How many deeds were reported in all, and a place for each client that has a seat, or to which
+/// deeds were reported.
 #[derive(Drop)]
 pub struct Accounts<L: Ledger> {
     tokens: Tokens<L>,
@@ -45,7 +45,7 @@ impl<L: Ledger> Model for Accounts<L> {
 }
 
 impl<L: Ledger> Accounts<L> {
-    /// Nothing was told, and no client has a seat.
+    /// Nothing was reported, and no client has a seat.
     pub fn new(alloc: Global, blank: Blank) -> Accounts<L>
         requires { (blank.name ≡ L.name) × (blank.parts ≡ L.parts) × (L.parts ≡ PARTS) }
         ensures { result ≡ accounts_of 0 map.empty }
@@ -56,7 +56,7 @@ impl<L: Ledger> Accounts<L> {
         }
     }
 
-    /// Of how many deeds was told in all.
+    /// How many deeds were reported in all.
     pub fn total(&self) -> u64
         ensures { result ≡ self.now.total }
     {
@@ -70,13 +70,13 @@ impl<L: Ledger> Accounts<L> {
         self.places.is_away(client)
     }
 
-    /// The client's seat goes out: with what it was told before, or with a new account. None where
-    /// the client can have no seat now, or no parts are left; then nothing changes.
+    /// The client's seat goes out: with the account that was parked for it, or with a new one.
+    /// `None` if the client can have no seat now, or if no parts are left; then nothing changes.
     ///
     /// # Errors
     ///
-    /// `AllocError` where memory runs out, and then nothing changes. It comes only for a client
-    /// with no place.
+    /// `AllocError` if memory runs out; then nothing changes. It comes only for a client with no
+    /// place.
     pub fn go_out(&mut self, alloc: Global, client: u32) -> Result<Option<Account<L>>, AllocError>
         ensures account { IfOk result (λ found. IfSome found (λ a.
             a ≡ account_at client (map.get self.old.places client))) }
@@ -107,7 +107,7 @@ impl<L: Ledger> Accounts<L> {
         }))
     }
 
-    // The client's seat goes out with what it was told before.
+    // The client's seat goes out with the account that was parked for it.
     fn go_out_again(&mut self, client: u32) -> Account<L>
         requires place { (is_away (map.get self.old.places client) ≡ false)
             × IsSome (map.get self.old.places client) }
@@ -130,10 +130,10 @@ impl<L: Ledger> Accounts<L> {
         }
     }
 
-    /// An account comes back to its client's place, for its next session or for good; one that was
-    /// told of no deed is given up, if it is not for good. Takes no memory: the place stands since
-    /// the seat went out. An account that does not belong there, or with messages on their way, is
-    /// lost, and its seat stays out.
+    /// An account comes back to its client's place, for its next session or for good. One to which
+    /// no deed was reported is given up, if it is not for good. Takes no memory: the place has been
+    /// there since the seat went out. An account that does not belong there, or with messages on
+    /// their way, is lost, and its seat stays out.
     pub fn park(&mut self, account: Account<L>, for_good: bool)
         ensures parked { ComesBack self.old.places account → self.new
             ≡ accounts_of self.old.total
@@ -163,7 +163,7 @@ impl<L: Ledger> Accounts<L> {
         }
     }
 
-    /// Whoever has this part is told of one deed more.
+    /// One more deed is reported to the owner of this part.
     pub fn add(&mut self, part: &mut Share<L>)
         requires { (0 < part.old.parts) × (self.old.total + 1 < 2 ^ 64) }
         ensures total { self.new ≡ accounts_of (self.old.total + 1) self.old.places }
@@ -172,7 +172,7 @@ impl<L: Ledger> Accounts<L> {
         self.tokens.add(part);
     }
 
-    /// Whether all seats are back: then all that was told was told to them.
+    /// Whether all seats are back: then all that was reported was reported to them.
     pub fn audit(&mut self) -> bool
         ensures back { result ≡ true → (seats_out self.old.places ≡ 0)
             × (self.old.total ≡ deeds_back self.old.places) }

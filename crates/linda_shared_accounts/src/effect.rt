@@ -18,7 +18,7 @@ pub enum Effect<R> {
 }
 
 impl<R> Effect<R> {
-    /// What is told of a message, given the receipt of its deed, if it made one.
+    /// The effect of a message, given the receipt of its deed, if it made one.
     pub fn of(receipt: Option<R>) -> Effect<R>
         ensures { result ≡ spec.told_of receipt }
     {
@@ -28,7 +28,7 @@ impl<R> Effect<R> {
         }
     }
 
-    /// One where a deed was made, else 0.
+    /// 1 if a deed was made, else 0.
     pub fn weight(&self) -> u64
         ensures is { result ≡ spec.weight self.now }
         ensures few { result ≤ 1 }

@@ -14,7 +14,7 @@ pub enum SharedFault {
     /// A seat is still out.
     #[error("a seat is missing")]
     SeatMissing,
-    /// What the client was told of this number differs from what was stored.
+    /// The receipt of this number that was reported to the client differs from what was stored.
     #[error("receipt {number} of client {client} differs")]
     Receipt { client: u32, number: u64 },
     /// This client's worker waited too long at a closed gate.

@@ -17,8 +17,8 @@ ghost use Rattle.linda_shared_accounts.specs.Ring.{IsRing, IsCut};
 ghost use Rattle.linda_shared_accounts.specs.Effect.{weight, weights, told_of};
 ghost use Rattle.linda_shared_accounts.specs.Telling.{receipts_in, HasTold, IsTrueOf};
 
-/// The receipts that are told of messages are those of their deeds, in order, with the replies to
-/// them.
+/// The receipts that are reported for messages are those of their deeds, in order, with the replies
+/// to them.
 pub fn receipts_tell_what_was_done()
     ensures { (base st new : State) (soft behind : Soft) (ms : List (ℕ × Message))
         (before : List Deed)
@@ -27,13 +27,14 @@ pub fn receipts_tell_what_was_done()
         → IsTrueOf base before answers new }
 {}
 
-/// True receipts, and others after them that are true where those are done, are true together.
+/// If receipts are true, and others are true once the deeds of those are done, then all of them are
+/// true in that order.
 pub fn true_receipts_go_on()
     ensures { (st : State) (before : List Deed) (rs qs : List Receipt) → AreTrue st before rs
         → AreTrue st (before ++ deeds_in rs) qs → AreTrue st before (rs ++ qs) }
 {}
 
-/// Each message is told of once.
+/// There is one report for each message.
 pub fn each_message_is_told_once()
     ensures { (st new : State) (soft behind : Soft) (ms : List (ℕ × Message))
         (told : List (Option Receipt))
@@ -41,7 +42,7 @@ pub fn each_message_is_told_once()
         → length told ≡ length ms }
 {}
 
-/// What is told weighs as many as there are receipts.
+/// The weight of what is reported is the number of receipts.
 pub fn receipts_weigh_one_each()
     ensures all { (told : List (Option Receipt))
         → weights (map told_of told) ≡ length (receipts_in told) }
@@ -50,7 +51,7 @@ pub fn receipts_weigh_one_each()
         ≡ length (receipts_in told) + weight (told_of one) }
 {}
 
-/// A ring that is cut is one, and has the last receipt of before; and what is cut twice is cut.
+/// A ring that is cut is a ring, and has the same last receipt; and what is cut twice is cut.
 pub fn cut_rings_are_rings()
     ensures ring { (client : ℕ) (old new : List Receipt) → IsRing client old → IsCut old new
         → IsRing client new }

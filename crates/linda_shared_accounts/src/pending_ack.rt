@@ -9,8 +9,8 @@ use crate::effect::Effect;
 use crate::shared_receipt::SharedReceipt;
 use std::sync::ledger::{Ledger, Share};
 
-/// A message on its way to the server: nothing is told yet. The address says where the answer is to
-/// go.
+/// A message on its way to the server: nothing is reported yet. The address says where the answer
+/// is to go.
 #[derive(Drop)]
 pub struct PendingAck<A: Drop, L: Ledger> {
     pub(crate) address: A,
@@ -19,7 +19,7 @@ pub struct PendingAck<A: Drop, L: Ledger> {
     ghost nothing: { part.amount ≡ 0 },
 }
 
-/// An answer on its way back: what is told stands in the ledger.
+/// An answer on its way back: what it reports is written in the ledger.
 #[derive(Drop)]
 pub struct Ack<A: Drop, L: Ledger> {
     pub(crate) address: A,
@@ -37,7 +37,7 @@ impl<A: Drop, L: Ledger> PendingAck<A, L> {
         &self.address
     }
 
-    /// Writes what is told into the ledger. There is no other way back.
+    /// Writes what is reported into the ledger. There is no other way back.
     pub fn answered(self, accounts: &mut Accounts<L>, told: Effect<SharedReceipt>) -> Ack<A, L>
         requires { accounts.old.total + weight told < 2 ^ 64 }
         ensures accounts { accounts.new ≡ accounts_of (accounts.old.total + weight told)
@@ -68,14 +68,15 @@ impl<A: Drop, L: Ledger> Ack<A, L> {
         &self.address
     }
 
-    /// What is told.
+    /// What is reported.
     pub fn told(&self) -> &Effect<SharedReceipt>
         ensures { result.now ≡ self.now.told }
     {
         &self.told
     }
 
-    /// The address by itself, and the answer without one: so it can lie where the address leads to.
+    /// The address, and the answer without one, so that the answer can be put where the address
+    /// leads to.
     pub fn detach(self) -> (A, Ack<(), L>)
         ensures { (result.0 ≡ self.address) × (result.1.told ≡ self.told) }
     {

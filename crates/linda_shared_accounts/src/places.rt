@@ -74,8 +74,8 @@ impl Places {
     ///
     /// # Errors
     ///
-    /// `AllocError` where memory runs out, and then nothing changes. It comes only for a client
-    /// with no place.
+    /// `AllocError` if memory runs out; then nothing changes. It comes only for a client with no
+    /// place.
     pub(crate) fn put(&mut self, client: u32, place: Place) -> Result<(), AllocError>
         ensures ok { OnOk result (self.new ≡ map.insert self.old client place) }
         ensures err { OnErr result (self.new ≡ self.old) }
@@ -105,7 +105,8 @@ impl Places {
         let _gone = self.entries.remove(&client);
     }
 
-    /// The ring that is parked for this client, if not for good, keeps its last receipt alone.
+    /// The ring that is parked for this client keeps only its last receipt, if it is not parked for
+    /// good.
     pub(crate) fn shorten(&mut self, client: u32)
         ensures at { map.get self.new client ≡ shortened_at (map.get self.old client) }
         ensures others { (c : ℕ) → c ≢ client → map.get self.new c ≡ map.get self.old c }
@@ -118,7 +119,7 @@ impl Places {
     }
 }
 
-// The place, with the last receipt alone, if it is not parked for good.
+// The place, with only the last receipt, if it is not parked for good.
 fn shortened(place: Place) -> Place
     ensures { result ≡ spec.shortened place }
 {

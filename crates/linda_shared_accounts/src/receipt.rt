@@ -42,7 +42,7 @@ impl Receipt {
     ///
     /// # Errors
     ///
-    /// `AllocError` where memory runs out.
+    /// `AllocError` if memory runs out.
     pub fn try_clone(&self, alloc: Global) -> Result<Receipt, AllocError>
         ensures { IfOk result (λ copy. copy ≡ self.now) }
     {

@@ -44,7 +44,7 @@ impl Ring {
     ///
     /// # Errors
     ///
-    /// `AllocError` where memory runs out.
+    /// `AllocError` if memory runs out.
     pub fn new(alloc: Global, client: u32) -> Result<Ring, AllocError>
         ensures { IfOk result (λ r. r ≡ ring_of client []) }
     {
@@ -68,7 +68,7 @@ impl Ring {
         self.receipts.back()
     }
 
-    /// The number of the last one, 0 where there is none.
+    /// The number of the last one, 0 if there is none.
     pub fn last_number(&self) -> u64
         ensures { result ≡ seen.last_number self.now.receipts }
     {
@@ -78,8 +78,8 @@ impl Ring {
         }
     }
 
-    /// Notes one more, where it is of this client and its number is above all others; the oldest
-    /// goes where there is no room. Else nothing changes.
+    /// Notes one more and returns true, if it is of this client and its number is above all others;
+    /// the oldest is dropped if there is no room. Else nothing changes.
     pub fn note(&mut self, receipt: SharedReceipt) -> bool
         ensures noted { result ≡ true → IsNext self.old.client self.old.receipts receipt
             × (self.new ≡ ring_of self.old.client (with_receipt self.old.receipts receipt)) }

@@ -8,8 +8,8 @@ use std::alloc::{AllocError, Global};
 use std::marker::Model;
 use std::sync::Arc;
 
-/// A receipt in memory that its copies have in common: what is kept under the lock and what a
-/// session was told are one. Contracts see the receipt.
+/// A receipt in memory that its copies share: what is kept under the lock and what was reported to
+/// a session are one receipt. Contracts see the receipt.
 #[derive(Debug, Drop)]
 pub struct SharedReceipt {
     shared: Arc<Receipt, Global>,
@@ -32,7 +32,7 @@ impl SharedReceipt {
     ///
     /// # Errors
     ///
-    /// `AllocError` where memory runs out; the receipt is dropped.
+    /// `AllocError` if memory runs out; the receipt is dropped.
     pub fn new(alloc: Global, receipt: Receipt) -> Result<SharedReceipt, AllocError>
         ensures { IfOk result (λ r. r ≡ receipt) }
     {
@@ -74,7 +74,7 @@ impl SharedReceipt {
     ///
     /// # Errors
     ///
-    /// `AllocError` where it is shared too often to be counted.
+    /// `AllocError` if it is shared too often to be counted.
     pub fn try_clone(&self) -> Result<SharedReceipt, AllocError>
         ensures { IfOk result (λ r. r ≡ self.now) }
     {

@@ -24,7 +24,7 @@ use std::vec::IntoIter;
 ///
 /// # Errors
 ///
-/// `AllocError` where memory runs out.
+/// `AllocError` if memory runs out.
 pub fn receipts_of(
     alloc: Global,
     served: Served,
@@ -80,7 +80,7 @@ fn next_of(deeds: &mut IntoIter<Deed>) -> Option<Deed>
     deeds.next()
 }
 
-// What stands after so many.
+// What comes after the first `n`.
 fn behind<T>(xs: &[T], n: usize) -> &[T]
     ensures { result.now ≡ drop n xs.now }
 {

@@ -12,7 +12,7 @@ pub fn account_crosses<L: Ledger + Send + Sync>(account: &Account<L>) {
     wants(account);
 }
 
-/// A accounts may cross threads.
+/// The accounts may cross threads.
 pub fn accounts_cross<L: Ledger + Send + Sync>(accounts: &Accounts<L>) {
     wants(accounts);
 }

@@ -33,7 +33,7 @@ impl<L: Ledger> Model for Tokens<L> {
 }
 
 impl<L: Ledger> Tokens<L> {
-    /// Nothing was told, and all parts are here.
+    /// Nothing was reported, and all parts are here.
     pub(crate) fn new(blank: Blank) -> Tokens<L>
         requires { (blank.name ≡ L.name) × (blank.parts ≡ L.parts) × (L.parts ≡ PARTS) }
         ensures { result ≡ tokens_of 0 0 0 }
@@ -47,7 +47,7 @@ impl<L: Ledger> Tokens<L> {
         }
     }
 
-    /// Of how many deeds was told in all.
+    /// How many deeds were reported in all.
     pub(crate) fn total(&self) -> u64
         ensures { result ≡ self.now.total }
     {
@@ -69,7 +69,7 @@ impl<L: Ledger> Tokens<L> {
         self.out < PARTS / ACCOUNT_PARTS
     }
 
-    /// The parts of an account that goes out, with what it was told.
+    /// The parts of an account that goes out, with the number of deeds that were reported to it.
     pub(crate) fn lend(&mut self, deeds: u64) -> Share<L>
         requires { (ACCOUNT_PARTS * (self.old.out + 1) ≤ PARTS) × (deeds ≤ self.old.back) }
         ensures share { (result.parts ≡ ACCOUNT_PARTS) × (result.amount ≡ deeds) }
@@ -80,7 +80,8 @@ impl<L: Ledger> Tokens<L> {
         self.rest.split_off(ACCOUNT_PARTS, deeds)
     }
 
-    /// The parts of an account that comes back. That was told of no more than was told in all.
+    /// The parts of an account that comes back. No more deeds were reported to it than were
+    /// reported in all.
     pub(crate) fn take_back(&mut self, share: Share<L>)
         requires { share.parts ≡ ACCOUNT_PARTS }
         ensures tokens { self.new ≡ tokens_of self.old.total (self.old.back + share.amount)
@@ -94,7 +95,7 @@ impl<L: Ledger> Tokens<L> {
         self.out -= 1;
     }
 
-    /// Whoever has this part is told of one deed more.
+    /// One more deed is reported to the owner of this part.
     pub(crate) fn add(&mut self, part: &mut Share<L>)
         requires { (0 < part.old.parts) × (self.old.total + 1 < 2 ^ 64) }
         ensures tokens { self.new ≡ tokens_of (self.old.total + 1) self.old.back self.old.out }
@@ -104,7 +105,7 @@ impl<L: Ledger> Tokens<L> {
         self.total += 1;
     }
 
-    /// Whether all accounts are back: then all that was told was told to them.
+    /// Whether all accounts are back: then all that was reported was reported to them.
     pub(crate) fn audit(&mut self) -> bool
         ensures back { result ≡ true → (self.old.out ≡ 0) × (self.old.total ≡ self.old.back) }
         ensures out { result ≡ false → 0 < self.old.out }

@@ -66,7 +66,7 @@ take_true : (st : State) (ds : List Deed) (rs qs : List Receipt) → AreTrue st 
 take_true st ds [] qs are = tt
 take_true st ds (r ∷ rs) qs are = (are.0, take_true st (ds ++ r.deed ∷ []) rs qs are.1)
 
--- The last receipts are told to nobody, and the server is down.
+-- While the server is down, the last receipts can be taken back: their deeds count as not reported.
 takes_back : (opening base : State) (rs qs : List Receipt) (count : ℕ) (st : State)
     → IsInOrder opening base (rs ++ qs) (count + length qs) true st → IsInOrder opening base rs count true st
 takes_back opening base rs qs count st so =
@@ -84,7 +84,7 @@ takes_back opening base rs qs count st so =
       counted = omega (arith, counted, long);
     }
 
--- The last receipts are told to nobody, and the server is down, for a server that is given by its fields.
+-- While the server is down, the last receipts can be taken back, for a server that is given by its fields.
 took_back : (opening base : State) (rs0 rs1 rs2 qs : List Receipt) (count : ℕ) (is_down : Bool) (st : State) → is_down ≡ true → rs1 ≡ rs0 ++ qs → rs2 ≡ rs0
     → IsInOrder opening base rs1 (count + length qs) is_down st → IsInOrder opening base rs2 count is_down st
 took_back opening base rs0 rs1 rs2 qs count false st is more back so = absurd (true≢false (sym is))
@@ -233,7 +233,7 @@ module _ {D : Type 0} {g : Ghosts D} where
             (before.ok_order opening base n so) (before.covered opening base n so covered);
       }
 
-  -- The next one took the server down: the receipts of those before it are told to nobody.
+  -- The next one took the server down: the receipts of those before it are taken back, and none is reported.
   pub keeps_back : {old mid new last : Kept D g} {told : Vec (Option Receipt)} {count : ℕ} {m : ℕ × Message} {fault : SharedFault}
       → KeepsAll old (Ok told) mid → TakesOne mid count m (Err fault) new
       → last.server ≡ new.server → last.boxes ≡ new.boxes → last.receipts ≡ old.receipts → KeepsAll old (Err faults.Down) last

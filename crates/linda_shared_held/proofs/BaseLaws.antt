@@ -1,4 +1,4 @@
--- Where the base is moved, and what crashes leave of a server that is down.
+-- The base is moved; and what crashes leave of a server that is down.
 use Rattle.std.proofs.Common.{◌≡◌, ◌∙◌, ℕ, ◌+◌, inl, inr, Bool, true, false, true≢false, List, [], ◌++◌, length, Option}
 use Rattle.std.proofs.Common.{refl, sym, ap, subst, append_assoc, length-append, arith}
 use Rattle.std.proofs.lemmas.List.{length-map}

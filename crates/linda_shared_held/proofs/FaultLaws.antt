@@ -31,7 +31,7 @@ module _ {D : Type 0} {g : Ghosts D} where
   pub still_both : (r s t : Durable D g) → IsKnownStill r s → IsKnownStill s t → IsKnownStill r t
   still_both r s t first second = (second.0 ∙ first.0, λ up. first.1 (second.1 up))
 
-  -- So it is of one that took a step or a snapshot, or did not.
+  -- The same holds of one that took a step or a snapshot, or did not.
   pub still_taken : (s t : Durable D g) {T : Type 0} (r : Result T SharedFault) → OnErr r (IsKnownStill s t)
       → OnOk r ((s.down ≡ false) × (t.down ≡ false)) → t.store ≡ s.store → IsKnownStill s t
   still_taken s t (Ok done) still up store = still_up s t up.0 up.1 (ap (λ (x : Store). x.state) store)

@@ -82,7 +82,7 @@ hello_has_room s c client version fresh orderly lacks =
       | inr much ↦ absurd (omega (arith, much.0))
     ]
 
--- One outbox is opened, where there was none.
+-- One outbox is opened, if there was none.
 pub boxes_opened : (st : State) (client : ℕ) (waits0 waits1 : ℕ → Option (List Reply)) → waits1 client ≡ opened (waits0 client)
     → ((c : ℕ) → c ≢ client → waits1 c ≡ waits0 c) → BoxesCovered st waits0 → BoxesCovered st waits1
 boxes_opened st client waits0 waits1 at others covered c =

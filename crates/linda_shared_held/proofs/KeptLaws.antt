@@ -49,7 +49,7 @@ module _ {D : Type 0} {g : Ghosts D} where
       → BoxesCovered (known_of s) (λ q. waits_for old q) → BoxesCovered (known_of t) (λ q. waits_for new q)
   still_covered s t old new still keep covered = subst (λ st. BoxesCovered st (λ q. waits_for new q)) (sym still.0) (keep (known_of s) covered)
 
-  -- A server whose store, state of before and standing are the same is known as before.
+  -- A server whose store and state before are the same, and that is down exactly if it was, is known as before.
   pub same_still : (s t : Durable D g) → t.before.value ≡ s.before.value → t.store ≡ s.store → t.down ≡ s.down → IsKnownStill s t
   same_still s t before store down = (
     ap (λ b. known b t.store t.down) before ∙ ap (λ x. known s.before.value x t.down) store
@@ -109,7 +109,7 @@ module _ {D : Type 0} {g : Ghosts D} where
 
   -- ---- messages were served
 
-  -- Nobody is told of these messages: the server was given up.
+  -- What these messages led to is reported to nobody: the server was given up.
   pub record IsGivenUp (old : Kept D g) (ms : List (ℕ × Message)) (served : Served) (mid : Durable D g) (new : Kept D g) : Type 0 where
     pub up : old.server.down ≡ false
     pub serves : IsServed old.server.store.state old.server.store.soft ms served mid.store.state mid.store.soft
@@ -169,7 +169,7 @@ module _ {D : Type 0} {g : Ghosts D} where
     fault = inr (inl refl);
   }
 
-  -- Each is told of these messages, and what is sent is posted.
+  -- What these messages led to is reported, and what is sent is posted.
   pub record IsToldOf (old : Kept D g) (ms : List (ℕ × Message)) (served : Served) (told : List (Option Receipt))
       (sends : List (ℕ × Reply)) (new : Kept D g) : Type 0 where
     pub up : (old.server.down ≡ false) × (new.server.down ≡ false)
@@ -212,7 +212,7 @@ module _ {D : Type 0} {g : Ghosts D} where
       let t = new.server.store in
       has_told s.state t.state s.soft t.soft ms served told so.tells is so.serves
 
-  -- As many deeds were done as are told of.
+  -- The deeds that were done are those that are reported.
   told_deeds : {old new : Kept D g} {ms : List (ℕ × Message)} {served : Served} {told : List (Option Receipt)} {sends : List (ℕ × Reply)}
       → IsToldOf old ms served told sends new
       → IsState old.server.store.state → served.deeds.items ≡ deeds_in (receipts_in told)

@@ -1,4 +1,4 @@
--- What is covered stays covered while deeds are done of which nobody was told.
+-- What is covered stays covered while deeds are done that are reported to nobody.
 use Rattle.std.proofs.Common.{◌≡◌, ℕ, ◌+◌, ◌<◌, true, false, true≢false, cond, ◌==◌, Bool, List, [], ◌∷◌, Option, Some}
 use Rattle.std.proofs.Common.{None, All, IfSome, inl, inr, refl, sym, ap, ◌∙◌, subst, eqb-true, arith}
 use Rattle.std.proofs.lemmas.Bool.{cases_Bool}
@@ -68,7 +68,7 @@ all_covered (d ∷ ds) st new send is all covered =
     let allowed : IsAllowed st d = all.proper [] d ds st refl (none_after st is) in
     all_covered ds (done st d) new send (done_state st d is allowed) (behind_one st new d ds is allowed all) (one_covered st d send is allowed covered)
 
--- So it is of all that waits.
+-- The same holds of all that waits.
 pub boxes_behind : (ds : List Deed) (st new : State) (waits : ℕ → Option (List Reply)) → IsState st
     → AreDone st ds new → BoxesCovered st waits → BoxesCovered new waits
 boxes_behind ds st new waits is all covered c = at (waits c) (covered c)

@@ -45,7 +45,7 @@ state_is opening base rs count st so =
     let told = told_all opening base rs count st so in
     proper_state base st (deeds_in rs) (base_is opening base rs count false st so) told.proper told.after
 
--- Messages were answered, and those who asked are told.
+-- Messages were answered, and what they led to is reported.
 pub told_more : (opening base : State) (rs : List Receipt) (count : ℕ) (st : State) (soft : Soft)
     (ms : List (ℕ × Message)) (told : List (Option Receipt)) (sends : List (ℕ × Reply)) (new : State) (then : Soft)
     → IsInOrder opening base rs count false st → HasTold st soft ms told sends new then
@@ -69,7 +69,7 @@ told_more opening base rs count st soft ms told sends new then so has =
       counted = omega (arith, counted, long);
     }
 
--- Messages were answered, and nobody is told: the server is down.
+-- Messages were answered, and nothing is reported: the server is down.
 pub told_nobody : (opening base : State) (rs : List Receipt) (count : ℕ) (st : State) (soft : Soft)
     (ms : List (ℕ × Message)) (served : Served) (new : State) (then : Soft)
     → IsInOrder opening base rs count false st → IsServed st soft ms served new then
@@ -103,7 +103,7 @@ stays_so opening base rs count was_down is_down st new same up so = record {
   counted = so.counted;
 }
 
--- As many deeds were done as are told of.
+-- The deeds that were done are those that are reported.
 pub deeds_told : (st : State) (soft : Soft) (ms : List (ℕ × Message)) (served : Served) (new : State) (then : Soft) (told : List (Option Receipt))
     → IsState st → IsServed st soft ms served new then
     → told ≡ told_by served.counts.items served.deeds.items served.sends.items → served.deeds.items ≡ deeds_in (receipts_in told)

@@ -5,7 +5,7 @@ use Rattle.linda_shared_accounts.specs.Ring.{IsCut, KeepsAbove, IsAbove}
 use Rattle.linda_shared_accounts.specs.Accounts.{Accounts, accounts_of, with_place, place_for, ComesBack}
 use Rattle.linda_shared_held.specs.Parked.{IsParked}
 
--- What is left of the account comes back where the account does.
+-- If an account comes back, so does what is left of it.
 comes_too : (old : Accounts) (a left : Account) → left ≡ account_of a.client a.deeds a.asked left.ring → ComesBack old.places a → ComesBack old.places left
 comes_too old a left same comes = subst (ComesBack old.places) (sym same) (record { out = comes.out; all_here = comes.all_here })
 

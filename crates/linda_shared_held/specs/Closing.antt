@@ -15,7 +15,8 @@ use Rattle.linda_shared_held.specs.Kept.{IsKnownStill, KeepCovered, WaitsSame}
 use Rattle.linda_shared_held.specs.Posted.{HasClosed, HasLeft}
 
 module _ {D : Type 0} {g : Ghosts D} where
-  -- It is Down exactly where the server is, and nothing else. One that was down is as before.
+  -- It is Down exactly if the server is down, and there is no other fault. A server that was down
+  -- is as before.
   pub record IsDownOnly {A : Type 0} (old : Durable D g) (result : Result A SharedFault)
       (new : Durable D g) : Type 0 where
     pub up : OnOk result ((old.down ≡ false) × (new.down ≡ false))
@@ -47,7 +48,7 @@ module _ {D : Type 0} {g : Ghosts D} where
     -- What is covered stays so: what is sent reports no deed that is not kept.
     pub covered : KeepCovered was boxes
 
-  -- The session of a client ends: it is closed and, whatever that reports, its outbox is shut
+  -- The session of a client ends: it is closed and, even if that fails, its outbox is shut
   -- (`leave`, `depart`).
   pub record Departs (old : Durable D g) (was : Outboxes) (client : ℕ)
       (result : Result (Unit {0}) SharedFault)

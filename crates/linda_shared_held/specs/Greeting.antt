@@ -49,8 +49,8 @@ IsAdmitted st ps client fresh (Err why) =
     ⊎ ((why ≡ told_why refusals.TooManyClients) × (PARTS < ACCOUNT_PARTS * (seats_out ps + 1))
     × IsWelcome (greeting st client VERSION fresh))
 
--- A Hello is refused for its version, then where its client's seat is out, then as the server says.
--- Any other message is refused.
+-- A Hello is refused for its version, then if its client can have no seat now, then as the server
+-- says. Any other message is refused.
 abbrev pub IsGreeted : State → Places → Message → Result (Account × ℕ) (ℕ × ℕ) → Type 0
 IsGreeted st ps (messages.Hello version client fresh) answer =
     ((version ≢ VERSION) × (answer ≡ Err (told_why refusals.Version)))
@@ -60,7 +60,7 @@ IsGreeted st ps (messages.Hello version client fresh) answer =
     × IsAdmitted st ps client fresh answer))
 IsGreeted st ps _ answer = answer ≡ Err (told_why refusals.NoHello)
 
--- What holds where a greeting gave no seat.
+-- This holds if a greeting gave no seat.
 abbrev pub OnNoSeat : {L E : Type 0} → Result (Admission L) E → Type 0 → Type 0
 OnNoSeat (Ok (admissions.Welcome account last)) P = Unit {0}
 OnNoSeat (Ok (admissions.Refused code detail)) P = P

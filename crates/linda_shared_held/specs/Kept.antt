@@ -32,7 +32,7 @@ pub record Kept (D : Type 0) (g : Ghosts D) : Type 0 where
   pub receipts : List Receipt
   pub boxes : Outboxes
 
--- What is covered stays so, whatever the state.
+-- What is covered in a state stays so, for every state.
 abbrev pub KeepCovered : Outboxes → Outboxes → Type 0
 KeepCovered old new =
     (st : State) → BoxesCovered st (waits_for old) → BoxesCovered st (waits_for new)
@@ -56,7 +56,7 @@ module _ {D : Type 0} {g : Ghosts D} where
   IsKnownStill old new =
       (known_of new ≡ known_of old) × (new.down ≡ false → old.down ≡ false)
 
-  -- It is in order, since this opening and this base, if so many deeds were told.
+  -- It is in order, for this opening and this base, if so many deeds were reported.
   abbrev pub InOrder : State → State → ℕ → Kept D g → Type 0
   InOrder opening base count k =
       IsInOrder opening base k.receipts count k.server.down (known_of k.server)
@@ -65,7 +65,8 @@ module _ {D : Type 0} {g : Ghosts D} where
   abbrev pub AllCovered : Kept D g → Type 0
   AllCovered k = BoxesCovered (known_of k.server) (waits_for k.boxes)
 
-  -- It takes messages, whether together or one by one; `told` is what each of them is told at Ok.
+  -- It takes messages, in one step or one by one; `told` gives what is reported of each of them at
+  -- Ok.
   pub record Keeps {A : Type 0} (told : A → List (Option Receipt)) (old : Kept D g)
       (result : Result A SharedFault)
       (new : Kept D g) : Type 0 where
@@ -91,12 +92,12 @@ module _ {D : Type 0} {g : Ghosts D} where
       (result : Result (Vec (Option Receipt)) SharedFault)
       (new : Kept D g) : Type 0 where
     pub keeps : KeepsAll old result new
-    -- At Ok each is told what its answer says, and what is sent is posted;
+    -- At Ok what is reported of each is what its answer says, and what is sent is posted;
     pub done : IfOk result (λ told. GoTogether old.server ms told.items (waits_for old.boxes)
         (waits_for new.boxes) new.server)
     pub one_each : IfOk result (λ told. vec_len told ≡ length ms)
     pub up : OnOk result ((old.server.down ≡ false) × (new.server.down ≡ false))
-    -- else nothing is posted; where it is Full nothing changed.
+    -- else nothing is posted; at Full nothing changed.
     pub nothing : OnErr result (WaitsSame old.boxes new.boxes)
     pub full : IsErrOf result faults.Full → (new.server ≡ old.server) × (new.boxes ≡ old.boxes)
         × HasNoRoomFor old.server ms
@@ -128,7 +129,7 @@ module _ {D : Type 0} {g : Ghosts D} where
         (waits_for new.boxes))
     pub fault : IfErr result (λ fault. (fault ≡ faults.Down) ⊎ (fault ≡ faults.Memory))
 
-  -- It tells its client that a message is refused (`turn_away`): else the server is down.
+  -- It posts to the client that its message is refused (`turn_away`); else the server is down.
   pub record TurnsAway (old : Durable D g) (was : Outboxes) (client : ℕ) (refusal : Refusal)
       (result : Result (Unit {0}) SharedFault)
       (new : Durable D g) (boxes : Outboxes) : Type 0 where
@@ -149,15 +150,15 @@ module _ {D : Type 0} {g : Ghosts D} where
         (λ served. IsServed old.store.state old.store.soft ms served new.store.state new.store.soft)
     pub each : IfOk result (λ served. vec_len served.counts ≡ length ms)
     pub up : OnOk result ((old.down ≡ false) × (new.down ≡ false))
-    -- For all deeds together four device calls were made on the bank in use, and where there are
-    -- none no disk was touched.
+    -- For all deeds together four device calls were made on the bank in use; if there are none, no
+    -- disk was touched.
     pub idle : IfOk result (λ served. served.deeds.items ≡ [] → new.disks ≡ old.disks)
     pub clock : IfOk result (λ served. 0 < length served.deeds.items → IsPutOn old.disks new.disks)
     pub fault : IfErr result (λ fault. (fault ≡ faults.Full) ⊎ (fault ≡ faults.Down))
     pub full : IsErrOf result faults.Full → (new ≡ old) × HasNoRoomFor old ms
     pub room : OnOk result (HasNoRoomFor old ms → ⊥)
     pub down : IsErrOf result faults.Down → new.down ≡ true
-    -- What is known of a server that did not is as before.
+    -- What is known of a server that did not take them is as before.
     pub still : OnErr result (IsKnownStill old new)
 
   -- If the server has no room for all messages, a snapshot is asked for; nothing else of the policy
@@ -172,8 +173,8 @@ module _ {D : Type 0} {g : Ghosts D} where
     pub unasked : (HasNoRoomFor old ms → ⊥) → now ≡ was
     pub first : old.down ≡ true → now ≡ was
 
-  -- It is Down exactly where the server is, and that before all else; or memory ran out, and
-  -- nothing changed (`handle_all`, `take`).
+  -- It is Down before all, and exactly if the server is down; or memory ran out, and nothing
+  -- changed (`handle_all`, `take`).
   pub record Fails {A : Type 0} (old : Kept D g) (result : Result A SharedFault) (new : Kept D g)
       : Type 0 where
     pub up : OnOk result ((old.server.down ≡ false) × (new.server.down ≡ false))

@@ -17,9 +17,9 @@ abbrev pub known : State → Store → Bool → State
 known before store is_down = if is_down then before else store.state
 
 -- The state is the one after the deeds since the opening: some before the base, and after it those
--- of the receipts; while the server is down there may be others after these, of which nobody was
--- told. The receipts have the replies to their deeds, and the count is that of the deeds that were
--- told.
+-- of the receipts; while the server is down there may be others after these, which were reported to
+-- nobody. The receipts have the replies to their deeds, and the count is that of the deeds that
+-- were reported.
 pub record IsInOrder (opening base : State) (receipts : List Receipt) (count : ℕ) (is_down : Bool)
     (state : State) : Type 0 where
   pub ranges : IsState opening

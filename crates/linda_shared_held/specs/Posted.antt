@@ -23,8 +23,8 @@ use Rattle.linda_shared_accounts.specs.declared.effect.Effect.{Effect}
 use Rattle.linda_shared_accounts.specs.Telling.{receipts_in, HasTold}
 use Rattle.linda_shared_accounts.specs.Effect.{told_of}
 
--- The messages were answered one after another in one step, this is told of them, and what is sent
--- to a client stands after what waited in its outbox, where it has one.
+-- The messages were answered one after another in one step, this is reported of them, and what is
+-- sent to a client comes after what waited in its outbox, if it has one.
 pub record HasPosted (st : State) (soft : Soft) (ms : List (ℕ × Message))
     (told : List (Option Receipt))
     (old posted : ℕ → Option (List Reply)) (new : State) (behind : Soft) : Type 0 where
@@ -41,7 +41,7 @@ IsWhy s count m refusal =
     × (comes_next (number_of_message m.1) (last_number s.store.state m.0) ≡ true))
 
 module _ {D : Type 0} {g : Ghosts D} where
-  -- A message was refused: its client is told so, and nothing else changed.
+  -- A message was refused: that is posted to its client, and nothing else changed.
   pub record IsTurnedAway (s : Durable D g) (count : ℕ) (m : ℕ × Message) (told : Option Receipt)
       (old posted : ℕ → Option (List Reply)) (new : Durable D g) : Type 0 where
     pub refusal : Refusal
@@ -51,8 +51,8 @@ module _ {D : Type 0} {g : Ghosts D} where
         → posted c ≡ with_more (replies_to c ((m.0, refused refusal) ∷ [])) (old c)
     pub same : new ≡ s
 
-  -- These were answered in one step: where they did deeds, four device calls in all were made on
-  -- the bank in use; else no disk was touched.
+  -- These were answered in one step: if they did deeds, four device calls in all were made on the
+  -- bank in use; else no disk was touched.
   pub record GoTogether (s : Durable D g) (ms : List (ℕ × Message)) (told : List (Option Receipt))
       (old posted : ℕ → Option (List Reply)) (new : Durable D g) : Type 0 where
     pub posts : HasPosted s.store.state s.store.soft ms told old posted
@@ -99,8 +99,8 @@ module _ {D : Type 0} {g : Ghosts D} where
     pub mid : Durable D g
     pub went : WentAlone s count old (take many ms) told posted mid
 
-  -- The messages were answered in one step, or went one by one, the receipts of their deeds stand
-  -- after those of before, and each place is told what its message led to, the last one first.
+  -- The messages were answered in one step, or went one by one. The receipts of their deeds come
+  -- after those of before, and what each message led to is reported, that of the last one first.
   pub record IsHandled (s : Durable D g) (count : ℕ) (ms : List (ℕ × Message))
       (old_receipts : List Receipt)
       (old_posted : ℕ → Option (List Reply)) (old_told : List (Effect Receipt))

@@ -12,7 +12,7 @@ use Rattle.linda_shared_accounts.specs.Accounts.{Places, deeds_back, seats_out, 
 use Rattle.linda_shared_accounts.specs.Compare.{IsToldSo, LastIsKept, Names}
 use Rattle.linda_shared_held.specs.declared.held.finish.Report.{Report}
 
--- It reports what all seats were told, once they are back (`finish`). These are their places.
+-- It returns what was reported to all seats, once they are back (`finish`). These are their places.
 pub record Reports {D : Type 0} {g : Ghosts D} (s : Durable D g) (count : ℕ)
     (receipts : List Receipt)
     (result : Result Report SharedFault)
@@ -23,8 +23,8 @@ pub record Reports {D : Type 0} {g : Ghosts D} (s : Durable D g) (count : ℕ)
   pub told : OnOk result (All (IsToldSo places) receipts)
   pub kept : OnOk result
       ((c : ℕ) → LastIsKept s.store.state (receipts_at (map.get places c)))
-  -- It is down exactly where the server is, and that before all else; then a seat is missing
-  -- exactly where one is out.
+  -- It is Down before all, and exactly if the server is down; then a seat is missing exactly if one
+  -- is out.
   pub up : OnOk result (s.down ≡ false)
   pub down : IsErrOf result faults.Down → s.down ≡ true
   pub first : s.down ≡ true → IsErrOf result faults.Down

@@ -40,7 +40,7 @@ module _ {D : Type 0} {g : Ghosts D} where
     pub down : IsErrOf result faults.Down → new.down ≡ true
     pub still : IsKnownStill old new
 
-  -- A greeting asks the server, which does nothing; it is Down exactly where the server is, or
+  -- A greeting asks the server, which does nothing; it is Down exactly if the server is down, or
   -- memory ran out (`admit`).
   pub record Admits {A : Type 0} (old : Durable D g) (result : Result A SharedFault)
       (new : Durable D g) : Type 0 where
@@ -52,13 +52,13 @@ module _ {D : Type 0} {g : Ghosts D} where
     pub fault : IfErr result (λ fault. (fault ≡ faults.Down) ⊎ (fault ≡ faults.Memory))
     pub still : IsKnownStill old new
 
-  -- The same of a whole greeting, which is down before all else where the server was (`greet`).
+  -- The same of a whole greeting, which is Down before all if the server was down (`greet`).
   pub record Greets {A : Type 0} (old : Durable D g) (result : Result A SharedFault)
       (new : Durable D g) : Type 0 where
     pub up : OnOk result ((old.down ≡ false) × (new.down ≡ false))
     pub same : OnOk result (DidNothing old new)
     pub down : IsErrOf result faults.Down → new.down ≡ true
     pub first : old.down ≡ true → IsErrOf result faults.Down × (new ≡ old)
-    -- Where memory ran out a second greeting is answered as this one was to be.
+    -- If memory ran out, a second greeting is answered as this one was to be.
     pub memory : IsErrOf result faults.Memory → (new.down ≡ false) × DidNothing old new
     pub fault : IfErr result (λ fault. (fault ≡ faults.Down) ⊎ (fault ≡ faults.Memory))

@@ -16,8 +16,8 @@ module _ {D : Type 0} {g : Ghosts D} where
     pub limit : new.limit ≡ old.limit
     -- At Ok the other disk holds the bank in use, of the next generation and without a record.
     pub switched : OnOk result (IsSwitched old.disks new.disks)
-    -- It is Full exactly where there is no next bank for the state, and Down exactly where the
-    -- server is, and that before all else.
+    -- It is Full exactly if there is no next bank for the state, and Down before all, and exactly
+    -- if the server is down.
     pub full : IsErrOf result faults.Full → (new ≡ old) × HasNoNextBank old
     pub room : OnOk result (HasNoNextBank old → ⊥)
     pub up : OnOk result ((old.down ≡ false) × (new.down ≡ false))
@@ -34,7 +34,7 @@ module _ {D : Type 0} {g : Ghosts D} where
     pub store : new.store ≡ old.store
     pub limit : new.limit ≡ old.limit
     pub up : OnOk result ((old.down ≡ false) × (new.down ≡ false))
-    -- It is Down exactly where the server is, and that before all else.
+    -- It is Down before all, and exactly if the server is down.
     pub down : IsErrOf result faults.Down → new.down ≡ true
     pub first : old.down ≡ true → IsErrOf result faults.Down × (new ≡ old)
     pub fault : IfErr result (λ fault. (fault ≡ faults.Full) ⊎ (fault ≡ faults.Down))

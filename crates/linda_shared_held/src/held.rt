@@ -55,12 +55,12 @@ use std::alloc::Global;
 use std::sync::ledger::{Blank, Ledger};
 use take::take;
 
-/// The server, the receipts of its deeds since the base, and the ledger of who was told of how
-/// many.
+/// The server, the receipts of its deeds since the base, and the ledger of how many deeds were
+/// reported to each client.
 #[derive(Drop)]
 pub struct Held<D: Disk, L: Ledger> {
     server: Durable<D>,
-    // The state when it was made, which contracts alone see.
+    // The state when it was made, which only contracts see.
     opening: Moment<State<IndexBag>>,
     // The state at the last snapshot, or when it was made.
     base: Moment<State<IndexBag>>,
@@ -83,7 +83,7 @@ pub struct Held<D: Disk, L: Ledger> {
 }
 
 impl<D: Disk, L: Ledger> Held<D, L> {
-    /// A server of which nobody was told anything yet.
+    /// A server of which nothing was reported yet.
     pub fn new(alloc: Global, server: Durable<D>, blank: Blank) -> Held<D, L>
         requires up { server.down ≡ false }
         requires blank { (blank.name ≡ L.name) × (blank.parts ≡ L.parts) × (L.parts ≡ PARTS) }
@@ -113,14 +113,14 @@ impl<D: Disk, L: Ledger> Held<D, L> {
         }
     }
 
-    /// Does what was asked, and writes into the ledger what each is told: all in one call of the
-    /// server, or one message after another where it has no room for all of them, or the count of
-    /// deeds could pass its last value.
+    /// Does what was asked, and writes into the ledger what is reported of each message: all in one
+    /// call of the server, or one message after another if it has no room for all of them, or if
+    /// the count of deeds could pass its last value.
     ///
     /// # Errors
     ///
-    /// `Down` before all, and exactly where the server is down: nobody is told of a deed, and one
-    /// that was down is as before. `Memory`: nothing changed, but that a snapshot may be asked for.
+    /// `Down` before all, and exactly if the server is down: no deed is reported, and one that was
+    /// down is as before. `Memory`: nothing changed, but that a snapshot may be asked for.
     pub fn handle_all<A: Drop>(
         &mut self,
         alloc: Global,
@@ -145,14 +145,14 @@ impl<D: Disk, L: Ledger> Held<D, L> {
         ensures addresses { map (λ a. a.address) answered.new.items
             ≡ map (λ a. a.address) answered.old.items
             ++ reverse (map (λ a. a.address) asked.old.items) }
-        // else nobody was told anything; what is posted was sent by some first messages that went
-        // one by one.
+        // else no deed was reported; what is posted was sent by some first messages that went one
+        // by one.
         ensures err { OnErr result ((self.new.receipts.items ≡ self.old.receipts.items)
             × (self.new.count ≡ self.old.count)) }
         ensures some { OnErr result (WentSome self.old.server self.old.count messages.now
             (waits_for self.old.boxes) (waits_for self.new.boxes)) }
-        // It is down exactly where the server is, and that before all else; where memory ran out
-        // nothing changed.
+        // It is Down before all, and exactly if the server is down; if memory ran out, nothing
+        // changed.
         ensures fails { Fails (kept self.old.server self.old.receipts self.old.boxes) result
             (kept self.new.server self.new.receipts self.new.boxes) }
         ensures failed { IfErr result (λ fault. map (λ a. a.told) answered.new.items
@@ -163,7 +163,7 @@ impl<D: Disk, L: Ledger> Held<D, L> {
         // No seat comes or goes.
         ensures places { self.new.accounts.places ≡ self.old.accounts.places }
         ensures recall { self.new.recall ≡ self.old.recall }
-        // Where the server has no room for all of them, a snapshot is tried once there is a record
+        // If the server has no room for all of them, a snapshot is tried once there is a record
         // that the last try did not find.
         ensures asks { Asks self.old.server self.old.count messages.now self.old.policy result
             self.new.policy }

@@ -98,7 +98,7 @@ some_not_none : {X : Type 0} (x : X) → Some x ≡ None → ⊥
 some_not_none x e = cc
 
 module _ (bag : FinMap nat_cmp Tuple) (tag : Atom) where
-  -- Where no tuple of the tag has so many fields, there is none.
+  -- If the bag has no tuple of the tag with so many fields, no id has such a tuple.
   no_head : (n id : ℕ) (tuple : Tuple) → HasNone bag tag n → get bag id ≡ Some tuple → same_atom tag tuple.tag ≡ true → length tuple.fields ≡ n → ⊥
   no_head n id tuple none there same long =
       let own : tag ≡ tuple.tag = (same_atom-decides tag tuple.tag).0 same in

@@ -16,8 +16,8 @@ abbrev pub AreRising : ℕ → List ℕ → Option ℕ → Type 0
 AreRising from [] next = IfSome next (λ n. from ≤ n)
 AreRising from (id ∷ ids) next = (from ≤ id) × AreRising (suc id) ids next
 
--- The ids were listed by pieces, one at each of these moments, and `next` is where the next piece
--- goes on.
+-- The ids were listed by pieces, one at each of these moments, and `next` is the id from which the
+-- next piece goes on.
 pub record IsGathered (tag : Option Atom) (from : ℕ) (moments : List Tuples) (ids : List ℕ)
     (next : Option ℕ) : Type 0 where
   -- None is listed twice;

@@ -1,4 +1,4 @@
--- LongestWaitsAndHolds waits and holds.
+-- Longest waits and holds.
 use Rattle.std.specs.Prelude.{◌≡◌, ◌≤◌, ℕ, true, List, All, length}
 use Rattle.std.specs.Option.{is_some}
 use Rattle.std.specs.Ordering.{nat_cmp}

@@ -27,7 +27,7 @@ abbrev pub is_found : fin.FinMap nat_cmp Tuple → Option (List Template) → �
 is_found bag None id = is_some (fin.get bag id)
 is_found bag (Some shapes) id = is_matched bag shapes id
 
--- The template of a tag and so many fields, whatever they are.
+-- The template of a tag and so many fields, of any values.
 abbrev pub shape_of : Atom → ℕ → Template
 shape_of tag fields = record { tag = tag; fields = replicate fields patterns.Any }
 

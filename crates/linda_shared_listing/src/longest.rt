@@ -1,4 +1,4 @@
-//! LongestWaitsAndHolds waits and holds.
+//! Longest waits and holds.
 
 ghost use Rattle.std.specs.Prelude.{◌≤◌, ◌+◌, IfOk, OnOk, All, length};
 ghost use Rattle.linda_shared_listing.specs.Longest.{IsHeld, IsLongest};

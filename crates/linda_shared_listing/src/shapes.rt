@@ -11,8 +11,8 @@ use linda_bag::IndexBag;
 use linda_tuple::{Atom, MAX_FIELDS, Pattern, Template};
 use std::alloc::{AllocError, Global};
 
-/// Templates that match the tuples that are asked for by this tag, and no others; none if no tag is
-/// given: then each is asked for. Takes no walk over the tuples.
+/// Templates that match the tuples that are asked for by this tag, and no others; `None` if no tag
+/// is given: then each is asked for. Takes no walk over the tuples.
 ///
 /// # Errors
 ///
@@ -67,7 +67,7 @@ fn next_fields(bag: &IndexBag, tag: &Atom, last: usize) -> Option<usize>
     Some(kind.fields)
 }
 
-// The template of the tag and so many fields, whatever they are.
+// The template of the tag and so many fields, of any values.
 fn shape_of(alloc: Global, tag: &Atom, fields: usize) -> Result<Template, AllocError>
     ensures { IfOk result (λ shape. shape ≡ shape_of tag.now fields) }
 {

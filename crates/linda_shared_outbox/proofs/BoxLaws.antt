@@ -1,5 +1,5 @@
--- Keys and boxes after a change of one of them. What is found under a client, and what stands under a
--- key, are functions here, so that no law speaks of a map or of a slab.
+-- Keys and boxes after a change of one of them. What is found under a client, and what is found under a key, are functions here, so that no law
+-- speaks of a map or of a slab.
 use Rattle.std.proofs.Common.{◌≡◌, ◌≢◌, ℕ, Bool, true, false, cond, ◌==◌, List, [], ◌∷◌, ◌++◌, Option, Some, None}
 use Rattle.std.proofs.Common.{is_some, refl, sym, ap, ◌∙◌, subst, inl, inr, eq-eqb, ne_eqb, true≢false}
 use Rattle.std.proofs.lemmas.Bool.{cases_eq}
@@ -28,7 +28,7 @@ Apart find = (b c key : ℕ) → find b ≡ Some key → find c ≡ Some key →
 abbrev pub Heard : (ℕ → Option ℕ) → (ℕ → Option Outbox) → List ℕ → Type 0
 Heard find at ws = (c : ℕ) → is_heard ws c (shown (boxed at (find c))) ≡ true
 
--- Of each other client that stands in the one list it is known that it stands in the other.
+-- Each other client that is in the one list is in the other too.
 abbrev pub StillStand : ℕ → List ℕ → List ℕ → Type 0
 StillStand c old new = (q : ℕ) → q ≢ c → stands_in q old ≡ true → stands_in q new ≡ true
 
@@ -133,7 +133,7 @@ module _ (find now : ℕ → Option ℕ) (old new : ℕ → Option Outbox) (c ke
         | inr differs ↦ ap (λ o. is_heard ws q (shown o)) (box_with taken q differs) ∙ heard q
       ]
 
--- What a list with one more at its end says of who stands in it.
+-- What a list with one more at its end says of the clients in it.
 pub stands_last : (c : ℕ) (ws : List ℕ) → stands_in c (ws ++ c ∷ []) ≡ true
 stands_last c [] = ap (λ b. cond b true false) (eq-eqb c c refl)
 stands_last c (w ∷ ws) = by (w == c) (stands_last c ws)
@@ -174,12 +174,12 @@ pub heard_unlisted : (c : ℕ) (ws : List ℕ) (o : Option (List Reply × Bool))
 heard_unlisted c ws None = refl
 heard_unlisted c ws (Some o) = refl
 
--- Who has a key has a box.
+-- A client that has a key has a box.
 pub some_box : (at : ℕ → Option Outbox) (o : Option ℕ) → ((key : ℕ) → o ≡ Some key → is_some (at key) ≡ true) → is_some (boxed at o) ≡ is_some o
 some_box at None taken = refl
 some_box at (Some key) taken = taken key refl
 
--- There is as much room as before where the box under one key was made larger.
+-- There is as much room as before if the box under one key was made larger.
 pub more_taken : (old new : ℕ → Option Outbox) (key n : ℕ) → (TakesMore n (old key) → TakesMore n (new key)) → ((k : ℕ) → k ≢ key → new k ≡ old k)
     → (o : Option ℕ) → TakesMore n (boxed old o) → TakesMore n (boxed new o)
 more_taken old new key n kept others None room = tt

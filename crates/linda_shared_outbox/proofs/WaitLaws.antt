@@ -60,7 +60,7 @@ room_left old new s n at others ss all =
           | inr apart ↦ subst (TakesMore n) (sym (others c apart)) (fewer (old c) room)
         ]
 
--- Where there is an outbox, it has a list of replies, maybe an empty one.
+-- If there is an outbox, it has a list of replies, which may be empty.
 pub is_some_replies : (o : Option Outbox) → is_some (replies_in o) ≡ is_some o
 is_some_replies None = refl
 is_some_replies (Some o) = refl

@@ -7,7 +7,7 @@ use Rattle.slab.specs.Slab as slab
 use Rattle.linda_wire.specs.declared.reply.Reply.{Reply}
 use Rattle.linda_shared_outbox.specs.declared.outbox.Outbox.{Outbox}
 
--- The outbox of a client, where it has one.
+-- The outbox of a client, if it has one.
 abbrev pub under : slab.Slab Outbox → Option ℕ → Option Outbox
 under boxes None = None
 under boxes (Some key) = slab.get boxes key
@@ -15,12 +15,12 @@ under boxes (Some key) = slab.get boxes key
 abbrev pub box_of : tree.BTreeMap ℕ ℕ → slab.Slab Outbox → ℕ → Option Outbox
 box_of keys boxes c = under boxes (tree.get nat_cmp keys c)
 
--- The replies in an outbox, where there is one.
+-- The replies in an outbox, if there is one.
 abbrev pub replies_in : Option Outbox → Option (List Reply)
 replies_in None = None
 replies_in (Some o) = Some o.replies.items
 
--- The replies in an outbox, where there is one, and whether its client is in the list of those that
+-- The replies in an outbox, if there is one, and whether its client is in the list of those that
 -- wait.
 abbrev pub shown : Option Outbox → Option (List Reply × Bool)
 shown None = None
@@ -47,12 +47,12 @@ is_unlisted None = false
 is_unlisted (Some (rs, true)) = false
 is_unlisted (Some (rs, false)) = true
 
--- There is room for so many more, where there is an outbox.
+-- There is room for so many more, if there is an outbox.
 abbrev pub TakesMore : ℕ → Option Outbox → Type 0
 TakesMore n None = Unit {0}
 TakesMore n (Some o) = vec_len o.replies + n ≤ vec_capacity o.replies
 
--- The client stands in the list.
+-- The client is in the list.
 abbrev pub stands_in : ℕ → List ℕ → Bool
 stands_in c [] = false
 stands_in c (w ∷ ws) = if w == c then true else stands_in c ws
@@ -61,7 +61,7 @@ abbrev pub is_none_left : List Reply → Bool
 is_none_left [] = true
 is_none_left (r ∷ rs) = false
 
--- A client whose outbox says so stands in the list; of any other nothing waits.
+-- A client whose outbox says that it is listed is in the list; for any other nothing waits.
 abbrev pub is_heard : List ℕ → ℕ → Option (List Reply × Bool) → Bool
 is_heard waiting c None = true
 is_heard waiting c (Some (rs, true)) = stands_in c waiting
@@ -83,6 +83,6 @@ abbrev pub AreApart : tree.BTreeMap ℕ ℕ → Type 0
 AreApart keys =
     (b c key : ℕ) → tree.get nat_cmp keys b ≡ Some key → tree.get nat_cmp keys c ≡ Some key → b ≡ c
 
--- Whoever has replies stands in the list.
+-- Each client for which replies wait is in the list.
 abbrev pub AllHeard : tree.BTreeMap ℕ ℕ → slab.Slab Outbox → List ℕ → Type 0
 AllHeard keys boxes waiting = (c : ℕ) → is_heard waiting c (shown (box_of keys boxes c)) ≡ true

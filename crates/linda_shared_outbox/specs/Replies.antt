@@ -7,7 +7,7 @@ abbrev pub replies_to : ℕ → List (ℕ × Reply) → List Reply
 replies_to c [] = []
 replies_to c (s ∷ ss) = if s.0 == c then s.1 ∷ replies_to c ss else replies_to c ss
 
--- an outbox where there was none
+-- an empty outbox if there was none
 abbrev pub opened : Option (List Reply) → Option (List Reply)
 opened None = Some []
 opened (Some rs) = Some rs
@@ -17,7 +17,7 @@ abbrev pub with_more : List Reply → Option (List Reply) → Option (List Reply
 with_more more None = None
 with_more more (Some rs) = Some (rs ++ more)
 
--- none where something waited
+-- the outbox with nothing in it, if there is one
 abbrev pub emptied : Option (List Reply) → Option (List Reply)
 emptied None = None
 emptied (Some rs) = Some []

@@ -5,7 +5,7 @@ use Rattle.linda_wire.specs.declared.reply.Reply.{Reply}
 use Rattle.linda_shared_outbox.specs.Boxes.{box_of, replies_in, TakesMore}
 use Rattle.linda_shared_outbox.specs.declared.outboxes.Outboxes.{Outboxes}
 
--- what waits for a client, where it has an outbox
+-- what waits for a client, if it has an outbox
 abbrev pub waits_for : Outboxes → ℕ → Option (List Reply)
 waits_for outboxes c = replies_in (box_of outboxes.keys outboxes.boxes c)
 

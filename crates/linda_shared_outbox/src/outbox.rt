@@ -11,8 +11,8 @@ use linda_wire::Reply;
 use slab::Slab;
 use std::alloc::{AllocError, Global};
 
-/// The replies that wait for a client, in order, and whether the client stands in the list of those
-/// that have some. It stands there once at most, so it stays listed where it is drained by itself.
+/// The replies that wait for a client, in order, and whether the client is in the list of those
+/// that have some. It is there once at most, so it stays listed if it is drained by itself.
 #[derive(Drop)]
 pub(crate) struct Outbox {
     pub(crate) replies: Vec<Reply>,
@@ -37,7 +37,7 @@ pub(crate) fn make_place(
     Ok(())
 }
 
-/// Posts the reply in the outbox of this key. Answers whether the client is to be listed now.
+/// Posts the reply in the outbox of this key. Returns whether the client is to be listed now.
 pub(crate) fn put(boxes: &mut Slab<Outbox>, key: usize, reply: Reply) -> bool
     requires { TakesMore 1 (slab.get boxes.old key) }
     ensures at { shown (slab.get boxes.new key) ≡ posted reply (shown (slab.get boxes.old key)) }

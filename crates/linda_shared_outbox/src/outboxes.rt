@@ -81,11 +81,11 @@ impl Outboxes {
         next_key(&self.keys, last)
     }
 
-    /// Gives the client an empty outbox; where it has one, nothing changes.
+    /// Gives the client an empty outbox; if it has one, nothing changes.
     ///
     /// # Errors
     ///
-    /// `AllocError` where memory runs out, and then nothing changes.
+    /// `AllocError` if memory runs out, and then nothing changes.
     pub fn open(&mut self, alloc: Global, client: u32) -> Result<(), AllocError>
         ensures at { OnOk result (waits_for self.new client ≡ opened (waits_for self.old client)) }
         ensures others { (c : ℕ) → c ≢ client → waits_for self.new c ≡ waits_for self.old c }
@@ -120,7 +120,7 @@ impl Outboxes {
     ///
     /// # Errors
     ///
-    /// `AllocError` where memory runs out. What waits stays as it is.
+    /// `AllocError` if memory runs out. What waits stays as it is.
     pub fn make_places(&mut self, sends: &[(u32, Reply)]) -> Result<(), AllocError>
         ensures room { OnOk result (HasPlaces self.new sends.now) }
         ensures same { (c : ℕ) → waits_for self.new c ≡ waits_for self.old c }
@@ -146,7 +146,7 @@ impl Outboxes {
         Ok(())
     }
 
-    /// Posts what is sent, each reply to its client's outbox, where there is one.
+    /// Posts what is sent, each reply to its client's outbox, if there is one.
     pub fn post_all(&mut self, sends: Vec<(u32, Reply)>)
         requires { HasPlaces self.old sends.items }
         ensures { (c : ℕ) →
@@ -185,8 +185,8 @@ impl Outboxes {
         }
     }
 
-    /// What waits for some client for which something waits; none where nothing waits for anybody.
-    /// Its outbox is empty then. Takes no memory, and looks at those alone that something was
+    /// The replies that wait for some client, at least one; `None` if nothing waits for anybody.
+    /// Its outbox is empty then. Takes no memory, and looks only at the outboxes that something was
     /// posted to.
     pub fn drain_next(&mut self, alloc: Global) -> Option<Sent>
         ensures out { IfSome result (λ next.
@@ -231,7 +231,7 @@ impl Outboxes {
     }
 }
 
-// The key of the client's outbox, where it has one.
+// The key of the client's outbox, if it has one.
 fn key_of(keys: &BTreeMap<u32, usize>, client: u32) -> Option<usize>
     ensures { result ≡ tree.get nat_cmp keys.now client }
 {

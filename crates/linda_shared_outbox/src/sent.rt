@@ -5,8 +5,7 @@ ghost use Rattle.std.specs.Prelude.{◌≡◌};
 use linda_wire::Reply;
 
 /// The replies that waited for a client, in order, taken out of its outbox. Only
-/// `Outboxes::drain_next` makes one, so whoever has one has replies that were posted to this
-/// client.
+/// `Outboxes::drain_next` makes one, so its replies were posted to this client.
 #[derive(Drop)]
 pub struct Sent {
     pub(crate) client: u32,

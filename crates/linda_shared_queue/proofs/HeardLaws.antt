@@ -126,7 +126,7 @@ left_so m a faults.Memory new is = same_so a faults.Memory new tt is
 as_before_so : (m : Message) (a new : Account) → new ≡ a → IsLost m a new
 as_before_so m a new is = record { told = None; account = is; deed = tt; next = tt }
 
--- But for a receipt that was no answer it was told what the message asks for.
+-- Unless the fault is that of a receipt, nothing was reported to the account, or a deed that the message asks for.
 left_lost : (m : Message) (a : Account) (fault : SharedFault) (new : Account) → IsLeft m a fault new → is_receipt fault ≡ false → IsLost m a new
 left_lost m a faults.Down new lost mild = lost
 left_lost m a faults.Full new is mild = as_before_so m a new is

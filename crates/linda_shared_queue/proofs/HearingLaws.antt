@@ -10,7 +10,7 @@ use Rattle.linda_shared_accounts.specs.Account.{Account, account_of}
 use Rattle.linda_shared_accounts.specs.Ring.{with_receipt, IsNext}
 use Rattle.linda_shared_queue.specs.Seat.{back, IsLost}
 
--- It was told of a deed that the message asks for, and noted the receipt.
+-- A deed that the message asks for was reported to the account, which noted the receipt.
 pub noted : {T E : Type 0} (result : Result T E) (m : Message) (before heard new : Account) (told : Effect Receipt) (r : Receipt)
     → heard ≡ account_of before.client (before.deeds + weight told) (before.asked - 1) before.ring → told ≡ tidings.Deed r
     → OnOk result (new ≡ account_of heard.client heard.deeds heard.asked (with_receipt heard.ring r))

@@ -1,4 +1,4 @@
--- What an account was told, one message more.
+-- What was reported to an account, one message more.
 use Rattle.std.proofs.Common.{◌≡◌, ℕ, ◌+◌, ◌-◌, ◌≤◌, List, [], ◌∷◌, ◌++◌, Option, Some, None, refl, ap, ◌∙◌, arith}
 use Rattle.linda_wire.specs.declared.message.Message.{Message}
 use Rattle.linda_shared_accounts.specs.declared.receipt.Receipt.{Receipt}
@@ -9,7 +9,7 @@ pub all_snoc : (a : Account) (ts : List (Option Receipt)) (t : Option Receipt) �
 all_snoc a [] t = refl
 all_snoc a (s ∷ ts) t = all_snoc (with_told a s) ts t
 
--- How many are on their way changes nothing of what is told.
+-- What is reported and the number of messages on their way change the account independently.
 told_asked : (a : Account) (asked : ℕ) (t : Option Receipt) → with_asked (with_told a t) asked ≡ with_told (with_asked a asked) t
 told_asked a asked None = refl
 told_asked a asked (Some r) = refl
@@ -25,7 +25,7 @@ told_snoc c [] (s ∷ ts) m t all one = absurd all
 told_snoc c (n ∷ ms) [] m t all one = absurd all
 told_snoc c (n ∷ ms) (s ∷ ts) m t all one = (all.0, told_snoc c ms ts m t all.1 one)
 
--- What comes back changes the client, the count of messages and that of deeds so.
+-- An answer that comes back leaves the client, takes one message off, and adds one deed at most.
 pub back_client : (a : Account) (t : Option Receipt) → (with_told (back a) t).client ≡ a.client
 back_client a None = refl
 back_client a (Some r) = refl

@@ -8,7 +8,7 @@ use Rattle.linda_shared_accounts.specs.declared.fault.SharedFault.TheVariants as
 use Rattle.linda_shared_accounts.specs.Account.{Account}
 use Rattle.linda_shared_queue.specs.Seat.{with_asked, with_all, AreToldOf}
 
--- whether the account may have changed where a message is told this
+-- whether the account may have changed if this fault is reported
 abbrev pub is_severe : SharedFault → Bool
 is_severe faults.Down = true
 is_severe faults.Full = false
@@ -29,12 +29,13 @@ worse_fault None fault = fault
 worse_fault (Some first) fault =
     if is_receipt first then first else if is_receipt fault then fault else first
 
--- What holds unless the fault is that of a receipt.
+-- This holds unless the fault is that of a receipt.
 abbrev pub UnlessReceipt : Option SharedFault → Type 0 → Type 0
 UnlessReceipt None P = P
 UnlessReceipt (Some fault) P = is_receipt fault ≡ false → P
 
--- the fault of a batch: none that says that nothing changed, where something may have
+-- the fault of a batch: `Down` in place of one that says that nothing changed, if something may
+-- have
 abbrev pub told_fault : SharedFault → Bool → SharedFault
 told_fault fault as_before = if as_before || is_severe fault then fault else faults.Down
 
@@ -43,14 +44,15 @@ abbrev pub IsFaultOf : ℕ → SharedFault → Type 0
 IsFaultOf c (faults.Receipt client number) = client ≡ c
 IsFaultOf c _ = Unit {0}
 
--- The account was told this of its messages, and each is one that its message asks for.
+-- This was reported to the account of its messages, and each deed is one that its message asks for.
 pub record IsToldAll (before : Account) (ms : List Message) (a : Account)
     (told : List (Option Receipt)) : Type 0 where
   pub account : with_asked a 0 ≡ with_all (with_asked before 0) told
   pub deeds : AreToldOf before.client ms told
   pub each : length told ≡ length ms
 
--- The account was told something of its messages, each what its message asks for.
+-- Something was reported to the account of its messages, and each deed is one that its message asks
+-- for.
 pub record HasNoted (before : Account) (ms : List Message) (a : Account) : Type 0 where
   pub told : List (Option Receipt)
   pub all : IsToldAll before ms a told

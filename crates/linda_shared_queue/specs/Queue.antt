@@ -22,11 +22,11 @@ abbrev pub asks_next : Bool → Bool → Bool → Bool
 asks_next asks others has_asked = asks && (not others || not has_asked)
 
 module _ {L : Type 0} where
-  -- a message that waits, where its answer goes, and how many of its call stand behind it
+  -- a message that waits, where its answer goes, and how many messages of its call come after it
   abbrev pub seen : Waiting L → Message × ReplySlot L × ℕ
   seen w = (w.message, w.asked.address, w.behind)
 
-  -- Messages of one call: so many stand behind each.
+  -- the messages of one call, each with the number of those after it
   abbrev pub all_seen : List (Message × ReplySlot L) → List (Message × ReplySlot L × ℕ)
   all_seen [] = []
   all_seen (m ∷ ms) = (m.0, m.1, length ms) ∷ all_seen ms
@@ -36,7 +36,8 @@ module _ {L : Type 0} where
   line true q = map seen q.asking.items
   line false q = map seen q.doing.items
 
-  -- Whether the front of a line goes into this room, with all that stands behind it in its call.
+  -- Whether the message in front of a line fits into this room, with all those of its call after
+  -- it.
   abbrev pub fits : ℕ → List (Message × ReplySlot L × ℕ) → Bool
   fits room [] = false
   fits room (m ∷ ms) = nat_lt m.2 room

@@ -19,21 +19,21 @@ with_asked a asked = account_of a.client a.deeds asked a.ring
 abbrev pub back : Account → Account
 back a = with_asked a (a.asked - 1)
 
--- the account, told of one deed more
+-- the account, after one more deed was reported to it
 abbrev pub with_deed : Account → Account
 with_deed a = account_of a.client (a.deeds + 1) a.asked a.ring
 
--- the account, told of what a message led to: a receipt joins the ring
+-- the account, after it was reported what a message led to: a receipt joins the ring
 abbrev pub with_told : Account → Option Receipt → Account
 with_told a None = a
 with_told a (Some r) = account_of a.client (a.deeds + 1) a.asked (with_receipt a.ring r)
 
--- the account, told of what several messages led to, in order
+-- the account, after it was reported what several messages led to, in order
 abbrev pub with_all : Account → List (Option Receipt) → Account
 with_all a [] = a
 with_all a (t ∷ ts) = with_all (with_told a t) ts
 
--- of how many deeds these accounts say that they were told
+-- how many deeds were reported to these accounts, each counted up to 2 ^ 64 - 1
 abbrev pub deeds_told : List Account → ℕ
 deeds_told accounts = sum_by (λ a. min a.deeds (2 ^ 64 - 1)) accounts
 
@@ -46,12 +46,12 @@ IsRequest (messages.Accept n ticket id) = Unit {0}
 IsRequest (messages.Cancel ticket) = Unit {0}
 IsRequest (messages.Leave n) = Unit {0}
 
--- A deed that was told is one that the client's message asks for.
+-- A deed that was reported is one that the client's message asks for.
 abbrev pub IsToldOf : ℕ → Message → Option Receipt → Type 0
 IsToldOf c m None = Unit {0}
 IsToldOf c m (Some r) = IsDeedOf c m r.deed
 
--- Each deed that was told is one that the message at its position asks for; there are as many
+-- Each deed that was reported is one that the message at its position asks for; there are as many
 -- positions.
 abbrev pub AreToldOf : ℕ → List Message → List (Option Receipt) → Type 0
 AreToldOf c [] [] = Unit {0}
@@ -59,8 +59,8 @@ AreToldOf c [] (t ∷ ts) = ⊥
 AreToldOf c (m ∷ ms) [] = ⊥
 AreToldOf c (m ∷ ms) (t ∷ ts) = IsToldOf c m t × AreToldOf c ms ts
 
--- An answer was lost, and the account was told what it said: nothing, or a deed that the message
--- asks for, whose receipt joined the ring after the others.
+-- An answer was lost, and what it says was reported to the account: nothing, or a deed that the
+-- message asks for, whose receipt joined the ring after the others.
 pub record IsLost (m : Message) (a new : Account) : Type 0 where
   pub told : Option Receipt
   pub account : new ≡ with_told a told
@@ -78,14 +78,14 @@ IsLeft m a (faults.Stuck client) new = new ≡ a
 IsLeft m a faults.NoThread new = new ≡ a
 IsLeft m a faults.Memory new = new ≡ a
 
--- Answers were lost, and the account was told what they said: of each message nothing, or a deed
--- that it asks for, whose receipt joined the ring.
+-- Answers were lost, and what they say was reported to the account: of each message nothing, or a
+-- deed that it asks for, whose receipt joined the ring.
 pub record AreLost (ms : List Message) (a new : Account) : Type 0 where
   pub told : List (Option Receipt)
   pub account : new ≡ with_all a told
   pub deeds : AreToldOf a.client ms told
 
--- It was told of so many deeds more at most.
+-- At most so many more deeds were reported to it.
 pub record IsToldMore (n : ℕ) (a new : Account) : Type 0 where
   pub client : new.client ≡ a.client
   pub asked : new.asked ≡ a.asked

@@ -7,10 +7,10 @@ use linda_shared_accounts::{Ack, Effect, Receipt, SharedReceipt};
 use std::alloc::Global;
 use std::sync::ledger::Ledger;
 
-/// What is told of a client's message, with a second copy of it: one stays with the session, the
-/// other is for the caller that submitted, and has memory of its own. On its way it has the address
-/// of its message, and in the mailbox the recipient that waits for it. An answer without a copy is
-/// lost: memory ran out, and the message counts as one of a server that went down.
+/// What is reported of a client's message, with a second copy of it: one stays with the session,
+/// the other is for the caller that submitted, and has memory of its own. On its way it has the
+/// address of its message, and in the mailbox the recipient that waits for it. An answer without a
+/// copy is lost: memory ran out, and the message counts as one of a server that went down.
 #[derive(Drop)]
 pub struct Answer<A: Drop, L: Ledger> {
     address: A,
@@ -20,7 +20,7 @@ pub struct Answer<A: Drop, L: Ledger> {
 }
 
 impl<A: Drop, L: Ledger> Answer<A, L> {
-    /// The answer with a copy, where there is memory for one.
+    /// The answer with a copy, if there is memory for one.
     pub fn of(alloc: Global, answered: Ack<A, L>) -> Answer<A, L>
         ensures to { result.address ≡ answered.address }
         ensures told { result.answered.told ≡ answered.told }
@@ -87,7 +87,7 @@ impl<A: Drop, L: Ledger> Answer<A, L> {
     }
 }
 
-// A copy of what is told, where there is memory for one.
+// A copy of what is reported, if there is memory for one.
 fn copy_of(alloc: Global, told: &Effect<SharedReceipt>) -> Option<Effect<Receipt>>
     ensures { IfSome result (λ copy. copy ≡ told.now) }
 {

@@ -14,7 +14,7 @@ use linda_shared_accounts::{Account, Receipt, SharedFault};
 use linda_wire::Message;
 use std::sync::ledger::Ledger;
 
-/// What was told of each message so far, the worst fault, and whether the account is known to be as
+/// What the messages led to so far, the worst fault, and whether the account is known to be as
 /// before.
 #[derive(Drop)]
 pub struct Heard {
@@ -102,8 +102,8 @@ impl Heard {
     ///
     /// # Errors
     ///
-    /// The worst fault; `Down` in place of one that says that nothing changed, where the account
-    /// may have.
+    /// The worst fault; `Down` in place of one that says that nothing changed, if the account may
+    /// have changed.
     pub fn end(self) -> Result<Vec<Option<Receipt>>, SharedFault>
         ensures ok { (before account : accounts.Account) (ms : List messages.Message)
             → HasHeard before ms account self.told.items self.fault self.is_as_before
@@ -148,7 +148,7 @@ fn is_receipt(fault: SharedFault) -> bool
     }
 }
 
-// Whether the account may have changed where the server tells it this.
+// Whether the account may have changed if the server reports this fault.
 fn is_severe(fault: SharedFault) -> bool
     ensures { result ≡ spec.is_severe fault }
 {
@@ -159,7 +159,7 @@ fn is_severe(fault: SharedFault) -> bool
     }
 }
 
-// The fault, or `Down` for one that says that nothing changed where something may have.
+// The fault, or `Down` for one that says that nothing changed, if something may have.
 fn told_fault(fault: SharedFault, is_as_before: bool) -> SharedFault
     ensures { result ≡ spec.told_fault fault is_as_before }
 {

@@ -20,9 +20,9 @@ use std::sync::ledger::Ledger;
 ///
 /// # Errors
 ///
-/// `Receipt`: the account was told of a deed that the message does not ask for, or of one that is
-/// not the next of its ring.
-/// `Down`: the copy was lost. Else what the server said, and nothing was done.
+/// `Receipt`: a deed was reported to the account that the message does not ask for, or one that is
+/// not the next of its ring. `Down`: the copy was lost. Else the fault of the server, and nothing
+/// was done.
 pub fn hear<A: Drop, L: Ledger>(
     account: &mut Account<L>,
     message: &Message,
@@ -62,16 +62,16 @@ pub fn hear<A: Drop, L: Ledger>(
 ///
 /// # Errors
 ///
-/// `Receipt`: the account was told of a deed that the message does not ask for, or of one that is
-/// not the next of its ring. Else what the server said, and nothing was done.
+/// `Receipt`: a deed was reported to the account that the message does not ask for, or one that is
+/// not the next of its ring. Else the fault of the server, and nothing was done.
 pub fn hear_answer<A: Drop, L: Ledger>(
     account: &mut Account<L>,
     message: &Message,
     answered: Ack<A, L>,
 ) -> Result<(), SharedFault>
     requires { 0 < account.old.asked }
-    // It was told nothing, or a deed that the message asks for, whose receipt joined the ring after
-    // the others;
+    // Nothing was reported to it, or a deed that the message asks for, whose receipt joined the
+    // ring after the others;
     ensures ok { OnOk result (IsLost message.now (back account.old) account.new) }
     // else it is as before, but for `Receipt`.
     ensures err { IfErr result (λ fault. IsLeft message.now (back account.old) fault account.new) }
@@ -87,7 +87,7 @@ pub fn hear_answer<A: Drop, L: Ledger>(
     }
 }
 
-// Notes the receipt, where its deed is one that the message asks for.
+// Notes the receipt, if its deed is one that the message asks for.
 fn note<L: Ledger>(
     account: &mut Account<L>,
     message: &Message,

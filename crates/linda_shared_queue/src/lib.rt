@@ -3,7 +3,7 @@
 //!
 //! - A `Mailbox` is a session's own: its replies, and a place for the answer to each message that
 //!   it has on its way.
-//! - `Outlet` is where its replies come out; a thread that reads there never asks for the server.
+//! - An `Outlet` gives out its replies; a thread that reads there never asks for the server.
 //! - The `Queue` has the messages that wait to be served, those of which no deed comes in a line of
 //!   their own. It says who is to serve the next group.
 //! - An `Answer` is what is reported of a message, with a second copy of it. On its way it has the

@@ -38,14 +38,14 @@ impl<L: Ledger> Mail<L> {
         }
     }
 
-    /// Whether whoever submitted has nothing to do but wait.
+    /// Whether the thread that submitted can only wait.
     pub(crate) fn is_idle(&self) -> bool
         ensures { result ≡ (not self.now.leads && nat_lt 0 self.now.due) }
     {
         !self.leads && self.due > 0
     }
 
-    /// Whether whoever wants replies has nothing to do but wait.
+    /// Whether a thread that wants replies can only wait.
     pub(crate) fn is_empty(&self) -> bool
         ensures { result ≡ ((vec_len self.now.replies == 0) && not self.now.is_over) }
     {
@@ -102,7 +102,7 @@ impl<L: Ledger> Mail<L> {
         self.due = self.due.saturating_sub(1);
     }
 
-    /// Puts a reply after the others. Where there is no memory for it nothing changes.
+    /// Puts a reply after the others. If there is no memory for it, nothing changes.
     pub(crate) fn post_one(&mut self, reply: Reply) -> Result<(), AllocError>
         ensures ok { OnOk result (self.new.replies.items ≡ self.old.replies.items ++ reply ∷ []) }
         ensures err { OnErr result (self.new.replies.items ≡ self.old.replies.items) }
@@ -112,7 +112,7 @@ impl<L: Ledger> Mail<L> {
         Ok(())
     }
 
-    /// Puts replies after the others. Where there is no memory for them none comes any more.
+    /// Puts replies after the others. If there is no memory for them, none comes any more.
     pub(crate) fn post(&mut self, sent: Sent)
         ensures kept { self.new.is_over ≡ self.old.is_over
             → self.old.is_over ≡ false

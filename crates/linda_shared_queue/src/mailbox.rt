@@ -11,12 +11,13 @@ use std::alloc::{AllocError, Global};
 use std::sync::ledger::Ledger;
 use std::sync::{Condvar, Mutex, Wait};
 
-/// What others put there for the session of one client. Whoever has its lock asks for no other.
+/// What others put there for the session of one client. A thread that has its lock asks for no
+/// other.
 #[derive(Drop)]
 pub struct Mailbox<L: Ledger> {
     client: u32,
     mail: Mutex<Mail<L>>,
-    // Whoever submitted is answered, or is to lead.
+    // The thread that submitted is answered, or is to lead.
     turned: Condvar,
     // There is a reply.
     came: Condvar,
@@ -56,8 +57,8 @@ impl<L: Ledger> Mailbox<L> {
         Ok(())
     }
 
-    /// Puts replies to its client after the others. If there is no memory for them none comes any
-    /// more. Whoever waits for news is woken too, if others' messages led to these.
+    /// Puts replies to its client after the others. If there is no memory for them, none comes any
+    /// more. A thread that waits for news is woken too, if others' messages led to these.
     pub(crate) fn post<R: Wait>(&self, rt: &R, sent: Sent, is_news: bool)
         requires { sent.client ≡ self.now.client }
     {
@@ -80,7 +81,8 @@ impl<L: Ledger> Mailbox<L> {
         self.mail.lock(rt).open(n)
     }
 
-    /// Puts an answer to its client into its place. With the last one whoever submitted is woken.
+    /// Puts an answer to its client into its place. With the last one the thread that submitted is
+    /// woken.
     pub(crate) fn put<R: Wait>(&self, rt: &R, answer: Answer<Recipient, L>)
         requires { answer.address.client ≡ self.now.client }
     {
@@ -93,7 +95,7 @@ impl<L: Ledger> Mailbox<L> {
         }
     }
 
-    /// Whoever submitted is to serve the next group.
+    /// The thread that submitted is to serve the next group.
     pub(crate) fn lead<R: Wait>(&self, rt: &R) {
         let mut mail = self.mail.lock(rt);
         mail.set_leads();

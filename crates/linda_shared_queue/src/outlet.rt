@@ -9,7 +9,7 @@ use std::alloc::{AllocError, Global};
 use std::sync::ledger::Ledger;
 use std::sync::{Arc, Wait};
 
-/// Where the replies of a session come out. Whoever reads here never asks for the server.
+/// Where the replies of a session come out. A thread that reads here never asks for the server.
 #[derive(Drop)]
 pub struct Outlet<L: Ledger> {
     mailbox: Arc<Mailbox<L>, Global>,
@@ -43,14 +43,14 @@ impl<L: Ledger> Outlet<L> {
     }
 
     /// Waits until there is a reply, the server is down or the seat was hung up; then takes what is
-    /// there. So nothing where no reply comes any more.
+    /// there. So it returns no replies if none comes any more.
     pub fn drain_wait<R: Wait>(&mut self, rt: &R, alloc: Global) -> Vec<Reply> {
         self.mailbox.drain_wait(rt, alloc)
     }
 
     /// Waits until there is a reply that others' messages led to, the server is down or the seat
-    /// was hung up, and takes nothing. Says whether a reply may come. It is for whoever writes
-    /// beside a thread that submits, and that writes what its own messages led to.
+    /// was hung up, and takes nothing. Returns whether a reply may come. It is for a thread that
+    /// writes beside one that submits, if that one writes what its own messages led to.
     pub fn wait_news<R: Wait>(&self, rt: &R) -> bool {
         self.mailbox.wait_news(rt)
     }

@@ -25,19 +25,19 @@ pub struct Waiting<L: Ledger> {
     pub message: Message,
     /// Where the answer goes.
     pub asked: PendingAck<ReplySlot<L>, L>,
-    // How many messages of the same call stand after it.
+    // How many messages of the same call come after it.
     behind: usize,
 }
 
-/// The messages that wait, each kind in order, and whether somebody leads: serves a group, or was
-/// told to. Asks and Cancels, of which no deed comes, go in groups of their own, so that who asks
-/// waits for no disk but that of the group before. Where both kinds wait the groups alternate, so
-/// neither waits for more than one of the other.
+/// The messages that wait, each kind in order, and whether a thread leads: it serves a group, or is
+/// to serve one. Asks and Cancels, of which no deed comes, go in groups of their own, so that a
+/// client that asks waits for no disk but that of the group before. If both kinds wait, the groups
+/// alternate, so neither waits for more than one of the other.
 #[derive(Drop)]
 pub struct Queue<L: Ledger> {
     // Calls of which deeds may come.
     doing: VecDeque<Waiting<L>>,
-    // Calls of Asks and Cancels alone.
+    // Calls of only Asks and Cancels.
     asking: VecDeque<Waiting<L>>,
     // Whether the last group was one of Asks and Cancels.
     has_asked: bool,
@@ -57,8 +57,8 @@ impl<L: Ledger> Queue<L> {
         }
     }
 
-    /// A message of this account goes on its way, after the others of its kind. Says whether
-    /// whoever asks is to lead.
+    /// A message of this account goes on its way, after the others of its kind. Returns whether the
+    /// caller is to lead.
     ///
     /// # Errors
     ///
@@ -89,7 +89,7 @@ impl<L: Ledger> Queue<L> {
     }
 
     /// Messages of this account go on their way, after the others of their kind and one after
-    /// another; they are served in one group. Says whether whoever asks is to lead.
+    /// another; they are served in one group. Returns whether the caller is to lead.
     ///
     /// # Errors
     ///
@@ -129,7 +129,7 @@ impl<L: Ledger> Queue<L> {
         self.has_asked = self.is_next_to_ask();
     }
 
-    /// Takes the message of the group's kind that is in front, where there is room for it and for
+    /// Takes the message of the group's kind that is in front, if there is room for it and for
     /// those of its call after it.
     pub fn next(&mut self, room: usize) -> Option<Waiting<L>>
         ensures room { is_some result ≡ fits room (line self.old.has_asked self.old) }
@@ -148,8 +148,8 @@ impl<L: Ledger> Queue<L> {
         }
     }
 
-    /// Ends a group: the session in front of the next one is to lead it. Where nobody waits,
-    /// whoever comes next leads.
+    /// Ends a group: the session in front of the next one is to lead it. If nobody waits, the next
+    /// one that asks leads.
     pub fn pass_on<R: Wait>(&mut self, rt: &R)
         ensures led { self.new.is_led
             ≡ (nat_lt 0 (deque_len self.old.asking) || nat_lt 0 (deque_len self.old.doing)) }
@@ -161,8 +161,8 @@ impl<L: Ledger> Queue<L> {
         };
     }
 
-    // Whether the next group is of Asks and Cancels: where there are some, unless the last one was
-    // and others wait.
+    // Whether the next group is of Asks and Cancels: if there are some, unless the last one was and
+    // others wait.
     fn is_next_to_ask(&self) -> bool
         ensures { result ≡ asks_next (nat_lt 0 (deque_len self.now.asking))
             (nat_lt 0 (deque_len self.now.doing)) self.now.has_asked }
@@ -171,7 +171,7 @@ impl<L: Ledger> Queue<L> {
     }
 }
 
-// Whether whoever asks is to lead, as somebody does from now on.
+// Whether the caller is to lead. From now on some thread leads.
 fn take_lead(is_led: &mut bool) -> bool
     ensures { (result ≡ not is_led.old) × (is_led.new ≡ true) }
 {
@@ -180,7 +180,7 @@ fn take_lead(is_led: &mut bool) -> bool
     leads
 }
 
-// A message of the account stands last in the line.
+// A message of the account joins the end of the line.
 fn join<L: Ledger>(
     line: &mut VecDeque<Waiting<L>>,
     account: &mut Account<L>,
@@ -204,7 +204,7 @@ fn join<L: Ledger>(
     Ok(())
 }
 
-// Messages of the account stand last in the line, one after another.
+// Messages of the account join the end of the line, one after another.
 fn join_all<L: Ledger>(
     line: &mut VecDeque<Waiting<L>>,
     account: &mut Account<L>,
@@ -231,7 +231,7 @@ fn join_all<L: Ledger>(
     Ok(())
 }
 
-// Takes the message in front, where there is room for it and for those of its call after it.
+// Takes the message in front, if there is room for it and for those of its call after it.
 fn take_front<L: Ledger>(line: &mut VecDeque<Waiting<L>>, room: usize) -> Option<Waiting<L>>
     ensures room { is_some result ≡ fits room (map seen line.old.items) }
     ensures some { IfSome result (λ w. line.old.items ≡ w ∷ line.new.items) }
@@ -248,7 +248,7 @@ fn take_front<L: Ledger>(line: &mut VecDeque<Waiting<L>>, room: usize) -> Option
     line.pop_front()
 }
 
-// Tells the session in front that it is to lead. Says whether there is one.
+// Wakes the session in front, which is to lead. Returns whether there is one.
 fn promote_front<L: Ledger, R: Wait>(rt: &R, line: &VecDeque<Waiting<L>>) -> bool
     ensures { result ≡ nat_lt 0 (deque_len line.now) }
 {

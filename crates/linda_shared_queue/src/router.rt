@@ -108,8 +108,8 @@ impl<L: Ledger> Router<L> {
         std::mem::swap(&mut self.answers, answers);
     }
 
-    /// Takes replies. Where there is no memory to keep them beside the others, those go out first:
-    /// so none is lost.
+    /// Takes replies. If there is no memory to keep them beside the others, those go out first: so
+    /// none is lost.
     pub fn take_replies<R: Wait>(&mut self, rt: &R, sent: Sent)
         ensures kept { (self.new ≡ router_of self.old.answers (self.old.replies ++ sent ∷ []))
             ⊎ (self.new ≡ router_of self.old.answers (sent ∷ [])) }

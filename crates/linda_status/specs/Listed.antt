@@ -12,12 +12,12 @@ use Rattle.linda_shared_listing.specs.declared.listed.ListedClient.{ListedClient
 use Rattle.linda_shared_listing.specs.declared.listed.ClientPage.{ClientPage}
 use Rattle.linda_inspect.specs.Json.{json_member, json_string, json_tuple}
 
--- From where the next page goes on.
+-- The number from which the next page goes on.
 unfoldable pub json_next : Option ℕ → List ℕ
 json_next None = codes "{\n\"next\":null"
 json_next (Some number) = json_member (codes "{\n\"next\":") number
 
--- The same, and the begin of a list.
+-- The same, and the beginning of a list.
 unfoldable pub json_begun : Option ℕ → List ℕ → List ℕ
 json_begun next list = json_next next ++ list
 

@@ -49,11 +49,11 @@ unfoldable pub json_waits : List LongWait → List ℕ
 json_waits [] = []
 json_waits (row ∷ rows) = codes "\n" ++ json_wait row ++ flat_map json_later_wait rows
 
--- Those that wait, and the begin of the list of those that are held.
+-- Those that wait, and the beginning of the list of those that are held.
 unfoldable pub json_waits_to_end : List LongWait → List ℕ
 json_waits_to_end rows = json_waits rows ++ codes "\n],\n\"holds\":["
 
--- The same, from the begin of the object on.
+-- The same, from the beginning of the object on.
 unfoldable pub json_waits_to_holds : List LongWait → List ℕ
 json_waits_to_holds rows = codes "{\n\"waits\":[" ++ json_waits_to_end rows
 

@@ -9,7 +9,7 @@ use std::sync::Wait;
 use std::sync::ledger::Ledger;
 use std::time::Clock;
 
-/// Where the next piece goes on, and how many kinds are to be looked at still.
+/// The kind after which the next piece goes on, and how many kinds are to be looked at still.
 #[derive(Drop)]
 pub(crate) struct Kinds {
     after: Option<(Atom, usize)>,

@@ -91,7 +91,7 @@ impl ListRange {
         Ok(Some(NO_NAME_HERE))
     }
 
-    // Takes in from where on it is asked. Returns what is wrong with that, if anything is.
+    // Takes in the first number that is asked for. Returns what is wrong with it, if anything is.
     fn set_from(&mut self, value: &str) -> Option<&'static str> {
         if self.is_of_tuples {
             return set(&mut self.from, number_within(value, 0, u64::MAX), NO_ID);

@@ -61,7 +61,7 @@ fn widened(next: Option<u32>) -> Option<u64>
     }
 }
 
-// From where the next page goes on, and the begin of a list.
+// The number from which the next page goes on, and the beginning of a list.
 #[tactic(auto, unfolding(crate::specs::Listed::json_begun))]
 fn push_begin(out: &mut Vec<u8>, next: Option<u64>, list: &[u8]) -> Result<(), AllocError>
     ensures { OnOk result (IsPushed out.old out.new (json_begun next list.now)) }
@@ -70,7 +70,7 @@ fn push_begin(out: &mut Vec<u8>, next: Option<u64>, list: &[u8]) -> Result<(), A
     out.extend_from_slice(list)
 }
 
-// From where the next page goes on.
+// The number from which the next page goes on.
 #[tactic(auto, unfolding(crate::specs::Listed::json_next))]
 fn push_next(out: &mut Vec<u8>, next: Option<u64>) -> Result<(), AllocError>
     ensures { OnOk result (IsPushed out.old out.new (json_next next)) }

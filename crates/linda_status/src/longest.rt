@@ -84,7 +84,7 @@ fn push_waits_to_holds(
     push_waits_to_end(alloc, out, rows)
 }
 
-// Each request that waits, and the begin of the list of those that are held.
+// Each request that waits, and the beginning of the list of those that are held.
 #[tactic(auto, unfolding(crate::specs::Longest::json_waits_to_end))]
 fn push_waits_to_end(alloc: Global, out: &mut Vec<u8>, rows: &[LongWait]) -> Result<(), AllocError>
     ensures { OnOk result (IsPushed out.old out.new (json_waits_to_end rows.now)) }

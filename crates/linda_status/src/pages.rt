@@ -46,7 +46,7 @@ enum PageKind {
 /// The pages of a server.
 #[derive(Clone, Copy)]
 pub struct Pages<'a> {
-    /// Where memory for a page comes from.
+    /// The allocator of pages.
     pub alloc: Global,
     /// What stays the same of the server.
     pub about: About<'a>,

@@ -80,7 +80,7 @@ fn named_kinds<D: Disk, L: Ledger, R: Wait + Clock>(
     Ok(None)
 }
 
-// Puts those of these texts behind the rows.
+// Puts those of these texts after the rows.
 fn keep_named(
     rows: &mut Vec<ListedKind>,
     more: Vec<ListedKind>,
@@ -95,7 +95,7 @@ fn keep_named(
     Ok(())
 }
 
-// Puts the row behind the others if its tag is one of these texts.
+// Puts the row after the others if its tag is one of these texts.
 fn keep_if_named(
     rows: &mut Vec<ListedKind>,
     row: ListedKind,

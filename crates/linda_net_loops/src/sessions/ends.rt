@@ -108,7 +108,7 @@ impl<S: Socket, L: Ledger> Sessions<S, L> {
         }
     }
 
-    /// All connections are closed, whatever is still to be written to them.
+    /// All connections are closed, even if something is still to be written to them.
     pub(crate) fn fail_all(&mut self) {
         for key in 0..self.connections.capacity() {
             if let Some(connection) = self.connections.get_mut(key) {

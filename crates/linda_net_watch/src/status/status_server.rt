@@ -12,7 +12,7 @@ use std::sync::ledger::Ledger;
 use std::sync::{Mutex, Wait};
 use std::time::Clock;
 
-/// Where it is asked how the server does, and who has the pages.
+/// The HTTP server at which the status is asked for, and who has the pages.
 #[derive(Drop)]
 pub struct StatusServer<A: StatusPages> {
     server: HttpServer,

@@ -107,7 +107,7 @@ fn begins_as(front: &[u8], bytes: &[u8]) -> bool
     front == &bytes[..bytes.len().min(FRONT)]
 }
 
-// The file, opened for reading; None if it is missing.
+// The file, opened for reading; `None` if it is missing.
 fn open_bank<F: Files<File = File>>(files: &F, path: &str) -> Result<Option<File>, ServingFault> {
     match File::open(files, path) {
         Ok(file) => Ok(Some(file)),

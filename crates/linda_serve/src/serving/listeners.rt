@@ -1,4 +1,4 @@
-//! Listeners of a server: on its port and on its unix socket, and the line that says where.
+//! Listeners of a server: on its port and on its unix socket, and the line that names one of them.
 
 use super::address::{of_this_machine, ready_line, ready_line_at};
 use super::fault::ServingFault;

@@ -49,7 +49,7 @@ impl<'a, W: Write> Log<'a, W> {
         })
     }
 
-    /// It is looked once a minute whether these are still in a folder.
+    /// Once a minute the log looks whether these are still in a folder.
     pub(super) fn watch(&mut self, banks: WatchedBanks) {
         self.banks = Some(banks);
     }

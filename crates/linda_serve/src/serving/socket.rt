@@ -1,4 +1,4 @@
-//! A unix socket where a server listens: who may connect, and what was at its path before.
+//! A unix socket on which a server listens: who may connect, and what was at its path before.
 
 use super::fault::ServingFault;
 use mio::net::UnixStream;

@@ -12,10 +12,10 @@ use std::net::{Net, TcpListener, TcpStream};
 use std::os::unix::net::UnixListener;
 use std::time::{Clock, Instant};
 
-/// The mode of a unix socket where it is asked how a server does: only its owner may connect.
+/// The mode of the unix socket of a status: only its owner may connect.
 const STATUS_MODE: u32 = 0o600;
 
-/// Listens where it is asked how the server does, if it is.
+/// Listens at the place of the status, if there is one.
 ///
 /// # Errors
 ///
@@ -66,7 +66,7 @@ pub(super) fn own_file_of_status<F: Files>(
     }
 }
 
-/// What is said where it is asked how the server does, if it is.
+/// The status that is given over this listener, if there is one.
 pub(super) fn status_at<'a, S: Clock>(
     rt: &S,
     alloc: Global,

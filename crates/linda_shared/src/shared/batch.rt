@@ -21,13 +21,13 @@ use std::sync::ledger::Ledger;
 use std::sync::{Arc, Wait};
 
 impl<D: Disk, L: Ledger> Shared<D, L> {
-    /// Submits some messages, which are served in one group, one after the other. Gives for each
+    /// Submits some messages, which are served in one group, one after the other. Returns for each
     /// the receipt of its deed, if it made one. Their replies come out of the outlet.
     ///
     /// # Errors
     ///
-    /// `Down`: the server is down; `Receipt`: the seat was told of a deed that its message does not
-    /// ask for; `Memory`: nothing changed.
+    /// `Down`: the server is down; `Receipt`: a deed was reported to the seat that its message does
+    /// not ask for; `Memory`: nothing changed.
     pub fn submit_all<R: Wait>(
         &self,
         rt: &R,
@@ -37,13 +37,14 @@ impl<D: Disk, L: Ledger> Shared<D, L> {
         requires some { 0 < length messages.now }
         requires few { length messages.now ≤ MAX_BATCH }
         requires requests { All IsRequest messages.now }
-        // The seat was told of a deed for each receipt, and these join the ring, in order;
+        // For each receipt a deed was reported to the seat, and the receipts join the ring, in
+        // order;
         ensures seat { IfOk result (λ told. seat.new ≡ with_all seat.old told.items) }
         // there is an answer for each message, and a deed is one that its own message asks for.
         ensures deeds { IfOk result (λ told. AreToldOf seat.old.client messages.now told.items) }
         ensures each { IfOk result (λ told. vec_len told ≡ length messages.now) }
-        // Else the seat is as before, but for `Receipt`, and for `Down` where answers were lost:
-        // each deed of those has its receipt in the ring.
+        // Else the seat is as before, except after `Receipt`, and after `Down` if answers were
+        // lost: each deed of those has its receipt in the ring.
         ensures err { IfErr result (λ fault. IsLeftBy messages.now seat.old fault seat.new) }
     {
         let Ok(told) = Vec::with_capacity(self.alloc, messages.len()) else {
@@ -55,7 +56,7 @@ impl<D: Disk, L: Ledger> Shared<D, L> {
         self.hear_all(rt, &seat.mailbox, &mut seat.account, messages, leads, told)
     }
 
-    // Puts messages of the account into the queue. Says whether the session is to lead.
+    // Puts messages of the account into the queue. Returns whether the session is to lead.
     fn ask_all<R: Wait>(
         &self,
         rt: &R,

@@ -41,8 +41,8 @@ impl<D: Disk, L: Ledger> Shared<D, L> {
         greeted
     }
 
-    // Greets whoever comes. A mailbox for it is made first, and its place in the router: so the
-    // server is asked only where there is memory for them.
+    // Greets the client. A mailbox for it is made first, and its place in the router: so the server
+    // is asked only if there is memory for them.
     fn welcome<R: Wait>(
         &self,
         rt: &R,
@@ -79,7 +79,7 @@ impl<D: Disk, L: Ledger> Shared<D, L> {
     }
 }
 
-// The client of a Hello, where its seat is not out.
+// The client of a Hello, if it can have a seat now.
 fn newcomer<D: Disk, L: Ledger>(held: &Held<D, L>, message: &Message) -> Option<u32> {
     match message {
         Message::Hello { client, .. } => {
@@ -93,7 +93,7 @@ fn newcomer<D: Disk, L: Ledger>(held: &Held<D, L>, message: &Message) -> Option<
     }
 }
 
-// The client of a Hello; else no matter which, since nothing else is welcome.
+// The client of a Hello, and 0 of any other message, since nothing else is welcome.
 fn client_in(message: &Message) -> u32
     ensures { result ≡ spec.client_in message.now }
 {
@@ -103,7 +103,7 @@ fn client_in(message: &Message) -> u32
     }
 }
 
-// Asks the server; whoever gets a seat has this mailbox.
+// Asks the server; a client that gets a seat has this mailbox.
 fn admit<D: Disk, L: Ledger>(
     held: &mut Held<D, L>,
     alloc: Global,

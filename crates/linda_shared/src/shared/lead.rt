@@ -7,7 +7,7 @@ use std::sync::Wait;
 use std::sync::ledger::Ledger;
 
 impl<D: Disk, L: Ledger> Shared<D, L> {
-    // Waits for the answer of this place, and leads a group where it is the session's turn.
+    // Waits for the answer of this place, and leads a group if it is the session's turn.
     pub(super) fn answer<R: Wait>(
         &self,
         rt: &R,

@@ -13,7 +13,7 @@ use std::sync::Wait;
 use std::sync::ledger::Ledger;
 
 impl<D: Disk, L: Ledger> Shared<D, L> {
-    /// Tells the seat's outlet that no more is submitted.
+    /// Ends the seat's outlet, as no more is submitted.
     pub fn hang_up<R: Wait>(&self, rt: &R, seat: &mut Seat<L>)
         ensures { seat.new ≡ seat.old }
     {
@@ -21,7 +21,7 @@ impl<D: Disk, L: Ledger> Shared<D, L> {
     }
 
     /// The session ends: what its client asked is given up, and its seat is parked for its next
-    /// connection, whatever is answered. What its leaving sends to others is given out.
+    /// connection, even if the call fails. What its leaving sends to others is given out.
     ///
     /// # Errors
     ///
@@ -49,15 +49,15 @@ impl<D: Disk, L: Ledger> Shared<D, L> {
         answer
     }
 
-    /// Parks the given seats for good and reports, once all seats are back, what they were told,
-    /// where that is what was stored.
+    /// Parks the given seats for good and returns, once all seats are back, what was reported to
+    /// them, if that is what was stored.
     ///
     /// # Errors
     ///
-    /// `Down`, then `SeatMissing` where a seat is out, then `Receipt` where what a client was told
-    /// of that number differs from what was stored. The given seats stay parked.
+    /// `Down`, then `SeatMissing` if a seat is out, then `Receipt` if the receipt of that number
+    /// that was reported to a client differs from what was stored. The given seats stay parked.
     pub fn finish<R: Wait>(&self, rt: &R, seats: Vec<Seat<L>>) -> Result<Report, SharedFault>
-        // All that the given seats were told is counted.
+        // All deeds that were reported to the given seats are counted.
         ensures { IfOk result (λ r. deeds_told seats.items ≤ r.deeds) }
     {
         let mut guard = self.locked.lock(rt);
@@ -90,7 +90,7 @@ fn park_all<D: Disk, L: Ledger>(held: &mut Held<D, L>, seats: Vec<Seat<L>>) -> O
     told
 }
 
-// The sum, as far as it can be counted.
+// The sum, if it can be counted.
 fn with_more(told: Option<u64>, more: u64) -> Option<u64>
     ensures { IfSome result (λ sum. IfSome told (λ one. sum ≡ one + more) × IsSome told) }
 {

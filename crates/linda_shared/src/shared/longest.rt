@@ -1,4 +1,4 @@
-//! LongestWaitsAndHolds waits and holds of the server.
+//! Longest waits and holds of the server.
 
 use super::Shared;
 use linda_disk::Disk;

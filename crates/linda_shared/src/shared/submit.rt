@@ -21,28 +21,28 @@ use std::sync::ledger::Ledger;
 use std::sync::{Arc, Wait};
 
 impl<D: Disk, L: Ledger> Shared<D, L> {
-    /// Submits one message, which is served with all that wait beside it. Gives the receipt of its
-    /// deed, if it made one. Its replies come out of the outlet. A Hello is refused there, as its
-    /// client has a seat.
+    /// Submits one message, which is served with all that wait beside it. Returns the receipt of
+    /// its deed, if it made one. Its replies come out of the outlet. A Hello is refused there, as
+    /// its client has a seat.
     ///
     /// # Errors
     ///
-    /// `Down`: the server is down; `Receipt`: the seat was told of a deed that the message does not
-    /// ask for; `Memory`: nothing changed.
+    /// `Down`: the server is down; `Receipt`: a deed was reported to the seat that the message does
+    /// not ask for; `Memory`: nothing changed.
     pub fn submit<R: Wait>(
         &self,
         rt: &R,
         seat: &mut Seat<L>,
         message: &Message,
     ) -> Result<Option<Receipt>, SharedFault>
-        // There is a receipt exactly where the seat was told of one deed more, and it joins the
+        // There is a receipt exactly if one more deed was reported to the seat, and it joins the
         // ring after the others;
         ensures seat { IfOk result (λ r. seat.new ≡ with_told seat.old r) }
         ensures next { IfOk result (λ o. IfSome o (IsNext seat.old.client seat.old.ring)) }
         // its deed is one that the message asks for.
         ensures deed { IfOk result (IsToldOf seat.old.client message.now) }
-        // Else the seat is as before, but for `Receipt`, and for `Down` where the answer was lost:
-        // a deed of that has its receipt in the ring.
+        // Else the seat is as before, except after `Receipt`, and after `Down` if the answer was
+        // lost: its deed, if it has one, has its receipt in the ring.
         ensures err { IfErr result (λ fault. IsLeft message.now seat.old fault seat.new) }
     {
         if let Message::Hello { .. } = message {
@@ -70,7 +70,7 @@ impl<D: Disk, L: Ledger> Shared<D, L> {
         }
     }
 
-    // Puts a message of the account into the queue. Says whether the session is to lead.
+    // Puts a message of the account into the queue. Returns whether the session is to lead.
     fn ask<R: Wait>(
         &self,
         rt: &R,
@@ -101,7 +101,7 @@ impl<D: Disk, L: Ledger> Shared<D, L> {
     }
 }
 
-// What a client is told that greets once more.
+// The reply to a client that greets once more.
 fn second_hello() -> Reply
     ensures { result ≡ refused refusals.Busy }
 {

@@ -38,7 +38,7 @@ impl<L: Ledger> Promise<WorkerResult<L>> for SeatPromise<L> {
     ghost kept_by = { λ p r. HasWorked p.before.value r.seat };
 }
 
-/// A worker that was begun: its thread, or what came of it where no thread could be started.
+/// A worker that was begun: its thread, or what came of it if no thread could be started.
 #[derive(Drop)]
 pub(crate) struct RunningWorker<L: Ledger> {
     before: Moment<Seat<L>>,
@@ -60,8 +60,8 @@ impl<L: Ledger> RunningWorker<L> {
     }
 }
 
-/// Starts a thread for the worker, which has this number among all. Where none can be started the
-/// worker is told so by its number in `refused`, and gives its seat back at once.
+/// Starts a thread for the worker, which has this number among all. If none can be started, its
+/// number is written into `refused`: so the worker does nothing, and gives its seat back at once.
 pub(crate) fn begin<
     's,
     E,

@@ -18,13 +18,13 @@ use linda_store_state::State;
 use std::sync::ledger::Ledger;
 
 impl<L: Ledger> Accounts<L> {
-    /// Compares what the parked seats were told with what was stored: each of these receipts with
-    /// the one that its client was told by that number, if it still has that; then the last that
-    /// each client was told with what the book keeps for it.
+    /// Compares what was reported to the parked seats with what was stored. Each of these receipts
+    /// is compared with the one of that number that was reported to its client, if the client still
+    /// has it; then the last receipt of each client with what the book keeps for it.
     ///
     /// # Errors
     ///
-    /// `Receipt` alone: that one differs.
+    /// Only `Receipt`: the receipt that it names differs.
     pub fn compare(
         &self,
         state: &State<IndexBag>,
@@ -39,8 +39,8 @@ impl<L: Ledger> Accounts<L> {
         self.places.compare_last(state)
     }
 
-    // Compares each receipt with the one that its client was told by that number, if it still has
-    // that.
+    // Compares each receipt with the one of that number that was reported to its client, if the
+    // client still has it.
     fn compare_all(&self, receipts: &[SharedReceipt]) -> Result<(), SharedFault>
         ensures told { OnOk result (All (IsToldSo self.now.places) receipts.now) }
         ensures fault { IfErr result (NamesAnother self.now.places receipts.now) }
@@ -53,7 +53,7 @@ impl<L: Ledger> Accounts<L> {
         Ok(())
     }
 
-    // Whether its client was told it so, if it still has a receipt of that number.
+    // Whether its client has this receipt, if it still has one of that number.
     fn agrees(&self, receipt: &SharedReceipt) -> bool
         ensures agrees { result ≡ true → IsToldSo self.now.places receipt.now }
         ensures differs { result ≡ false → HasRival (ring_for self.now.places receipt.now)
@@ -69,7 +69,7 @@ impl<L: Ledger> Accounts<L> {
 }
 
 impl Places {
-    // Compares the last that each client was told with what the book keeps for it.
+    // Compares the last receipt that was reported to each client with what the book keeps for it.
     fn compare_last(&self, state: &State<IndexBag>) -> Result<(), SharedFault>
         requires { (c : ℕ) → IfSome (map.get self.now c) (IsPlaceOf c) }
         ensures kept { OnOk result ((c : ℕ)

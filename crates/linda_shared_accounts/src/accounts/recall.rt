@@ -15,7 +15,8 @@ use std::collections::BTreeMap;
 use std::sync::ledger::Ledger;
 
 impl<L: Ledger> Accounts<L> {
-    /// The ring that is parked for this client, if not for good, keeps its last receipt alone.
+    /// The ring that is parked for this client keeps only its last receipt, if it is not parked for
+    /// good.
     pub fn shorten(&mut self, client: u32)
         ensures total { self.new.total ≡ self.old.total }
         ensures at { map.get self.new.places client
@@ -30,7 +31,7 @@ impl<L: Ledger> Accounts<L> {
     ///
     /// # Errors
     ///
-    /// `AllocError` where memory runs out.
+    /// `AllocError` if memory runs out.
     pub fn numbers_out(
         &self,
         alloc: Global,

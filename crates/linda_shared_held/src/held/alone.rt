@@ -27,8 +27,8 @@ use std::slice;
 ///
 /// # Errors
 ///
-/// `Memory`: nothing changed. `Down`: the server is down, and nobody is told anything; what those
-/// before it sent stays.
+/// `Memory`: nothing changed. `Down`: the server is down, and nothing is reported; what the
+/// messages before the failed one sent stays posted.
 pub(super) fn serve_each<D: Disk>(
     server: &mut Durable<D>,
     receipts: &mut Vec<SharedReceipt>,
@@ -95,7 +95,7 @@ fn take_one<D: Disk>(
     }
 }
 
-// One where there is a receipt, else 0.
+// 1 if there is a receipt, else 0.
 fn weigh(receipt: &Option<SharedReceipt>) -> u64
     ensures { result ≡ length (receipts_in (receipt.now ∷ [])) }
 {
@@ -125,7 +125,7 @@ fn is_its_next(state: &State<IndexBag>, client: u32, message: &Message) -> bool
     comes_next(message, state.book.last(client))
 }
 
-// Tells the client that its message is refused. Where there is no memory for that, the server is
+// Posts to the client that its message is refused. If there is no memory for that, the server is
 // given up.
 fn turn_away<D: Disk>(
     server: &mut Durable<D>,

@@ -31,10 +31,10 @@ use std::alloc::Global;
 use std::sync::ledger::Ledger;
 
 impl<D: Disk, L: Ledger> Held<D, L> {
-    /// Whether the server is down. Here stands what is always so.
+    /// Whether the server is down. Its contract says what always holds.
     pub fn is_down(&self) -> bool
         ensures is { result ≡ self.now.server.down }
-        // Up: the receipts lead from the base to the state, on which the disks stand and in which
+        // Up: the receipts lead from the base to the state, which the disks represent and in which
         // nobody waits in vain.
         ensures replayed { result ≡ false
             → ∥ IsReplayed self.now.base.value self.now.receipts.items
@@ -138,8 +138,8 @@ impl<D: Disk, L: Ledger> Held<D, L> {
     ///
     /// # Errors
     ///
-    /// `Down` before all, and exactly where the server is down. `Full`, exactly where there is no
-    /// next bank for its state: nothing changed, but that one was tried.
+    /// `Down` before all, and exactly if the server is down. `Full`, exactly if there is no next
+    /// bank for its state: nothing changed, but that one was tried.
     pub fn snapshot(&mut self, alloc: Global) -> Result<(), SharedFault>
         ensures base { OnOk result ((self.new.base.value ≡ self.new.server.store.state)
             × (self.new.receipts.items ≡ [])) }
@@ -149,8 +149,8 @@ impl<D: Disk, L: Ledger> Held<D, L> {
         ensures same { (self.new.opening.value ≡ self.old.opening.value)
             × (self.new.count ≡ self.old.count)
             × (self.new.boxes ≡ self.old.boxes) × (self.new.server.limit ≡ self.old.server.limit) }
-        // In all as much was told as before, and each place is as before, but that it may keep its
-        // last receipt alone.
+        // As many deeds were reported in all as before, and each place is as before, or its ring
+        // keeps only its last receipt.
         ensures total { self.new.accounts.total ≡ self.old.accounts.total }
         ensures shortened { OnOk result
             (AreShortened self.old.accounts.places self.new.accounts.places) }

@@ -31,8 +31,8 @@ impl<D: Disk, L: Ledger> Held<D, L> {
         self.boxes.drain(alloc, client)
     }
 
-    /// What waits for some client, which is more than nothing; none where nothing waits for
-    /// anybody. Its outbox is empty then, and nothing else changes. Looks at those alone that
+    /// The replies that wait for some client, at least one; `None` if nothing waits for anybody.
+    /// Its outbox is empty then, and nothing else changes. Looks only at the outboxes that
     /// something was posted to.
     pub fn drain_next(&mut self, alloc: Global) -> Option<Sent>
         ensures next { HandsOutNext self.old.boxes result self.new.boxes }

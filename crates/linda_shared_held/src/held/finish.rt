@@ -10,29 +10,29 @@ use linda_disk::Disk;
 use linda_shared_accounts::{Account, Accounts, SharedFault};
 use std::sync::ledger::Ledger;
 
-/// What all seats were told.
+/// What was reported to all seats.
 #[derive(Clone, Copy, Debug, PartialEq, Eq)]
 pub struct Report {
-    /// Of how many deeds.
+    /// How many deeds.
     pub deeds: u64,
     /// How many ids were given.
     pub ids: u64,
 }
 
 impl<D: Disk, L: Ledger> Held<D, L> {
-    /// Parks the given seats for good and reports, once all seats are back, what they were told.
-    /// That is compared with what was stored: each receipt that the lock has with the one that its
-    /// client was told by that number, if it still has that, and the last that each client was told
-    /// with the reply that is kept for it.
+    /// Parks the given seats for good and returns, once all seats are back, what was reported to
+    /// them. That is compared with what was stored: each receipt under the lock with the one of
+    /// that number that was reported to its client, if the client still has it, and the last
+    /// receipt of each client with the reply that is kept for it.
     ///
     /// # Errors
     ///
-    /// `Down` exactly where the server is down, then `SeatMissing` exactly where a seat is out,
-    /// then `Receipt` where that one differs. The given seats stay parked.
+    /// `Down` exactly if the server is down, then `SeatMissing` exactly if a seat is out, then
+    /// `Receipt` if the receipt that it names differs. The given seats stay parked.
     pub fn finish(&mut self, given: Vec<Account<L>>) -> Result<Report, SharedFault>
         ensures reports { Reports self.old.server self.old.count self.old.receipts.items result
             self.new.accounts.places }
-        // Whatever it reports, the given seats are back for good.
+        // In every case the given seats are back for good.
         ensures parked { AreBack self.old.accounts given.items self.new.accounts }
         ensures same { (self.new.opening.value ≡ self.old.opening.value)
             × (self.new.base.value ≡ self.old.base.value)

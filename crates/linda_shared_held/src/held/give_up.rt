@@ -10,7 +10,7 @@ use std::sync::ledger::Ledger;
 
 impl<D: Disk, L: Ledger> Held<D, L> {
     /// The server counts as down from now on. It is for a caller that has no memory to pass on what
-    /// it was told, and so may not go on.
+    /// was reported to it, and so may not go on.
     pub fn give_up(&mut self)
         ensures down { self.new.server.down ≡ true }
         ensures store { self.new.server.store ≡ self.old.server.store }

@@ -35,20 +35,20 @@ impl<D: Disk, L: Ledger> Held<D, L> {
 
     /// Gives the client of a Hello its seat, with the number of its last request that is kept; or
     /// refuses it with a code and a detail. Nothing is posted. The server is asked first: a Hello
-    /// changes nothing there, so where there is no memory for the seat nothing has changed.
+    /// changes nothing there, so if there is no memory for the seat, nothing has changed.
     ///
     /// # Errors
     ///
-    /// `Down` before all, and exactly where the server is down: one that was down is as before.
+    /// `Down` before all, and exactly if the server is down: one that was down is as before.
     /// `Memory`: nothing changed.
     pub fn greet(&mut self, alloc: Global, message: &Message) -> Result<Admission<L>, SharedFault>
         ensures greeted { IfOk result (λ answer. IsGreeted self.old.server.store.state
             self.old.accounts.places message.now (admission_of answer)) }
-        // Whoever is welcome has its seat, which is out, and an outbox;
+        // A client that is welcome has its seat, which is out, and an outbox;
         ensures out { IfOk result (λ answer. IfOk (admission_of answer) (λ got.
             GoesOut self.old.accounts self.old.boxes got.0.client self.new.accounts
             self.new.boxes)) }
-        // where it gives no seat none is out but those of before, and what waits is as it was.
+        // if no seat is given, none is out but those of before, and what waits is as it was.
         ensures none { OnNoSeat result (NoneGoesOut self.old.accounts self.old.boxes
             self.new.accounts self.new.boxes) }
         ensures greets { Greets self.old.server result self.new.server }
@@ -123,7 +123,7 @@ fn admit<D: Disk, L: Ledger>(
     }
 }
 
-// The seat of a client goes out, and it has an outbox. Where there is no seat for it all is as
+// The seat of a client goes out, and it has an outbox. If there is no seat for it, all is as
 // before.
 fn seat<L: Ledger>(
     boxes: &mut Outboxes,
@@ -175,7 +175,7 @@ fn open(boxes: &mut Outboxes, alloc: Global, client: u32) -> bool
     }
 }
 
-// The client's outbox is shut again, where it had none before. What waits stays covered.
+// The client's outbox is shut again, if it had none before. What waits stays covered.
 fn take_back(boxes: &mut Outboxes, client: u32, had_one: bool)
     ensures kept { had_one ≡ true → waits_for boxes.new client ≡ waits_for boxes.old client }
     ensures shut { had_one ≡ false → waits_for boxes.new client ≡ None }

@@ -21,7 +21,7 @@ impl<D: Disk, L: Ledger> Held<D, L> {
     ///
     /// # Errors
     ///
-    /// `Down` exactly where the server is down: one that was down is as before.
+    /// `Down` exactly if the server is down: one that was down is as before.
     pub fn close(&mut self, alloc: Global, client: u32) -> Result<(), SharedFault>
         ensures closes { ClosesAndPosts self.old.server self.old.boxes client result
             self.new.server self.new.boxes }
@@ -63,16 +63,16 @@ impl<D: Disk, L: Ledger> Held<D, L> {
         put_back_for_good(&mut self.accounts, account);
     }
 
-    /// The session of a client ends: it is closed and, whatever that answers, its outbox is shut
-    /// and its seat comes back. No disk is touched.
+    /// The session of a client ends: it is closed and, even if that fails, its outbox is shut and
+    /// its seat comes back. No disk is touched.
     ///
     /// # Errors
     ///
-    /// `Down` exactly where the server is down: one that was down is as before.
+    /// `Down` exactly if the server is down: one that was down is as before.
     pub fn leave(&mut self, alloc: Global, account: Account<L>) -> Result<(), SharedFault>
         ensures departs { Departs self.old.server self.old.boxes account.client result
             self.new.server self.new.boxes }
-        // Whatever it reports, its seat is back.
+        // In every case its seat is back.
         ensures back { ComesToPark self.old.recall self.old.accounts account self.new.accounts }
         ensures taken { IsTaken self.old.recall account.client self.new.recall }
         ensures same { (self.new.opening.value ≡ self.old.opening.value)
@@ -113,7 +113,8 @@ fn depart<D: Disk, L: Ledger>(
     answer
 }
 
-/// The account comes back to its client's place for good. In all as much was told as before.
+/// The account comes back to its client's place for good. As many deeds were reported in all as
+/// before.
 pub(super) fn put_back_for_good<L: Ledger>(accounts: &mut Accounts<L>, account: Account<L>)
     ensures back { IsBack accounts.old account accounts.new }
     ensures total { accounts.new.total ≡ accounts.old.total }

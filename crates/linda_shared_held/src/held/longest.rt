@@ -1,4 +1,4 @@
-//! LongestWaitsAndHolds waits and holds under the lock.
+//! Longest waits and holds under the lock.
 
 ghost use Rattle.std.specs.Prelude.{IfOk};
 ghost use Rattle.linda_shared_listing.specs.Longest.{IsLongest};

@@ -12,8 +12,8 @@ use linda_disk::Disk;
 use std::sync::ledger::Ledger;
 
 impl<D: Disk, L: Ledger> Held<D, L> {
-    /// What the server comes to now, for whoever tells its operator. Nothing changes, and no memory
-    /// is taken.
+    /// The numbers of the server now, for a caller that reports them to its operator. Nothing
+    /// changes, and no memory is taken.
     pub fn gauge(&self) -> Gauge
         ensures state { (result.tuples ≡ map.len self.now.server.store.state.bag)
             × (result.clients ≡ map.len self.now.server.store.state.book)

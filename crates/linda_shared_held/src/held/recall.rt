@@ -52,8 +52,8 @@ impl Recall {
         }
     }
 
-    // The client's seat comes back with so many receipts. Where there is no memory to remember it,
-    // its ring is cut when it comes back the next time.
+    // The client's seat comes back with so many receipts. If there is no memory to remember it, its
+    // ring is cut when it comes back the next time.
     fn note(&mut self, client: u32, receipts: usize)
         ensures { floors_of self.new ≡ floors_of self.old }
     {
@@ -63,8 +63,9 @@ impl Recall {
     }
 }
 
-/// The account comes back to its place, for its client's next session, without what is older than
-/// the base but for its last receipt. In all as much was told as before.
+/// The account comes back to its place, for its client's next session. Of the receipts that are
+/// older than the base it keeps none, unless it is the last one. As many deeds were reported in all
+/// as before.
 pub(super) fn put_back<L: Ledger>(
     accounts: &mut Accounts<L>,
     recall: &mut Recall,
@@ -81,7 +82,7 @@ pub(super) fn put_back<L: Ledger>(
     accounts.park(account, false);
 }
 
-/// The base is this state now: no receipt is younger. Where there is no memory for the numbers that
+/// The base is this state now: no receipt is younger. If there is no memory for the numbers that
 /// are kept, seats that are out come back with what they have.
 pub(super) fn begin_anew<L: Ledger>(
     accounts: &mut Accounts<L>,
@@ -141,7 +142,7 @@ fn note_number(
     Ok(())
 }
 
-// The rings of these clients keep their last receipts alone.
+// The rings of these clients keep only their last receipts.
 fn shorten_all<L: Ledger>(accounts: &mut Accounts<L>, clients: &mut BTreeSet<u32>)
     ensures total { accounts.new.total ≡ accounts.old.total }
     ensures shortened { AreShortened accounts.old.places accounts.new.places }

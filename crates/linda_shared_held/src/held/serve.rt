@@ -14,12 +14,12 @@ use linda_shared_outbox::Outboxes;
 use linda_wire::Message;
 use std::alloc::{AllocError, Global};
 
-/// Serves the messages, keeps the receipts of their deeds, and gives what each is told and what is
-/// sent.
+/// Serves the messages, keeps the receipts of their deeds, and posts what is sent. Returns for each
+/// message the receipt of its deed, if it made one.
 ///
 /// # Errors
 ///
-/// `Full`, `Memory`: nothing changed. `Down`: the server is down, and nobody is told anything.
+/// `Full`, `Memory`: nothing changed. `Down`: the server is down, and nothing is reported.
 pub(super) fn serve<D: Disk>(
     server: &mut Durable<D>,
     receipts: &mut Vec<SharedReceipt>,
@@ -88,7 +88,7 @@ pub(super) fn fault_of(fault: ServeFault) -> SharedFault
     }
 }
 
-// Keeps those that are there, in the memory that they have. Where one cannot be kept, none is.
+// Keeps those that are there, in the memory that they have. If one cannot be kept, none is.
 fn keep_all(
     receipts: &mut Vec<SharedReceipt>,
     told: &[Option<SharedReceipt>],

@@ -9,7 +9,7 @@ ghost use Rattle.linda_shared_accounts.specs.Effect.{weight, told_of};
 use linda_shared_accounts::{Accounts, Ack, Effect, PendingAck, SharedFault, SharedReceipt};
 use std::sync::ledger::Ledger;
 
-// Tells one, and counts.
+// Reports what one message led to, and counts its deed.
 fn settle<A: Drop, L: Ledger>(
     accounts: &mut Accounts<L>,
     count: &mut u64,
@@ -27,7 +27,7 @@ fn settle<A: Drop, L: Ledger>(
     asked.answered(accounts, told)
 }
 
-/// Tells each what it led to, and counts.
+/// Reports what each message led to, and counts the deeds.
 #[tactic(auto, using(crate::proofs::ToldLaws::receipts_snoc, crate::proofs::ToldLaws::map_back, crate::proofs::ToldLaws::behind))]
 pub(super) fn settle_all<A: Drop, L: Ledger>(
     accounts: &mut Accounts<L>,
@@ -46,7 +46,7 @@ pub(super) fn settle_all<A: Drop, L: Ledger>(
     ensures asked { (vec_len asked.new ≡ 0) × (vec_capacity asked.new ≡ vec_capacity asked.old) }
     ensures answered { (vec_len answered.new ≡ vec_len answered.old + vec_len asked.old)
         × (vec_capacity answered.new ≡ vec_capacity answered.old) }
-    // Each place is told what the answer of that place says, the last one first.
+    // What is reported of each message is what its answer says, that of the last one first.
     ensures told { map (λ a. a.told) answered.new.items
         ≡ map (λ a. a.told) answered.old.items ++ reverse (map told_of told.old.items) }
     ensures addresses { map (λ a. a.address) answered.new.items
@@ -61,7 +61,7 @@ pub(super) fn settle_all<A: Drop, L: Ledger>(
     }
 }
 
-/// Tells each that nothing was done.
+/// Reports of each message that nothing was done.
 #[tactic(auto, using(crate::proofs::ToldLaws::map_back, crate::proofs::ToldLaws::behind))]
 pub(super) fn fail_all<A: Drop, L: Ledger>(
     accounts: &mut Accounts<L>,

@@ -52,7 +52,7 @@ impl<D: Disk, L: Ledger> Held<D, L> {
     ///
     /// # Errors
     ///
-    /// `Down` before all, and exactly where the server is down.
+    /// `Down` before all, and exactly if the server is down.
     pub fn continue_snapshot(&mut self, alloc: Global, most: usize) -> Result<Progress, SharedFault>
         ensures takes { TakesStep self.old.server result self.new.server }
         ensures never_full { IsErrOf result SharedFault.Full → ⊥ }

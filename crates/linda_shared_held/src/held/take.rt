@@ -16,14 +16,14 @@ use linda_shared_outbox::Outboxes;
 use linda_wire::Message;
 use std::alloc::Global;
 
-/// Takes the messages: all in one step of the server, or one by one where it is full or the count
-/// of deeds could pass its last value. Where it has no room for all of them, it has none for one of
-/// them at least, once those before it were taken: that asks for a snapshot.
+/// Takes the messages: all in one step of the server, or one by one if it is full or the count of
+/// deeds could pass its last value. If it has no room for all of them, it has none for at least one
+/// of them, once those before it were taken: that asks for a snapshot.
 ///
 /// # Errors
 ///
-/// `Down` before all, and exactly where the server is down: nobody is told anything, and one that
-/// was down is as before. `Memory`: nothing changed, but that a snapshot may be asked for.
+/// `Down` before all, and exactly if the server is down: nothing is reported, and one that was down
+/// is as before. `Memory`: nothing changed, but that a snapshot may be asked for.
 pub(super) fn take<D: Disk>(
     server: &mut Durable<D>,
     receipts: &mut Vec<SharedReceipt>,

@@ -1,4 +1,4 @@
--- From where the next page goes on is written, and then the tuples.
+-- The id from which the next page goes on is written, and then the tuples.
 use Rattle.std.proofs.Common.{◌≡◌, ◌++◌, codes, subst, OnOk}
 use Rattle.linda_status.specs.Listed.{json_tuple_page, json_begun, json_rows_to_end}
 use Rattle.linda_status.proofs.ListedLaws.{then_pushed}

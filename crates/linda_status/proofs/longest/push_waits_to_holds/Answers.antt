@@ -1,4 +1,4 @@
--- The begin of the object is written, and then the waits.
+-- The beginning of the object is written, and then the waits.
 use Rattle.std.proofs.Common.{codes}
 use Rattle.linda_status.specs.Longest.{json_waits_to_end, json_waits_to_holds}
 use Rattle.linda_status.proofs.ListedLaws.{then_pushed}

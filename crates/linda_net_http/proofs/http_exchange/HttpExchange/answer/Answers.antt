@@ -1,4 +1,4 @@
--- What is put behind what waited is the answer to what was sent.
+-- What is put after what waited is the answer to what was sent.
 use Rattle.std.proofs.Common.{◌≡◌, ◌++◌, refl, subst}
 use Rattle.std.specs.String.{string_bytes}
 use Rattle.linda_net_http.specs.Response.{IsReply}

@@ -1,4 +1,4 @@
--- Where nothing was asked, nothing changed; else the client is the same.
+-- If nothing was asked, nothing changed; else the client is the same.
 use Rattle.std.proofs.Common.{rules, ◌≡◌, refl, sym, ap, ◌∙◌}
 use Rattle.linda_shared_accounts.specs.Account.{Account}
 use Rattle.linda_shared.proofs.SeatLaws.{nothing_left}

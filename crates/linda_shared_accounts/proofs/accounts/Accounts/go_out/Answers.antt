@@ -1,4 +1,4 @@
--- A client with no place gets one whose seat is out; nothing was told to it before.
+-- A client with no place gets one whose seat is out; no deed was reported to it before.
 use Rattle.std.proofs.Common.{◌≡◌, ◌+◌, ◌-◌, ℕ, None, refl, sym, subst, rules}
 use Rattle.std.specs.FinMap as map
 use Rattle.linda_shared_accounts.specs.Tokens.{Tokens}

@@ -1,4 +1,4 @@
--- Each message is taken after those before it; where one takes the server down, their receipts are told to nobody.
+-- Each message is taken after those before it; if one takes the server down, their receipts are reported to nobody.
 use Rattle.std.proofs.Common.{◌≡◌, ℕ, ◌+◌, List, [], ◌∷◌, ◌++◌, Option, length, take, suc, vec_len, refl, sym, ap, ◌∙◌, subst, length-append, arith, rules, inl}
 use Rattle.std.proofs.Math.Seq.{take-length, take-suc, take-append_seam}
 use Rattle.linda_wire.specs.declared.message.Message.{Message}

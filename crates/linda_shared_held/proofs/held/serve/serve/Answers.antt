@@ -1,4 +1,4 @@
--- What was served is told, kept and posted; or nobody is told.
+-- What was served is reported, kept and posted; or nothing is reported.
 use Rattle.std.proofs.Common.{◌≡◌, ◌++◌, ℕ, List, length, refl, ap, ◌∙◌, subst, arith}
 use Rattle.linda_wire.specs.declared.reply.Reply.{Reply}
 use Rattle.linda_shared_outbox.specs.Waiting.{HasPlaces}

@@ -1,4 +1,4 @@
--- The client that was listed last stands in the list no more, and nothing waits for it.
+-- The client that was listed last is in the list no more, and nothing waits for it.
 use Rattle.std.proofs.Common.{◌≡◌, ◌++◌, ◌∷◌, [], sym, ap, ◌∙◌, nat_cmp}
 use Rattle.std.specs.BTreeMap as tree
 use Rattle.slab.specs.Slab as slab
