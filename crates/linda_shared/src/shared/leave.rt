@@ -77,7 +77,7 @@ fn counting(report: Report, told: Option<u64>) -> Result<Report, SharedFault>
     }
 }
 
-// Parks the seats for good. Reports of how many deeds they were told in all, as far as that can be
+// Parks the seats for good. Returns how many deeds were reported to them in all, if that can be
 // counted.
 fn park_all<D: Disk, L: Ledger>(held: &mut Held<D, L>, seats: Vec<Seat<L>>) -> Option<u64>
     ensures { IfSome result (λ told. told ≡ deeds_told seats.items) }
