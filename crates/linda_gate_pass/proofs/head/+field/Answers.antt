@@ -4,11 +4,11 @@ use Rattle.linda_gate_pass.specs.Head.{field}
 use Rattle.linda_gate_pass.proofs.HeadLaws.{field_none, field_later}
 use Rattle.linda_gate_pass.proofs.head.+field.Goals as goal
 
--- src/head.rt:160:9
+-- Of no fields none is found.
 pub returns-then-count-eq0 : goal.returns-then-count-eq0
 returns-then-count-eq0 t c = sym (field_none c.args.count c.args.wanted c.args.bytes.now (search (rules, c.if-count-eq0.true)))
 
--- src/head.rt:155:1
+-- If the first field is of another kind, the one that is wanted is among the fields after it.
 pub returns : goal.returns
 returns t c =
     let later = field_later c.args.count c.args.wanted c.args.bytes.now (search (rules, c.if-count-eq0.false))

@@ -1,7 +1,7 @@
 use Rattle.std.proofs.Common.{rules, arith}
 use Rattle.linda_gate_pass.proofs.head.read_head.Goals as goal
 
--- src/head.rt:61:1
+-- The parts of a whole head that names the numbers of a client.
 pub returns-in-Some-numbers_of : goal.returns-in-Some-numbers_of
 returns-in-Some-numbers_of c = record {
   client = search rules;

@@ -1,7 +1,7 @@
 use Rattle.linda_gate_pass.proofs.PassLaws.{one_more, reads_more}
 use Rattle.linda_gate_pass.proofs.pass.read_whole.Goals as goal
 
--- src/pass.rt:126:5
+-- One more message was read, and it may pass.
 pub loop-message-preserved-in_ok-let_through-in-Ok-Some :
     goal.loop-message-preserved-in_ok-let_through-in-Ok-Some
 loop-message-preserved-in_ok-let_through-in-Ok-Some c =
@@ -12,7 +12,6 @@ loop-message-preserved-in_ok-let_through-in-Ok-Some c =
       rw let_by.passed (one_more _ _ _ before.1 let_by.may),
     )
 
--- src/pass.rt:126:5
 pub loop-message-preserved-in_ok-let_through-in-Ok-Some-2 :
     goal.loop-message-preserved-in_ok-let_through-in-Ok-Some-2
 loop-message-preserved-in_ok-let_through-in-Ok-Some-2 c =
@@ -23,7 +22,6 @@ loop-message-preserved-in_ok-let_through-in-Ok-Some-2 c =
       rw let_by.passed (one_more _ _ _ before.1 let_by.may),
     )
 
--- src/pass.rt:126:5
 pub loop-message-preserved : goal.loop-message-preserved
 loop-message-preserved c =
     let let_by = c.in_ok-let_through-in-Ok-Some.ensures in

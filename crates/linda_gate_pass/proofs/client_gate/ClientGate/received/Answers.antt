@@ -7,7 +7,7 @@ use Rattle.linda_gate_pass.specs.Passing as passing
 use Rattle.linda_gate_pass.proofs.HeadLaws.{later_front}
 use Rattle.linda_gate_pass.proofs.client_gate.ClientGate.received.Goals as goal
 
--- src/gate.rt:74:13
+-- After the head, what came begins with the head and the frames of the messages that passed.
 pub returns-in-Some-clause-front : goal.returns-in-Some-clause-front
 returns-in-Some-clause-front c = λ up.
     let i = c.self.inside in

@@ -7,7 +7,7 @@ use Rattle.linda_gate_pass.specs.Passing as passing
 use Rattle.linda_gate_pass.proofs.HeadLaws.{begin_came, begin_front}
 use Rattle.linda_gate_pass.proofs.client_gate.ClientGate.start_passing.Goals as goal
 
--- src/gate.rt:85:5
+-- What came is the head, and then what the pass has read.
 pub returns-clause-ok : goal.returns-clause-ok
 returns-clause-ok c =
     let i = c.self.inside in
