@@ -60,7 +60,7 @@ impl Streams {
     }
 }
 
-// A file for reading that gives nothing, with the least free descriptor; none if as many files as
+// A file for reading that gives nothing, with the least free descriptor; `None` if as many files as
 // may be are open.
 fn open_nothing<F: Files<File = File>>(files: &F) -> io::Result<Option<File>> {
     match File::open(files, NOTHING) {

@@ -26,7 +26,7 @@ trailed k h x = refl
 
 -- ---- all words
 
--- the rows of the flag, where the walk from here has ended
+-- the rows of the flag, once the walk from here has ended
 abbrev mine_after : Walk → List Text → List Row
 mine_after w xs = mine (settled checks (fold (walked checks []) w xs).held).rows
 

@@ -104,7 +104,7 @@ own_put s vs (r ∷ rs) e = go (bytes_eq r.id again_name) refl (own_put s vs rs)
 again_used : (b : Bool) (rows : List Row) → mine rows ≡ marks b → mine (used again [] rows) ≡ marks true
 again_used b rows e = own_put CommandLine (codes "true" ∷ []) (without again_name rows) (own_dropped b rows e)
 
--- ---- where the walk stands
+-- ---- the state of the walk
 
 -- what waits for values is one of the other two
 abbrev pub IsOther : Text → Type 0
@@ -233,7 +233,7 @@ short_is c = go (help_letter == c) refl
     go true t = inr (rw t refl)
     go false t = inl (rw t refl)
 
--- what the characters of a bundle come to, whatever rows are held before them
+-- what the characters of a bundle come to, for all rows that may be held before them
 abbrev Bundles : Bool → ℕ → Type 0
 Bundles b n = (flags : Text) (so_far : Outcome) (rows : List Row) (pending : Option (Text × List Text)) → NoWait so_far → Holds b rows pending
     → Met b (bundle_met checks n flags 0 so_far (held rows pending))
@@ -267,7 +267,7 @@ by_short b k rows pending x (Some flags) h w =
     after_place b (held rows pending) k x (bundle_met checks (length flags) flags 0 plain (held rows pending)).0
     (bundle_met checks (length flags) flags 0 plain (held rows pending)).1 met.0 met.1 w
 
--- the walk behind a long option, by the argument that it names
+-- the walk after a long option, by the argument that it names
 abbrev long_walk : Waiting → Held → Text → Option Text → Option Rule → Walk
 long_walk k h x v found = flag_walk h k x (long_met checks found v h).0 (long_met checks found v h).1
 

@@ -25,7 +25,7 @@ with_arg app rule old new arg h is own adds = record {
   local = adds.globals ∙ ap₂ either h.local own;
 }
 
--- the same, where memory may run out
+-- the same, if memory may run out
 pub if_with_arg : {E : Type 0} (app : App) (rule : Rule) (old : Command) (result : Result Command E) (arg : Arg) → IsCommand app old → rule_of arg ≡ rule
     → arg.global ≡ false
     → IfOk result (AddsArg old arg) → IfOk result (IsCommand (with_rule app rule))
@@ -37,13 +37,13 @@ pub with_below : {E : Type 0} (app below : App) (old sub : Command) (result : Re
 with_below app below old sub result h s adds =
     IfOk-weaker result _ _ (λ new a. a.shape s.local ∙ ap₂ with_subcommand h (ap (λ (a : App). a.top) s.is)) adds
 
--- The program's command is one whose faults the parser names by the words alone.
+-- The program's command is one for which the parser's faults depend only on the words.
 pub linda_is_simple : (app : App) → app ≡ linda → is_simple_and_free app ≡ true
 linda_is_simple app is = ap is_simple_and_free is ∙ all_simple where
   all_simple : is_simple_and_free linda ≡ true
   all_simple = refl
 
--- so where it parsed the words they have no fault, and where it did not its fault is theirs
+-- so if it parsed the words, they have no fault, and if it did not, its fault is theirs
 pub none_by_words : (app : App) (words : List (List ℕ)) → app ≡ linda → (is_simple_and_free app ≡ true → fault_of app words ≡ []) → fault_of linda words ≡ []
 none_by_words app words is parsed = ap (λ a. fault_of a words) (sym is) ∙ parsed (linda_is_simple app is)
 
@@ -51,7 +51,7 @@ pub fault_by_words : (app : App) (words : List (List ℕ)) (error : Error) → a
     → HasKind (fault_of linda words) error
 fault_by_words app words error is failed = subst (λ a. HasKind (fault_of a words) error) is (failed (linda_is_simple app is))
 
--- and where it parsed them the rows below the command are theirs
+-- and if it parsed them, the rows below the command are theirs
 pub rows_by_words : (app : App) (words : List (List ℕ)) (m : ArgMatches) → app ≡ linda → HasMatchesOf app words m
     → subcommand_rows_of m ≡ subcommand_of linda words
 rows_by_words app words m is parsed = (parsed (ap is_simple is ∙ all_simple)).1 ∙ ap (λ a. subcommand_of a words) is where

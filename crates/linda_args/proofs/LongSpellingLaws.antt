@@ -17,7 +17,7 @@ one_more n = omega arith
 one_later : (n : ℕ) → suc n + 1 ≡ suc (n + 1)
 one_later n = omega arith
 
--- how many bytes stand before the `=`
+-- how many bytes come before the `=`
 abbrev front : Text → ℕ
 front = position_or_len (λ x. x == equals_sign)
 

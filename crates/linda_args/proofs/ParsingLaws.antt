@@ -74,7 +74,7 @@ name_passes w rest is =
     let turn : turn_fault top names (walk_from nothing_held) w ≡ [] = rw (is.met, is.no_help) refl in
     past _ _ turn ∙ ap (λ (v : Walk). walk_fault top names v rest) (met_walk w is) ∙ stopped_fault top names (walk_from nothing_held) (w, []) rest
 
--- what is returned above a command, where the walk to it ended so
+-- what is returned above a command, if the walk to it ended so
 abbrev top_fault : Walk → Kinds
 top_fault w =
     or_else (entered_fault (built linda) w.stopped) (or_else (settle_fault top.rules top.args_override_self w.held)

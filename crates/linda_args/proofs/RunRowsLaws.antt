@@ -109,7 +109,7 @@ finishes rows (inr h) = subst has_more (sym (own_default rows)) (inr (mark_stays
 asking_trace_refused : (rows : List Row) → settle_fault checks false (asking_trace rows) ≡ [] → ⊥
 asking_trace_refused rows e = let bad : kind.InvalidValue ∷ [] ≡ [] = e in cc
 
--- whatever words come: if a trace or the flag was found, one is found at the end
+-- for all words that follow: if a trace or the flag was found, one is found at the end
 pub record Kept (xs : List Text) : Type 0 where
   pub idly : (rows : List Row) (pending : Option (Text × List Text)) → has_more (settled checks (held rows pending)).rows
       → from (at idle (held rows pending)) xs ≡ [] → has_more (ending (at idle (held rows pending)) xs)

@@ -49,7 +49,7 @@ trace_name = codes "trace"
 abbrev pub explain_name : Text
 explain_name = codes "explain"
 
--- ---- where the walk stands
+-- ---- the state of the walk
 
 abbrev pub held : List Row → Option (Text × List Text) → Held
 held rows pending = record { rows = rows; pending = pending; skip = 0 }
@@ -106,9 +106,10 @@ unfolding clap_on_literals
 trailing k h [] e = (refl, e)
 trailing k h (x ∷ xs) e = let bad : kind.UnknownArgument ∷ [] ≡ [] = e in cc
 
--- ---- what a word comes to, where no fault comes of it
+-- ---- what a word comes to, if it has no fault
 
--- `--`; the option alone; the option with a number; the option of the trace, alone or with its file; the flag; a word that is no option
+-- `--`; the option without a value; the option with a number; the option of the trace, without a value or with its file; the flag; a word that is no
+-- option
 pub data Goes (k : Waiting) (rows : List Row) (pending : Option (Text × List Text)) (x : Text) : Walk → Type 0 where
   ends : x ≡ codes "--" → Goes k rows pending x (trail k (held rows pending))
   asks : long_of x ≡ Some (the_name, None) → settle_fault checks false (held rows pending) ≡ []
@@ -190,7 +191,7 @@ by_long k rows pending x name o is e = go (one_or_other long_names name)
     go (inl (inr (inr (inr (inr h))))) = absurd h
     go (inr h) = let bad : kind.UnknownArgument ∷ [] ≡ [] = rw (h.0, h.1.0, h.1.1.0, h.1.1.1.0) at e in cc
 
--- flags are refused, but where they have no character
+-- flags are refused, unless they have no character
 char_turn : (k : Waiting) (rows : List Row) (pending : Option (Text × List Text)) (x flags : Text) (n : ℕ) (o : Option ℕ) → slice_get (chars flags) 0 ≡ o
     → turn_of k (held rows pending) x None ≡ []
     → short_of x ≡ Some flags → length flags ≡ suc n
@@ -262,7 +263,7 @@ pub nothing_refused : end_fault (held [] None) ≡ [] → ⊥
 unfolding clap_on_literals
 nothing_refused e = let bad : kind.MissingRequiredArgument ∷ [] ≡ [] = e in cc
 
--- where what is held may not be used as it is, only a word that is no option passes
+-- if what is held may not be used as it is, only a word that is no option passes
 abbrev pub plain_next : Waiting → List Row → Option (Text × List Text) → Text → Walk
 plain_next k rows pending x =
     after_step checks x (at k (held rows pending)) (plain_word checks k x (held rows pending)).0 (plain_word checks k x (held rows pending)).1

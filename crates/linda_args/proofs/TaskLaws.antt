@@ -268,7 +268,7 @@ has_servers words (tasks.Inspect dir lists json explain) asks = tt
 
 -- ---- faults
 
--- only a fault of memory is returned where no other may come
+-- if no other fault may come, only a fault of memory is returned
 pub memory_alone : (kinds : Kinds) (e : Error) → kinds ≡ [] → HasKind kinds e → kind_of e ≡ kind.OutOfMemory
 memory_alone kinds e none has = elim (subst (λ ks. HasKind ks e) none has) [ inl h ↦ h | inr h ↦ absurd h ]
 

@@ -33,8 +33,8 @@ abbrev pub AsksForPipe : List (List ℕ) → Type 0
 AsksForPipe words = (name : List ℕ)
     × ((words ≡ name ∷ codes "pipe" ∷ []) ⊎ (words ≡ name ∷ codes "pipe" ∷ codes "--" ∷ []))
 
--- The text is a number of servers in decimal digits. As the parser reads every whole number, a plus
--- may stand before them, and zeros.
+-- The text is a number of servers in decimal digits. The parser reads every whole number, so a plus
+-- sign may come before them, and zeros.
 pub record Spells (text : List ℕ) (n : ℕ) : Type 0 where
   pub numeral : IsNumeral 10 (without_leading_plus text)
   pub value : n ≡ digits_value 10 (without_leading_plus text)
@@ -58,7 +58,7 @@ pub record AsksForRun (words : List (List ℕ)) (n : ℕ) : Type 0 where
   pub is_end : IsEnd end
   pub spells : Spells number n
 
--- The words are a program's name and `run`, and the number is such as may stand after it.
+-- The words are a program's name and `run`, and the number is in its range.
 pub record AsksForRunWith (words : List (List ℕ)) (n : ℕ) : Type 0 where
   pub after : IsAfter (codes "run") words
   pub some : 1 ≤ n
@@ -77,8 +77,8 @@ has_flag flag [] = false
 has_flag flag (word ∷ words) =
     not (bytes_eq word (codes "--")) && (bytes_eq word flag || has_flag flag words)
 
--- The words are a program's name and `call`, the numbers are such as may stand after it, `again`
--- says whether `--again` is one of the words after it, and client and flags are as the options say.
+-- The words are a program's name and `call`, the numbers are in their ranges, `again` says whether
+-- `--again` is one of the words after it, and client and flags are as the options say.
 pub record AsksForCall (words : List (List ℕ)) (client : ℕ) (ports : List ℕ)
     (again together explain : Bool) : Type 0 where
   pub after : IsAfter (codes "call") words
@@ -87,13 +87,13 @@ pub record AsksForCall (words : List (List ℕ)) (client : ℕ) (ports : List �
   pub is_again : again ≡ has_flag (codes "--again") after.later
   pub options : IsCallBy (options_in words) client again together explain
 
--- The words are a program's name and `call`, and the number is such as may stand after it.
+-- The words are a program's name and `call`, and the number is in its range.
 pub record AsksForCallAt (words : List (List ℕ)) (client : ℕ) : Type 0 where
   pub after : IsAfter (codes "call") words
   pub is_client : client < 2 ^ 32
 
--- The words are a program's name and `serve`, and the numbers are such as may stand after it: with
--- a port, or a socket, or both.
+-- The words are a program's name and `serve`, and the numbers are in their ranges: with a port, or
+-- a socket, or both.
 pub record AsksForServe (words : List (List ℕ)) (plan : ServePlan) : Type 0 where
   pub after : IsAfter (codes "serve") words
   pub is_port : IfSome plan.port (λ p. p < 2 ^ 16)

@@ -5,11 +5,11 @@ use Rattle.std.specs.Prelude.{ℕ}
 abbrev pub hyphen : ℕ
 hyphen = 45
 
--- `=`, after which the value of a long option may stand
+-- `=`, after which the value of a long option may come
 abbrev pub equals_sign : ℕ
 equals_sign = 61
 
--- `+`, which may stand before the digits of a number
+-- `+`, which may come before the digits of a number
 abbrev pub plus_sign : ℕ
 plus_sign = 43
 

@@ -131,7 +131,7 @@ pub record IsInspectBy (o : Options) (dir : List ℕ) (tuples clients json expla
   pub is_json : IsFlag (o.one (codes "json")) json
   pub is_explain : IsMark (o.source (codes "explain")) explain
 
--- A call, but for where its servers listen: the client and each flag as the options say.
+-- A call, without the places of its servers: the client and each flag as the options say.
 pub record IsCallBy (o : Options) (client : ℕ) (again together explain : Bool) : Type 0 where
   pub is_client : IsNumber 32 (o.one (codes "client")) (Some client)
   pub is_again : IsFlag (o.one (codes "again")) again

@@ -16,7 +16,7 @@ option_rule name = record (new_rule name) {
   action = Some Set;
 }
 
--- an option of this name, which may be there, and stands alone
+-- an option of this name, which is not required and takes no value
 abbrev pub flag_rule : List ℕ → Rule
 flag_rule name = record (new_rule name) {
   long = Some name;

@@ -61,7 +61,7 @@ pub enum Task {
         explain: bool,
     },
     /// Lines of a client from standard input, over servers that listen on ports of this machine;
-    /// `again` where it goes on as a client that was used before.
+    /// `again` if it goes on as a client that was used before.
     Call {
         client: u32,
         ports: Ports,
@@ -195,8 +195,9 @@ fn task_by<'a>(alloc: Global, linda: &mut Command<'a>, words: &'a [String]) -> R
     }
 }
 
-// Whether it asks for what cannot be kept: each connection has two threads, and clients that hold
-// a tuple and say nothing are to be ended; or tuples are to be counted where nobody can ask.
+// Whether it asks for what cannot be done: that silent clients which hold a tuple are ended
+// although each connection has two threads; or that tuples are counted although no status is
+// served.
 fn is_unkept(task: &Task) -> bool
     ensures asked { (words : List (List ℕ)) → AsksExactlyFor words task.now → result ≡ false }
     ensures value { result ≡ spec.is_unkept task.now }
@@ -258,7 +259,7 @@ fn task_of(alloc: Global, matches: &ArgMatches) -> Result<Option<Task>, AllocErr
     }
 }
 
-// What the parser found that the words ask for, where that is neither the pipe nor a run.
+// What the parser found that the words ask for, if that is neither the pipe nor a run.
 fn other_of(alloc: Global, matches: &ArgMatches) -> Result<Option<Task>, AllocError>
     ensures exact { (words : List (List ℕ)) (task : Task) → AsksExactlyFor words task
         → subcommand_rows_of matches.now ≡ subcommand_of rules.linda words

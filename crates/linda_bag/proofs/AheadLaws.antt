@@ -1,5 +1,4 @@
--- A search through keys in their order, lowest first: what is known of those that are left, and what follows where one is
--- found and where all are passed.
+-- A search through keys in ascending order: what is known of the keys that are left, and what follows if one is found and if all are passed.
 use Rattle.std.proofs.Common.{◌≡◌, ℕ, ◌≤◌, ◌<◌, ◌⊎◌, inl, inr, arith, Bool, true, false, not, cond, ◌||◌, ◌&&◌, List}
 use Rattle.std.proofs.Common.{[], ◌∷◌, filter, refl, sym, ap, subst, ◌∙◌, nat_cmp, Less, true≢false}
 use Rattle.std.specs.Ordering.{is_eq, is_le}
@@ -40,7 +39,7 @@ module _ (Wanted : ℕ → Type 0) (left : List ℕ) (k : ℕ) (rest : List ℕ)
   known : IsAhead Wanted (k ∷ rest)
   known = subst (IsAhead Wanted) starts ahead
 
-  -- One key fewer is left where it is not wanted.
+  -- If the first key is not wanted, only the others are left.
   pub fewer_ahead : (Wanted k → ⊥) → IsAhead Wanted rest
   fewer_ahead unwanted = record {
     sorted = sorted_tail nat_cmp k rest known.sorted;
@@ -55,7 +54,7 @@ module _ (Wanted : ℕ → Type 0) (left : List ℕ) (k : ℕ) (rest : List ℕ)
         | inr later ↦ let above = key_above k q rest (sorted_head nat_cmp k rest known.sorted) later in omega arith
       ]
 
--- Where nothing is left no key is wanted.
+-- If nothing is left, no key is wanted.
 pub none_ahead : (Wanted : ℕ → Type 0) (left : List ℕ) → IsAhead Wanted left → left ≡ [] → (k : ℕ) → Wanted k → ⊥
 none_ahead Wanted left ahead ended k wanted = (subst (IsAhead Wanted) ended ahead).each k wanted
 

@@ -11,7 +11,7 @@ pub no_such : {T : Type 0} (o : Option T) → is_some o ≡ false → o ≡ None
 no_such None e = refl
 no_such (Some row) e = absurd (true≢false e)
 
--- Of indexes under keys, where each row has a key.
+-- Of indexes under keys, if each row has a key.
 module _ {K S T : Type 0} (cmp : K → K → Ordering) (itself : (k : K) → is_eq (cmp k k) ≡ true) (Has : S → Rows T → Type 0) where
   none_under : (m : BTreeMap K S) → length m.entries ≡ 0 → (q : K) → tree.get cmp m q ≡ None
   none_under m none q = lookup_none m.entries none

@@ -1,4 +1,4 @@
--- What a right column has, and that it stays right where it goes on and where the bag changes.
+-- What a right column has, and that it stays right when it is continued and when the bag changes.
 use Rattle.std.proofs.Common.{◌≡◌, ℕ, zero, suc, ◌+◌, ◌≤◌, ◌<◌, ◌⊎◌, inl, inr, Bool, true, false, cond, ◌&&◌, List, []}
 use Rattle.std.proofs.Common.{◌∷◌, length, Option, None, Some, is_some, IfSome, IfNone, unwrap_or, refl, sym, ap, subst}
 use Rattle.std.proofs.Common.{◌∙◌, nat_cmp, true≢false, arith, slice_get, All}
@@ -35,7 +35,7 @@ use Rattle.linda_bag.proofs.HintLaws.{exact_atoms, stay_begun}
 some_same : {A : Type 0} {x y : A} → Some x ≡ Some y → x ≡ y
 some_same {x = x} e = ap (λ o. unwrap_or o x) e
 
--- A value that stands among the patterns stands at the same place among what they fit.
+-- A value that is among the patterns is at the same position among the atoms that they fit.
 value_there : (ps : List Pattern) (xs : List Atom) (at : ℕ) (v : Atom) → AllZip Fits ps xs
     → slice_get ps at ≡ Some (patterns.Value v) → slice_get xs at ≡ Some v
 value_there [] xs at v fit is = absurd (true≢false (sym (ap is_some is)))
@@ -176,7 +176,7 @@ without_gone bag next old new id v kind position upto has gone refiled is = reco
       ];
 }
 
--- Right columns stay right where tuples go, and come from the next id on.
+-- Right columns stay right if tuples are removed, and if tuples are added from the next id on.
 pub stay_column : (bag new : Bagged) (next later : ℕ) (column : Column) → next ≤ later
     → ((k : ℕ) (row : Tuple) → map.get new k ≡ Some row → (next ≤ k) ⊎ (map.get bag k ≡ Some row)) → IsColumn bag next column → IsColumn new later column
 stay_column bag new next later column grows kept is =
@@ -210,7 +210,7 @@ pub stay_columns : (bag new : Bagged) (next later : ℕ) (columns : Columns) →
 stay_columns bag new next later columns grows kept are =
     All-weaker (IsColumn bag next) (IsColumn new later) (λ c is. stay_column bag new next later c grows kept is) _ are
 
--- Right hints and columns stay right where tuples come from the next id on alone, and none below is free that was not.
+-- Right hints and columns stay right if tuples are added only from the next id on and no tuple below it becomes free.
 pub stay_right : (bag new : Bagged) (passed after : ℕ → Bool) (next later : ℕ) (hints : SearchHints) → next ≤ later
     → ((k : ℕ) (row : Tuple) → map.get new k ≡ Some row → (next ≤ k) ⊎ (map.get bag k ≡ Some row))
     → ((k : ℕ) (row : Tuple) → map.get new k ≡ Some row → after k ≡ false → (next ≤ k) ⊎ ((map.get bag k ≡ Some row) × (passed k ≡ false)))

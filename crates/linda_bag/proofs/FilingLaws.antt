@@ -1,4 +1,4 @@
--- What becomes of indexes under keys where one of them changes, or two.
+-- What becomes of indexes under keys if one of them changes, or two.
 use Rattle.std.proofs.Common.{◌≡◌, ℕ, true, false, cond, Option, Some, None, refl, sym, ap, subst, ◌∙◌, nat_cmp, true≢false}
 use Rattle.std.specs.declared.cmp.Ordering.{Ordering}
 use Rattle.std.specs.declared.cmp.Ordering.TheVariants.{Less, Equal, Greater}
@@ -76,7 +76,7 @@ module _ {K : Type 0} {cmp : K → K → Ordering} (order : IsTotalOrder cmp) wh
       ] refl
 
 module _ {S T : Type 0} (Has : S → Rows T → Type 0) where
-  -- Where rows have this under the id already, an index has them with it written again.
+  -- If rows already have this under the id, an index of them is also an index of the rows with it written again.
   again : (id_index : Option S) (rows : Rows T) (id : ℕ) (row : Option T) → rows id ≡ row
       → IsIndexed Has id_index rows → IsIndexed Has id_index (with_row rows id row)
   again id_index rows id row there = subst (IsIndexed Has id_index) (sym (same_rows rows id row there))
@@ -129,7 +129,7 @@ module _ {S T : Type 0} (Has : S → Rows T → Type 0) where
   no_id_index cmp m id = same_found cmp (get cmp m) id
 
 module _ {K S T : Type 0} {cmp : K → K → Ordering} (order : IsTotalOrder cmp) {Has : S → Rows T → Type 0} where
-  -- The index that changed stands under each key that the order ties to its own.
+  -- The index that changed is under each key that the order ties to its own.
   pub one_id_index : {old new : BTreeMap K S} {k : K} {id : ℕ} {b a : Option T} → RefilesAt cmp Has old new k id b a
       → RefilesUnder cmp Has (get cmp old) (get cmp new) k id b a
   one_id_index {old} {new} {k} {id} {b} {a} change = record {
@@ -208,7 +208,7 @@ module _ {K S T : Type 0} {cmp : K → K → Ordering} (order : IsTotalOrder cmp
             ] refl
       ] refl
 
--- Where each row has the key that `key_of` gives it, the rows change as their places do.
+-- If each row has the key that `key_of` gives it, the rows change as their places do.
 module _ {K S T : Type 0} (cmp : K → K → Ordering) (Has : S → Rows T → Type 0) (key_of : T
     → Option K) (old new : K → Option S) (id : ℕ) (before after : Option T) where
   abbrev at : K → Option T → Option T
@@ -227,7 +227,7 @@ module _ {K S T : Type 0} (cmp : K → K → Ordering) (Has : S → Rows T → T
             | false ↦ refl
           ]
 
-  -- So they do where another name of their places is given.
+  -- The same if their places are given by other names.
   pub refound_as : (b a : Option (K × T)) → b ≡ placed key_of before → a ≡ placed key_of after
       → RefilesFound cmp Has old new id b a → Refiles (IsFound cmp Has key_of old) (IsFound cmp Has key_of new) id before after
   refound_as b a was is change =

@@ -29,7 +29,7 @@ pub no_other : {R : Type 0} (first_of : R → Option Atom) (asked : R) (int : �
     → Some int ≡ placed (int_of first_of) (Some asked) → None ≡ placed (other_of first_of) (Some asked)
 no_other first_of asked = no_other_in (first_of asked) asked
 
--- Where nothing is found, no row has a key, and the other way round.
+-- If nothing is found, no row has a key, and the other way round.
 module _ {K S T : Type 0} (cmp : K → K → Ordering) (itself : (k : K) → is_eq (cmp k k) ≡ true) (Has : S → Rows T
     → Type 0) (key_of : T → Option K) (id_index_at : K → Option S) (rows : Rows T) (filed : IsFound cmp Has key_of id_index_at rows) where
   none_placed : ((q : K) → id_index_at q ≡ None) → (id : ℕ) → placed key_of (rows id) ≡ None
@@ -90,7 +90,7 @@ neither first_of (Some asked) none = by (first_of asked) none
     by None none = (refl, refl)
     by (Some v) none = absurd (true≢false (ap is_some none))
 
--- Where there are no keys, no row begins with a value.
+-- There are no keys exactly if no row begins with a value.
 pub first_fields_bare : {R : Type 0} (first_of : R → Option Atom) (first_fields : FirstFieldIndex) (asked : Rows R)
     → HasFirstFields first_of first_fields asked
     → (((q : ℤ) → ids_at first_fields.ints q ≡ None) × (length first_fields.others.entries ≡ 0)) ↔ IsBare (keyed_of first_of asked)
@@ -123,7 +123,7 @@ unfiled {R} first_of first_fields asked id new none has = (
           | false ↦ refl
         ]
 
--- A truth value that stands first is no integer.
+-- A truth value in the first place is no integer.
 pub bool_first : {R : Type 0} (first_of : R → Option Atom) (b : Bool) (o : Option R)
     → row_at atom_ord.ghosts.cmp (atoms.Bool b) (placed (other_of first_of) o) ≡ row_at atom_ord.ghosts.cmp (atoms.Bool b) (placed first_of o)
 bool_first first_of b None = refl
@@ -149,7 +149,7 @@ text_first first_of t (Some asked) = by (first_of asked)
     by (Some (atoms.Text u)) = refl
     by (Some (atoms.Bool b)) = refl
 
--- An integer that stands first is found as itself.
+-- An integer in the first place is found as itself.
 pub int_first : {R : Type 0} (first_of : R → Option Atom) (n : ℤ) (o : Option R)
     → row_at int_cmp n (placed (int_of first_of) o) ≡ row_at atom_ord.ghosts.cmp (atoms.Int n) (placed first_of o)
 int_first first_of n None = refl

@@ -75,7 +75,7 @@ candidate_there shape rows id row match there =
     (length shape.fields) tagged refl (subst (λ n. is_eq (nat_cmp (length row.fields) n) ≡ true) long (number_itself (length row.fields))) in
     first_there shape.fields (with_head tag_of count_of shape.tag (length shape.fields) rows) id row row.fields refl is.fields counted
 
--- So where there is no candidate there is no match.
+-- So if there is no candidate, there is no match.
 pub no_candidate : (shape : Template) (rows : Rows Tuple) (id : ℕ) (row : Tuple) → IsBare (candidates shape rows) → Matches shape row → rows id ≡ Some row → ⊥
 no_candidate shape rows id row bare match there = true≢false (ap is_some (sym (candidate_there shape rows id row match there) ∙ bare id))
 

@@ -1,4 +1,4 @@
--- What becomes of right hints where one of them changes, where a tuple is held or free again, and where the bag changes.
+-- What becomes of right hints if one of them changes, if a tuple is held or free again, and if the bag changes.
 use Rattle.std.proofs.Common.{◌≡◌, ℕ, ◌≤◌, ◌<◌, ◌⊎◌, inl, inr, Bool, true, false, cond, Option, None, Some, is_some}
 use Rattle.std.proofs.Common.{IfSome, IfNone, unwrap_or, refl, sym, ap, subst, ◌∙◌, true≢false, arith}
 use Rattle.std.specs.Bool.{Decides}
@@ -23,7 +23,7 @@ use Rattle.linda_bag.specs.SearchHints.{Bagged, Covers, IsRight, AreBegun, Begin
 use Rattle.linda_bag.proofs.FilingLaws.{tied}
 use Rattle.linda_bag.proofs.OrderLaws.{atom_itself}
 
--- Templates are equal where the test says so.
+-- Templates are equal exactly if the test says so.
 template_decides : (a b : Template) → Decides (same_template a b) (a ≡ b)
 template_decides a b =
     Decides-like (same_template a b) (λ both i. record { tag = both.0 i; fields = both.1 i })
@@ -66,7 +66,7 @@ IfNone_any (Some x) p = tt
 some_same : {A : Type 0} {x y : A} → Some x ≡ Some y → x ≡ y
 some_same {x = x} e = ap (λ o. unwrap_or o x) e
 
--- One hint was set: what holds of it, and of the others that stood there, holds of all.
+-- One hint was set: what holds of it, and of the others that were there, holds of all.
 module _ (P : Atom → Hint → Type 0) (old new : tree.BTreeMap Atom Hint) (k : Atom) (hint : Hint) (updates : (q : Atom)
     → start_at new q ≡ cond (is_eq (atom_ord.ghosts.cmp k q)) (Some hint) (start_at old q)) where
   pub all_set : ((q : Atom) → k ≡ q → P q hint) → ((q : Atom) (s : Hint) → is_eq (atom_ord.ghosts.cmp k q) ≡ false → start_at old q ≡ Some s → P q s)
@@ -83,7 +83,7 @@ IsKept bag passed next q hint = (hint.template.tag ≡ q) × IsRight bag passed 
 -- A hint was lent and written again.
 module _ (old new : TagHints) (k : Atom) (hint after : Hint) (there : Some hint ≡ start_at old.by_tag k) (updates : (q : Atom)
     → start_at new.by_tag q ≡ cond (is_eq (atom_ord.ghosts.cmp k q)) (Some after) (start_at old.by_tag q)) (same : after.template ≡ hint.template) where
-  -- its search begins further on, where no free match is before
+  -- its search begins further on, if no free match is before
   pub moved_on : (template : Template) (from : ℕ) → hint.template ≡ template → ((next : ℕ) → from ≤ next → hint.from ≤ next → after.from ≤ next)
       → ((j : ℕ) → from ≤ j → Covers hint j → Covers after j) → Begins template from old new
   moved_on template from is below covers bag passed next low none rights =
@@ -203,7 +203,7 @@ begun old new k hint template from updates tag same is bag passed next low none 
 pub none_right : (m : TagHints) → ((q : Atom) → start_at m.by_tag q ≡ None) → (bag : Bagged) (passed : ℕ → Bool) (next : ℕ) → AreBegun bag passed next m
 none_right m none bag passed next q s there = absurd (true≢false (ap is_some (sym there ∙ none q)))
 
--- Right hints stay right where tuples come from the next id on alone, and none below is free that was not.
+-- Right hints stay right if tuples are added only from the next id on and no tuple below it becomes free.
 pub stay_begun : (bag new : Bagged) (passed after : ℕ → Bool) (next later : ℕ) (hints : TagHints) → next ≤ later
     → ((k : ℕ) (row : Tuple) → map.get new k ≡ Some row → after k ≡ false → (next ≤ k) ⊎ ((map.get bag k ≡ Some row) × (passed k ≡ false)))
     → AreBegun bag passed next hints → AreBegun new after later hints

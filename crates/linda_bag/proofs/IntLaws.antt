@@ -155,7 +155,7 @@ module _ {T : Type 0} where
       bare : Refiles (IsIndexed IsOf (Some s)) IsBare id b None
       bare rows there known q = by (is_eq (nat_cmp id q)) (rows q) (sym (known.0 q) ∙ alone q ∙ (eq_by_cmp_equiv nat_cmp_total).symm q id)
 
-  -- Where there is no set, the id was filed by nothing.
+  -- If there is no set, the id was not filed.
   pub not_there : (sets : Sets) (code id : ℕ) (row : T) (a : Option T) → get sets code ≡ None
       → RefilesUnder nat_cmp IsOf (get sets) (get sets) code id (Some row) a
   not_there sets code id row a none = record {

@@ -45,7 +45,7 @@ either_way (Err e) p p' q q' done kept = kept q q'
 told : (k q : ℕ) → (q == k) ≡ is_eq (nat_cmp k q)
 told k q = unsigned_ties q k ∙ sym ((eq_by_cmp_equiv nat_cmp_total).symm k q)
 
--- The rows of a map, where one was set or taken out.
+-- The rows of a map after one was set or taken out.
 module _ {T : Type 0} (old new : FinMap nat_cmp T) (id : ℕ) where
   pub rows_set : (row : T) → new ≡ insert old id row → (q : ℕ) → get new q ≡ cond (is_eq (nat_cmp id q)) (Some row) (get old q)
   rows_set row is q = ap (λ m. get m q) is ∙ get_inserted old id row q ∙ ap (λ b. cond b (Some row) (get old q)) (told id q)

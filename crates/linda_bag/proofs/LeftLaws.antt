@@ -1,5 +1,5 @@
--- A search through the entries of a map, lowest key first: what is known of the entries that are left, and what follows
--- where one is found and where all are passed.
+-- A search through the entries of a map in ascending order of keys: what is known of the entries that are left, and what follows if one is found and
+-- if all are passed.
 use Rattle.std.proofs.Common.{◌≡◌, ℕ, suc, ◌<◌, ◌↔◌, inl, inr, arith, ◌==◌, Bool, true, false, cond, List, [], ◌∷◌, All}
 use Rattle.std.proofs.Common.{Option, Some, IsSome, IsTrue, refl, sym, ap, subst, ◌∙◌, nat_cmp, BTreeMap, true≢false}
 use Rattle.std.specs.Ordering.{eq_by_cmp}
@@ -53,7 +53,7 @@ module _ {X : Type 0} (m : FinMap nat_cmp X) (Wanted : ℕ → Type 0) (left : L
     pub first_stored : get m e.0 ≡ Some e.1
     first_stored = known.stored 0 e (omega arith)
 
-    -- One entry fewer is left where its key is not wanted.
+    -- If the key of the first entry is not wanted, only the others are left.
     pub fewer_left : (Wanted e.0 → ⊥) → IsLeft m Wanted rest
     fewer_left unwanted = record {
       ahead = fewer_ahead Wanted (keys_of left) e.0 (keys_of rest) is_left.ahead (ap keys_of starts) unwanted;
@@ -64,7 +64,7 @@ module _ {X : Type 0} (m : FinMap nat_cmp X) (Wanted : ℕ → Type 0) (left : L
     pub none_below : (k : ℕ) → k < e.0 → Wanted k → ⊥
     none_below = none_before Wanted (keys_of left) e.0 (keys_of rest) is_left.ahead (ap keys_of starts)
 
-  -- Where nothing is left no key is wanted.
+  -- If nothing is left, no key is wanted.
   pub none_wanted : IsLeft m Wanted left → left ≡ [] → (k : ℕ) → Wanted k → ⊥
   none_wanted is_left ended = none_ahead Wanted (keys_of left) is_left.ahead (ap keys_of ended)
 

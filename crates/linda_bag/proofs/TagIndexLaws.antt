@@ -1,4 +1,4 @@
--- What stands under a head, and what does not, as the two maps of heads say.
+-- What is under a head, and what is not, as the two maps of heads say.
 use Rattle.std.proofs.Common.{◌≡◌, ◌<◌, inl, inr, ℕ, Option, Some, None, sym, ap, subst, ◌∙◌, nat_cmp}
 use Rattle.std.specs.Prelude.{⊤}
 use Rattle.std.specs.declared.cmp.Ordering.TheVariants.{Less}
@@ -38,7 +38,7 @@ module _ {T : Type 0} (tag_of : T → Atom) (count_of : T → ℕ) {S : Type 0} 
         → IsIndexed Has (Some id_index) (with_head tag_of count_of tag count rows)
     at_head count id_index there = subst (λ s. IsIndexed Has s (with_head tag_of count_of tag count rows)) there (known.0 count)
 
-    -- Where there is a tag, there is a row of it.
+    -- If there is a tag, there is a row of it.
     pub some_count : ((count : ℕ) → tree.get nat_cmp counts.groups count ≡ None) → ⊥
     some_count none = known.1 (λ id. own_key nat_cmp number_itself Has count_of (tagged id) (λ q. no_count q (none q) id))
 

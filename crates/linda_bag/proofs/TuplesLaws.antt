@@ -1,4 +1,4 @@
--- A look-up among tuples that stand behind boxes gives what stands behind the box.
+-- A look-up among boxed tuples returns what is in the box.
 use Rattle.std.proofs.Common.{◌≡◌, ℕ, suc, ◌==◌, ◌&&◌, Bool, true, false, cond, T, List, [], ◌∷◌, Option, Some, None}
 use Rattle.std.proofs.Common.{IsSome, is_some, Box, length, refl, sym, ap, subst, ◌∙◌, nat_cmp, is_lt}
 use Rattle.std.specs.declared.alloc.Global.{Global}
@@ -13,11 +13,11 @@ use Rattle.linda_tuple.specs.Tuple.{Tuple}
 use Rattle.linda_bag.specs.TuplesById.{unboxed}
 use Rattle.linda_map_laws.proofs.MapLaws.{same_map, get_inserted, get_removed, get_empty}
 
--- what stands behind the box
+-- what is in the box
 abbrev pub behind : Option (Box Tuple Global) → Option Tuple
 behind o = option_map (λ b. b.value) o
 
--- the map of what stands behind the boxes
+-- the map of what is in the boxes
 abbrev pub all_behind : FinMap nat_cmp (Box Tuple Global) → FinMap nat_cmp Tuple
 all_behind m = from_entries (unboxed (entries m))
 
@@ -49,11 +49,11 @@ updated old new k q w is =
     pushed true = refl
     pushed false = refl
 
--- Where one box is put, the map has what is in it.
+-- If one box is put, the map has what is in it.
 pub put_behind : (m : FinMap nat_cmp (Box Tuple Global)) (k : ℕ) (b : Box Tuple Global) → all_behind (insert m k b) ≡ insert (all_behind m) k b.value
 put_behind m k b = same_map _ _ (λ q. updated m (insert m k b) k q (Some b) (get_inserted m k b q) ∙ sym (get_inserted (all_behind m) k b.value q))
 
--- Where one is taken out, the map has it removed.
+-- If one is taken out, the map has it removed.
 pub gone_behind : (m : FinMap nat_cmp (Box Tuple Global)) (k : ℕ) → all_behind (remove m k) ≡ remove (all_behind m) k
 gone_behind m k = same_map _ _ (λ q. updated m (remove m k) k q None (get_removed m k q) ∙ sym (get_removed (all_behind m) k q))
 
@@ -76,7 +76,7 @@ len_behind m =
     let same : all_behind m ≡ from_sorted es = same_map _ _ (λ q. get-from_entries nat_cmp_total es q ∙ sym (get-from_sorted nat_cmp es q sorted)) in
     ap len same ∙ len-entries _ ∙ ap length (entries-from_sorted nat_cmp es sorted) ∙ same_length (entries m) ∙ sym (len-entries m)
 
--- What a map of tuples has is what stands behind the boxes.
+-- What a map of tuples has is what is in the boxes.
 module _ (m : FinMap nat_cmp (Box Tuple Global)) (t : FinMap nat_cmp Tuple) (same : all_behind m ≡ t) (k : ℕ) where
   pub seen_behind : behind (get m k) ≡ get t k
   seen_behind = sym (get_behind m k) ∙ ap (λ x. get x k) same

@@ -33,13 +33,13 @@ first_value (patterns.TextFormal ∷ rest) = None
 first_value (patterns.BoolFormal ∷ rest) = None
 first_value (patterns.Any ∷ rest) = None
 
--- those of the rows whose first field is the value, where there is one
+-- those of the rows whose first field is the value, if there is a value; else all rows
 abbrev pub with_first : Option Atom → Rows Tuple → Rows Tuple
 with_first None rows = rows
 with_first (Some v) rows = rows_at atom_ord.ghosts.cmp first_of v rows
 
--- those of the rows that have the template's tag and as many fields as it has patterns and, where
--- the first pattern is a value, that value first
+-- those of the rows that have the template's tag, as many fields as it has patterns and, if the
+-- first pattern is a value, that value first
 abbrev pub candidates : Template → Rows Tuple → Rows Tuple
 candidates template rows =
     with_first (first_value template.fields)

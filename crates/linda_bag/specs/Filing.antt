@@ -8,7 +8,7 @@ use Rattle.std.specs.Option.{option_map, is_some}
 use Rattle.std.specs.BTreeMap.{BTreeMap, get}
 use Rattle.std.specs.BTreeSet.{BTreeSet, contains}
 
--- The row under each id, where there is one.
+-- The row under each id, if there is one.
 abbrev pub Rows : Type 0 → Type 0
 Rows T = ℕ → Option T
 
@@ -35,14 +35,13 @@ module _ {T : Type 0} where
   Refiles Old New id before after =
       (rows : Rows T) → rows id ≡ before → Old rows → New (with_row rows id after)
 
-  -- The index has the rows, of which there is one at least; where there is no index, there is no
-  -- row.
+  -- The index has the rows, of which there is at least one; if there is no index, there is no row.
   abbrev pub IsIndexed : {S : Type 0} → (S → Rows T → Type 0) → Option S → Rows T → Type 0
   IsIndexed Has None rows = IsBare rows
   IsIndexed Has (Some id_index) rows = Has id_index rows × (IsBare rows → ⊥)
 
-  -- What was found is the index with a part of the rows that the index has; nothing, where that
-  -- part has none.
+  -- What was found is the index with a part of the rows that the index has; none if that part has
+  -- no rows.
   abbrev pub FindsIndex : {S : Type 0} → (Rows T → Type 0) → (S → Rows T → Type 0)
       → (Rows T → Rows T) → Option S
       → Type 0
@@ -55,7 +54,7 @@ module _ {K T : Type 0} where
   keyed None row = None
   keyed (Some key) row = Some (key, row)
 
-  -- where a row is filed that `key_of` gives a key
+  -- where a row is filed: its key by `key_of`, and the row; none if it has no key
   abbrev pub placed : (T → Option K) → Option T → Option (K × T)
   placed key_of None = None
   placed key_of (Some row) = keyed (key_of row) row
@@ -65,7 +64,7 @@ module _ {K T : Type 0} where
   place named = option_map (λ p. (p.0.now, p.1.now)) named
 
 module _ {K T : Type 0} (cmp : K → K → Ordering) where
-  -- the row, where it is filed under the key: each is filed under one key or under none
+  -- the row, if it is filed under the key: each is filed under one key or under none
   abbrev pub row_at : K → Option (K × T) → Option T
   row_at q None = None
   row_at q (Some place) = cond (is_eq (cmp place.0 q)) (Some place.1) None
@@ -103,12 +102,11 @@ module _ {K T : Type 0} (cmp : K → K → Ordering) where
           → Refiles (IsIndexed Has (old q)) (IsIndexed Has (new q)) id before after
       pub apart : (q : K) → is_eq (cmp key q) ≡ false → new q ≡ old q
 
-    -- Under each key stands an index with the rows of that key, where there are any.
+    -- Under each key is an index with the rows of that key, if there are any.
     abbrev pub IsFiledBy : BTreeMap K S → (K → Rows T) → Type 0
     IsFiledBy id_indexes parts = IsFoundBy (get cmp id_indexes) parts
 
-    -- Under each key stands an index with the rows to which `key_of` gives that key, where there
-    -- are any.
+    -- Under each key is an index with the rows to which `key_of` gives that key, if there are any.
     abbrev pub IsFiled : (T → Option K) → BTreeMap K S → Rows T → Type 0
     IsFiled key_of id_indexes rows = IsFound key_of (get cmp id_indexes) rows
 
@@ -118,7 +116,7 @@ module _ {K T : Type 0} (cmp : K → K → Ordering) where
         → Type 0
     RefilesBy old new id before after = RefilesFound (get cmp old) (get cmp new) id before after
 
-    -- One index changed: where it stands the id was filed by `before`, and is now by `after`; the
+    -- One index changed: under its key the id was filed by `before`, and is now by `after`; the
     -- others are as they were.
     pub record RefilesAt (old new : BTreeMap K S) (key : K) (id : ℕ) (before after : Option T)
         : Type 0 where

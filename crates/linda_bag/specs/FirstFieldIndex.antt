@@ -44,7 +44,7 @@ module _ {R : Type 0} (first_of : R → Option Atom) where
   abbrev pub keyed_of : Rows R → Rows R
   keyed_of rows q = keyed_in (rows q)
 
-  -- Under each such value stand the ids of the rows that begin with it.
+  -- Under each such value are the ids of the rows that begin with it.
   abbrev pub HasFirstFields : FirstFieldIndex → Rows R → Type 0
   HasFirstFields first_fields rows =
       IsFound int_cmp IsOf int_of (ids_at first_fields.ints) rows

@@ -33,7 +33,7 @@ abbrev pub HasPair : ℕ → ℕ → Many → Type 0
 HasPair one other both =
     (id : ℕ) → contains_key both id ≡ (is_eq (nat_cmp id one) || is_eq (nat_cmp id other))
 
--- whether the id is one of the set, where there is a set
+-- whether the id is one of the set, if there is a set
 abbrev pub has_any : Option Ids → ℕ → Bool
 has_any None id = false
 has_any (Some set) id = has_id set id

@@ -23,14 +23,14 @@ pub record IsRight (bag : Bagged) (passed : ℕ → Bool) (next : ℕ) (hint : H
   pub below : hint.from ≤ next
   pub each : (k : ℕ) → IsFreeMatch bag hint.template passed k → Covers hint k
 
--- Each hint is right, and stands under the tag of its template.
+-- Each hint is right, and is under the tag of its template.
 abbrev pub AreBegun : Bagged → (ℕ → Bool) → ℕ → TagHints → Type 0
 AreBegun bag passed next hints =
     (tag : Atom) (hint : Hint)
     → tree.get atom_ord.ghosts.cmp hints.by_tag tag ≡ Some hint
     → (hint.template.tag ≡ tag) × IsRight bag passed next hint
 
--- Where the template has no free match below the id, right hints stay right.
+-- If the template has no free match below the id, right hints stay right.
 abbrev pub Begins : Template → ℕ → TagHints → TagHints → Type 0
 Begins template from old new =
     (bag : Bagged) (passed : ℕ → Bool) (next : ℕ)

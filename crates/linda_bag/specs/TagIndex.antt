@@ -11,12 +11,12 @@ use Rattle.linda_bag.specs.declared.tag_index.Counts.{Counts}
 use Rattle.linda_bag.specs.Filing.{Rows, rows_at, IsFiled}
 
 module _ {T : Type 0} (count_of : T → ℕ) {S : Type 0} (Has : S → Rows T → Type 0) where
-  -- Under each number of fields stands an index with the rows of as many.
+  -- Under each number of fields is an index with the rows of as many.
   abbrev pub HasCounts : Counts S → Rows T → Type 0
   HasCounts counts rows = IsFiled nat_cmp Has (λ row. Some (count_of row)) counts.groups rows
 
 module _ {T : Type 0} (tag_of : T → Atom) (count_of : T → ℕ) where
-  -- Under each head stands an index with the rows that have it.
+  -- Under each head is an index with the rows that have it.
   abbrev pub HasTags : {S : Type 0} → (S → Rows T → Type 0) → TagIndex S → Rows T → Type 0
   HasTags Has tag_index rows =
       IsFiled atom_ord.ghosts.cmp (HasCounts count_of Has) (λ row. Some (tag_of row))

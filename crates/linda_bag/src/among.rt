@@ -16,7 +16,7 @@ use crate::tuples_by_id::TuplesById;
 use linda_rising::RisingMap;
 use linda_tuple::{Template, Tuple};
 
-/// Where tuples are found by their ids.
+/// A source in which tuples are found by their ids.
 pub(crate) trait TupleLookup {
     // the tuples by their ids
     ghost rows: { Self → Bagged };

@@ -18,7 +18,7 @@ use std::collections::BTreeSet;
 /// What a search for a tuple came to.
 #[derive(Clone, Copy, Debug)]
 pub struct Found {
-    /// The id that was found; nothing only where there is none.
+    /// The id that was found; `None` only if there is none.
     pub id: Option<u64>,
     /// How many tuples were looked at in vain.
     pub passed: usize,
@@ -37,12 +37,12 @@ pub trait Bag: Drop {
     ///
     /// # Errors
     ///
-    /// `AllocError` where memory runs out, and then the bag is as before and the tuple is dropped.
+    /// `AllocError` if memory runs out, and then the bag is as before and the tuple is dropped.
     fn insert(&mut self, id: u64, tuple: Tuple) -> Result<(), AllocError>
         ensures ok { OnOk result (contents self.new ≡ map.insert (contents self.old) id tuple) }
         ensures err { OnErr result (contents self.new ≡ contents self.old) };
 
-    /// Takes out the tuple under the id and gives it; where there is none, nothing changes.
+    /// Takes out the tuple under the id and returns it; if there is none, nothing changes.
     fn remove(&mut self, id: u64) -> Option<Tuple>
         ensures value { result ≡ map.get (contents self.old) id }
         ensures removed { contents self.new ≡ map.remove (contents self.old) id };
@@ -51,7 +51,7 @@ pub trait Bag: Drop {
     fn get(&self, id: u64) -> Option<&Tuple>
         ensures { option_copied result ≡ map.get (contents self.now) id };
 
-    /// The least id outside `passed` whose tuple the template matches; nothing only where there is
+    /// The least id outside `passed` whose tuple the template matches; `None` only if there is
     /// none.
     fn least_match(&self, template: &Template, passed: &BTreeSet<u64>) -> Option<u64>
         ensures found { IfSome result
@@ -61,7 +61,7 @@ pub trait Bag: Drop {
         ensures none { IfNone result ((k : ℕ)
             → IsFreeMatch (contents self.now) template.now (contains nat_cmp passed.now) k → ⊥) };
 
-    /// As `least_match`, of the ids from `from` on alone; and how many tuples were looked at in
+    /// As `least_match`, only of the ids from `from` on; and how many tuples were looked at in
     /// vain.
     fn least_match_from<P: IdSet>(&self, template: &Template, passed: &P, from: u64) -> Found
         ensures found { IfSome result.id
@@ -77,12 +77,12 @@ pub trait Bag: Drop {
         ensures { result ≡ map.len (contents self.now) };
 
     /// What is left of so many bytes once all tuples are spelled in them, in the second form and
-    /// without their ids; nothing if they spell more.
+    /// without their ids; `None` if they spell more.
     fn room_after(&self, room: usize) -> Option<usize>
         ensures some { IfSome result (λ left. left + bytes_of (contents self.now) ≡ room) }
         ensures none { IfNone result (room < bytes_of (contents self.now)) };
 
-    /// The least id of the bag that is not below `id`; nothing only where there is none.
+    /// The least id of the bag that is not below `id`; `None` only if there is none.
     fn next_from(&self, id: u64) -> Option<u64>
         ensures found { IfSome result (λ next. IsSome (map.get (contents self.now) next)) }
         ensures above { IfSome result (λ next. id ≤ next) }
@@ -90,7 +90,7 @@ pub trait Bag: Drop {
             → map.get (contents self.now) k ≡ None) }
         ensures none { IfNone result ((k : ℕ) → id ≤ k → map.get (contents self.now) k ≡ None) };
 
-    /// The tuple of the least id that is not below `id`, with that id; nothing only if there is
+    /// The tuple of the least id that is not below `id`, with that id; `None` only if there is
     /// none.
     fn entry_from(&self, id: u64) -> Option<(u64, &Tuple)>
         ensures found { IfSome result (λ e. map.get (contents self.now) e.0 ≡ Some e.1.now) }

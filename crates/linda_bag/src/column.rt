@@ -39,7 +39,7 @@ impl Column {
     ///
     /// # Errors
     ///
-    /// `AllocError` where memory runs out.
+    /// `AllocError` if memory runs out.
     pub(crate) fn new(
         alloc: Global,
         template: &Template,
@@ -107,11 +107,11 @@ impl Column {
         }
     }
 
-    /// Files up to so many tuples more, and returns how many ids it has more.
+    /// Files up to `share` more tuples, and returns how many ids were added.
     ///
     /// # Errors
     ///
-    /// `AllocError` where memory runs out; the column is good for nothing then.
+    /// `AllocError` if memory runs out; the column cannot be used then.
     pub(crate) fn file<B: Bag>(
         &mut self,
         alloc: Global,
@@ -198,7 +198,7 @@ fn put(
     refile(ids, alloc, id, None, place_of(value))
 }
 
-// Where the id goes.
+// The place of an id that has this value, if it has one.
 fn place_of(value: Option<&Atom>) -> Option<(&Atom, &Atom)>
     ensures { place result ≡ placed (λ v. Some v) (option_copied value.entry) }
 {

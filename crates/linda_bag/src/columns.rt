@@ -83,7 +83,7 @@ impl Columns {
         found
     }
 
-    // The place of the template's column for the position; where there is none, how many there are.
+    // The place of the template's column for the position; if there is none, the number of columns.
     fn place_of(&self, template: &Template, position: usize) -> usize
         ensures position { (d : Column) → result < length self.now.items.items
             → (get_or self.now.items.items result d).position ≡ position }

@@ -37,7 +37,7 @@ impl FirstFieldIndex {
         }
     }
 
-    /// The ids of the rows that begin with the value; nothing where there are none.
+    /// The ids of the rows that begin with the value; `None` if there are none.
     pub fn get<R: Tagged>(&self, first: &Atom) -> Option<&Ids>
         ensures { FindsIndex (HasFirstFields R.first_of self.now) IsOf
             (rows_at atom_ord.ghosts.cmp R.first_of first.now)
@@ -50,12 +50,12 @@ impl FirstFieldIndex {
         }
     }
 
-    /// Files the id by what the row `new` begins with, and no more by what `old` does, which had
-    /// the id before.
+    /// Files the id by what the row `new` begins with, and no longer by what `old` begins with,
+    /// which had the id before.
     ///
     /// # Errors
     ///
-    /// `AllocError` where memory runs out, and then each id is filed as before.
+    /// `AllocError` if memory runs out, and then each id is filed as before.
     pub fn put<'a, R: Tagged>(
         &mut self,
         alloc: Global,
@@ -70,7 +70,7 @@ impl FirstFieldIndex {
             (HasFirstFields R.first_of self.new)
             id (option_copied old.entry) (option_copied old.entry)) }
     {
-        // The map that the id goes into alone may want memory, so it comes first.
+        // The map that the id goes into is the only one that may need memory, so it comes first.
         match int_place(Some(new)) {
             Some((int, row)) => {
                 ints::refile(&mut self.ints, alloc, id, int_place(old), int, row)?;
@@ -93,7 +93,7 @@ impl FirstFieldIndex {
         ints::is_empty(&self.ints) && self.others.is_empty()
     }
 
-    /// Takes out the id, which is filed by the row, where it is filed at all.
+    /// Takes out the id, which is filed by the row, if it is filed at all.
     pub fn remove<'a, R: Tagged>(&mut self, id: u64, old: Option<&'a R>)
         ensures { Refiles (HasFirstFields R.first_of self.old) (HasFirstFields R.first_of self.new)
             id (option_copied old.entry) None }

@@ -23,7 +23,7 @@ pub(crate) fn is_free_match<P: IdSet>(
     matches(template, tuple) && !passed.has(id)
 }
 
-/// The least id of the tree that is not below `id`, with what stands under it.
+/// The least id of the tree that is not below `id`, with the value under it.
 #[tactic(auto, using(crate::proofs::TreeLaws::get_is_lookup))]
 pub(crate) fn next_entry<T>(rows: &BTreeMap<u64, T>, id: u64) -> Option<(u64, &T)>
     ensures found { IfSome result (λ e. map.get (rows_of rows.now) e.0 ≡ Some e.1.now) }

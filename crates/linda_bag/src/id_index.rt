@@ -39,11 +39,11 @@ pub trait IdIndex<T>: Drop {
     fn empty(alloc: Global) -> Self
         ensures { has result no_rows };
 
-    /// Files the id by the row `new`, and no more by the row `old` that it was filed by before.
+    /// Files the id by the row `new`, and no longer by the row `old` that it was filed by before.
     ///
     /// # Errors
     ///
-    /// `AllocError` where memory runs out, and then each id is filed as before.
+    /// `AllocError` if memory runs out, and then each id is filed as before.
     fn put<'a>(
         &mut self,
         alloc: Global,
@@ -66,12 +66,12 @@ pub trait IdIndex<T>: Drop {
 }
 
 /// Files the id under one key in place of another: by `old` it was filed before, by `new` it is
-/// filed now. Each is a key and the row that has it, or nothing where the row has no such key, or
-/// where there is no row.
+/// filed now. Each is a key and the row that has it, or `None` if the row has no such key, or if
+/// there is no row.
 ///
 /// # Errors
 ///
-/// `AllocError` where memory runs out, and then each id is filed as before.
+/// `AllocError` if memory runs out, and then each id is filed as before.
 pub fn refile<'a, K: Key, T, S: IdIndex<T>>(
     id_indexes: &mut BTreeMap<K, S>,
     alloc: Global,
@@ -99,8 +99,8 @@ pub fn refile<'a, K: Key, T, S: IdIndex<T>>(
     Ok(())
 }
 
-/// Files the id by the row `new` under its key, where it was filed by `old`, if at all; on a new
-/// index where none stands under the key.
+/// Files the id by the row `new` under its key, in place of the row `old`, if it was filed by that;
+/// on a new index if there is none under the key.
 fn file<'a, K: Key, T, S: IdIndex<T>>(
     id_indexes: &mut BTreeMap<K, S>,
     alloc: Global,
@@ -123,8 +123,8 @@ fn file<'a, K: Key, T, S: IdIndex<T>>(
     Ok(())
 }
 
-/// Takes out the id, which is filed under the key of the row, and the index there with it where
-/// that is empty then.
+/// Takes out the id, which is filed under the key of the row; and the index under that key, if it
+/// is empty then.
 pub fn unfile<K: Key, T, S: IdIndex<T>>(id_indexes: &mut BTreeMap<K, S>, id: u64, key: &K, row: &T)
     ensures { RefilesBy K.cmp S.has id_indexes.old id_indexes.new id
         (Some (key.now, row.now)) None }
@@ -132,7 +132,7 @@ pub fn unfile<K: Key, T, S: IdIndex<T>>(id_indexes: &mut BTreeMap<K, S>, id: u64
     take(id_indexes, id, key, row);
 }
 
-/// Takes out the id, which is filed by `old`, where it is filed at all.
+/// Takes out the id, which is filed by `old`, if it is filed at all.
 pub(crate) fn unfile_if_any<'a, K: Key, T, S: IdIndex<T>>(
     id_indexes: &mut BTreeMap<K, S>,
     id: u64,
@@ -145,7 +145,7 @@ pub(crate) fn unfile_if_any<'a, K: Key, T, S: IdIndex<T>>(
     }
 }
 
-// Takes the id from the index under the key, and that index away where it is empty then.
+// Takes the id from the index under the key, and removes that index if it is empty then.
 fn take<K: Key, T, S: IdIndex<T>>(id_indexes: &mut BTreeMap<K, S>, id: u64, key: &K, row: &T)
     ensures { RefilesAt K.cmp S.has id_indexes.old id_indexes.new key.now id (Some row.now) None }
 {

@@ -10,8 +10,8 @@ use crate::id_index::IdIndex;
 use linda_rising::RisingMap;
 use std::alloc::{AllocError, Global};
 
-/// A set of ids. It is as small as it can be, since one stands under each key: so several are
-/// behind a box.
+/// A set of ids. It is as small as it can be, since there is one under each key: so several ids are
+/// in a box.
 #[derive(Drop)]
 pub enum Ids {
     Nothing,

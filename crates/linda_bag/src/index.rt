@@ -27,8 +27,8 @@ pub(crate) struct Group {
     first_fields: FirstFieldIndex,
 }
 
-/// The ids of the tuples that have the template's tag, as many fields as it has patterns and, where
-/// its first pattern is a value, that value first; nothing where there are none.
+/// The ids of the tuples that have the template's tag, as many fields as it has patterns and, if
+/// its first pattern is a value, that value first; `None` if there are none.
 pub(crate) fn candidates<'a>(index: &'a Index, template: &Template) -> Option<&'a Ids>
     ensures { FindsIndex (⟦<Index as IdIndex<Tuple>>⟧.has index.now) IsOf (candidates template.now)
         (option_copied result) }
@@ -39,7 +39,7 @@ pub(crate) fn candidates<'a>(index: &'a Index, template: &Template) -> Option<&'
 }
 
 impl Group {
-    /// Those of the ids whose tuples have the value first, where there is one; else all.
+    /// The ids of the tuples that have the value first, if a value is given; else all ids.
     fn candidates(&self, first: Option<&Atom>) -> Option<&Ids>
         ensures { FindsIndex (IsIndexed (⟦<Group as IdIndex<Tuple>>⟧.has) (Some self.now)) IsOf
             (with_first (option_copied first.entry)) (option_copied result) }

@@ -1,4 +1,4 @@
-//! The bag of a server that has many tuples: a look-up looks at those alone that have the
+//! The bag of a server that has many tuples: a look-up looks only at the tuples that have the
 //! template's head, its tag, its number of fields and the value that it begins with.
 
 ghost use Rattle.std.specs.Prelude.{◌≡◌};

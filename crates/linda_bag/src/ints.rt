@@ -74,7 +74,8 @@ pub(crate) fn unfile_if_any<'a, T>(
     }
 }
 
-// Files the id by the row `new` under the integer, where it was filed by `old`, if at all.
+// Files the id by the row `new` under the integer, in place of the row `old`, if it was filed by
+// that.
 fn file<'a, T>(
     sets: &mut RisingMap<Ids>,
     alloc: Global,

@@ -1,7 +1,7 @@
 //! Hints and columns, by which a search leaves out tuples: those that are held, so that they are
-//! not looked at anew, and those that have another value where the template asks for one.
+//! not looked at again, and those that have another value where the template asks for one.
 //!
-//! They may go at any time, and what is found is the same.
+//! They may be dropped at any time, and what is found is the same.
 
 ghost use Rattle.std.specs.Prelude.{◌≡◌, ◌≤◌, ◌<◌, ℕ, Bool, true, false, Some, IfSome, IfNone};
 ghost use Rattle.std.specs.FinMap as map;
@@ -16,8 +16,8 @@ use crate::tag_hints::TagHints;
 use linda_tuple::{Template, Tuple};
 use std::alloc::Global;
 
-/// Where the searches for templates begin, and columns for those that begin with a formal and have
-/// a value later.
+/// Where the searches for templates begin, and columns for the templates that begin with a formal
+/// and have a value later.
 pub struct SearchHints {
     tags: TagHints,
     columns: Columns,
@@ -43,9 +43,9 @@ impl SearchHints {
         }
     }
 
-    /// The least id of the bag outside `held` whose tuple the template matches; nothing only where
-    /// there is none. Each id of the bag is below `next`. It needs no memory; where there is some
-    /// the next search for the template begins here, if this one looked at many tuples in vain.
+    /// The least id of the bag outside `held` whose tuple the template matches; `None` only if
+    /// there is none. Each id of the bag is below `next`. It needs no memory; if there is memory
+    /// and this search looked at many tuples in vain, the next search for the template begins here.
     pub fn least_match<B: Bag, P: IdSet>(
         &mut self,
         alloc: Global,
@@ -119,7 +119,7 @@ impl SearchHints {
     }
 }
 
-// The id, or `next` where there is none below that.
+// The id, or `next` if there is none below that.
 fn below(id: Option<u64>, next: u64) -> u64
     ensures at_most { result ≤ next }
     ensures id { IfSome id (λ i. result ≤ i) }

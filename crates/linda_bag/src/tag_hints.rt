@@ -117,8 +117,8 @@ impl TagHints {
         }
     }
 
-    // The template gets a hint, in place of another one of its tag, where there is memory for it.
-    // Where there are too many hints all of them go.
+    // The template gets a hint, in place of another one of its tag, if there is memory for it. If
+    // there are too many hints, all of them are dropped.
     fn begin(&mut self, alloc: Global, template: &Template, from: u64)
         ensures { Begins template.now from self.old self.new }
     {

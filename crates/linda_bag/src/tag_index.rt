@@ -73,7 +73,7 @@ struct Counts<S> {
     groups: BTreeMap<usize, S>,
 }
 
-/// The index with the rows of this tag and of as many fields; nothing where there are none.
+/// The index with the rows of this tag and of as many fields; `None` if there are none.
 pub fn alike<'a, T: Tagged, S: IdIndex<T>>(
     tag_index: &'a TagIndex<S>,
     tag: &Atom,
@@ -86,14 +86,14 @@ pub fn alike<'a, T: Tagged, S: IdIndex<T>>(
     counts.groups.get(&count)
 }
 
-/// A head, and the index that stands under it.
+/// A head, and the index under it.
 pub(crate) struct TagEntry<'a, S> {
     pub(crate) tag: &'a Atom,
     pub(crate) count: usize,
     pub(crate) id_index: &'a S,
 }
 
-/// The least head after the last one, by tags and then by numbers of fields; nothing if there is
+/// The least head after the last one, by tags and then by numbers of fields; `None` if there is
 /// none. Without a last one it is the least of all.
 pub(crate) fn next_tag_entry<'a, T: Tagged, S: IdIndex<T>>(
     tag_index: &'a TagIndex<S>,
@@ -183,7 +183,7 @@ fn next_count<'a, T: Tagged, S: IdIndex<T>>(
     })
 }
 
-// What stands under the least key after the last one.
+// The least key after the last one, and the index under it.
 fn next_id_index<'a, K: Ord, S>(
     id_indexes: &'a BTreeMap<K, S>,
     last: Option<&K>,

@@ -46,8 +46,8 @@ impl TuplesById {
     }
 
     /// Puts the tuple under the id, in place of one that was there, which is dropped, and files the
-    /// id in the index by it, where it was filed by that one. Returns how many bytes that one
-    /// spelled in the second form, 0 if there was none.
+    /// id in the index by the new tuple, no longer by the old one. Returns how many bytes the old
+    /// one spelled in the second form, 0 if there was none.
     ///
     /// # Errors
     ///
@@ -81,7 +81,7 @@ impl TuplesById {
         }
     }
 
-    /// Takes out the tuple under the id and gives it; where there is none, nothing changes.
+    /// Takes out the tuple under the id and returns it; if there is none, nothing changes.
     pub(crate) fn remove(&mut self, id: u64) -> Option<Tuple>
         ensures value { result ≡ map.get self.old id }
         ensures removed { self.new ≡ map.remove self.old id }
@@ -105,7 +105,7 @@ impl TuplesById {
         self.by_id.len()
     }
 
-    /// The least id that is not below `id`; nothing only where there is none.
+    /// The least id that is not below `id`; `None` only if there is none.
     pub(crate) fn next_from(&self, id: u64) -> Option<u64>
         ensures found { IfSome result (λ next. IsSome (map.get self.now next)) }
         ensures above { IfSome result (λ next. id ≤ next) }
@@ -116,7 +116,7 @@ impl TuplesById {
         self.by_id.next_from(id)
     }
 
-    /// The tuple of the least id that is not below `id`, with that id; nothing only if there is
+    /// The tuple of the least id that is not below `id`, with that id; `None` only if there is
     /// none.
     pub(crate) fn entry_from(&self, id: u64) -> Option<(u64, &Tuple)>
         ensures found { IfSome result (λ e. map.get self.now e.0 ≡ Some e.1.now) }

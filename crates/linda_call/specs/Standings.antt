@@ -35,13 +35,13 @@ first_unmet server [] = None
 first_unmet server (s ∷ rest) =
     if s.is_met then first_unmet (min (server + 1) (2 ^ 32 - 1)) rest else Some server
 
--- how the client stands with the server of this number, and as with one that was not met if there
+-- the client's standing with the server of this number, or that with one that was not met if there
 -- is none
 abbrev pub standing_at : List ServerStanding → ℕ → ServerStanding
 standing_at standings server =
     if nat_lt server (length standings) then slice_index_or standings server unmet else unmet
 
--- the server of this number stands so, if there is one
+-- the standings, with this one for the server of this number, if there is one
 abbrev pub with_standing : List ServerStanding → ℕ → ServerStanding → List ServerStanding
 with_standing standings server s =
     if nat_lt server (length standings) then slice_set standings server s else standings

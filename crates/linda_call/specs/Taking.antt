@@ -48,8 +48,8 @@ IsTaken old server NotAServer result new = result ≡ Err (faults.NotAServer ser
 IsTaken old server NoConnection result new = result ≡ Err (faults.NoConnection server)
 IsTaken old server Memory result new = result ≡ Err faults.Memory
 
--- How the client stands with its servers once what a server brings was taken well: a reply may have
--- answered a number, and a server that welcomes the client is met.
+-- The client's standings with its servers once what a server brings was taken well: a reply may
+-- have answered a number, and a server that welcomes the client is met.
 abbrev pub standings_after : Party → ℕ → ServerEvent → Told → List ServerStanding
 standings_after old server (Came reply) told = with_standing old.standings.items server
     (answered (standing_at old.standings.items server) (answered_in reply))

@@ -116,7 +116,7 @@ oldest_copied c p server n a ask f copy = freed c p server n a ask f ∙ copy_up
 abbrev answer : List Packet → Option Outcome → Option (ℕ × ℕ × ℕ) → Client → Answer
 answer packets outcome fault c = Ok (record { packets = packets; outcome = outcome; fault = fault; client = c })
 
--- what was told of an end
+-- the reaction that ends what is pending
 pub told_ended : (c new : Client) (packets : List Packet) (outcome : Outcome) (told : Told)
     → told.packets.items ≡ packets → told.outcome ≡ Some outcome → told.fault ≡ None → new ≡ record c { task = Idle }
     → ◌≡◌ {A = Answer} (Ok (finish c packets outcome)) (Ok (shown told new))
@@ -126,7 +126,7 @@ told_ended c new packets outcome told sent ended fault after =
     ∙ ap (λ f. answer told.packets.items told.outcome f (record c { task = Idle })) (sym fault)
     ∙ ap (answer told.packets.items told.outcome told.fault) (sym after)
 
--- what was told of a copy's commitment
+-- the reaction that commits to a copy
 pub told_copied : (c new : Client) (p : Pending) (ask : Ask) (a : ArrivedTuple) (told : Told)
     → told.packets.items ≡ cancels_but (servers c) None p → told.outcome ≡ Some (commitment p.event ask.base (got_by_read ask a))
     → told.fault ≡ None → new ≡ record c { task = Idle } → copied c p ask a ≡ Ok (shown told new)

@@ -31,7 +31,7 @@ asks_counted n (never ∷ ks) = grind (arith, asks_counted (n + 1) ks, sum_by-co
 pub ask_count_is : (event : Tree) → length (asks event) ≡ count_by is_ask (bases_of event)
 ask_count_is event = asks_counted 0 (bases_of event)
 
--- a sum passes a limit exactly where its part passes what is left
+-- a sum passes a limit exactly if its part passes what is left
 pub passes_limit : (a n limit : ℕ) → a ≤ limit → nat_lt (limit - a) n ≡ nat_lt limit (a + n)
 passes_limit a n limit h = grind (arith, nat_tests)
 
@@ -58,7 +58,7 @@ open_range pending k ask e = by (nat_lt k pending.first) refl e
         let within = slice_get_within (asks pending.event) (k - pending.first) ask f in
         (from, omega (arith, from, within))
 
--- Tickets ask the same where the event and the first ticket are the same.
+-- Tickets ask the same if the event and the first ticket are the same.
 pub same_asks : (later pending : Pending) → later.event ≡ pending.event → later.first ≡ pending.first → (k : ℕ) → ask_at later k ≡ ask_at pending k
 same_asks later pending event first k =
     ap (λ n. cond (nat_lt k n) None (slice_get (asks later.event) (k - n))) first
@@ -83,6 +83,6 @@ any_ready_from clock n [] = refl
 any_ready_from clock n (k ∷ ks) = ready_next clock n k (filter_map (ready_at clock) (enumerate_from (n + 1) ks))
     (list_any (is_ready clock) ks) (any_ready_from clock (n + 1) ks)
 
--- Some base is ready exactly where there is a first one.
+-- Some base is ready exactly if there is a first one.
 pub any_ready_is : (clock : ℕ) (event : Tree) → list_any (is_ready clock) (bases_of event) ≡ is_some (first_ready clock event)
 any_ready_is clock event = any_ready_from clock 0 (bases_of event)

@@ -72,7 +72,7 @@ all_due : (count : ℕ) (own : Option (ℕ × ℕ)) (pending : Pending) → All 
 unfolding Due
 all_due count own pending = all_cancels (Due count pending own) count own pending (λ s k due. due)
 
--- Nothing but Cancels is sent.
+-- Only Cancels are sent.
 pub only_cancels : (count : ℕ) (own : Option (ℕ × ℕ)) (pending : Pending) → All IsCancel (cancels_but count own pending)
 only_cancels count own pending = all_cancels IsCancel count own pending (λ s k due. tt)
 
@@ -90,7 +90,7 @@ there_when_due count own pending server ticket due =
     let k : server < 0 + count = let b = due.server_is in omega arith in
     has_row (λ s. (s, messages.Cancel ticket)) (λ s. not (is_spared own (s, ticket))) 0 count server h k (ap not due.apart))
 
--- A ticket is cancels_of at a server exactly where that is due.
+-- A ticket is cancelled at a server exactly if that is due.
 pub cancels_exactly : (count : ℕ) (own : Option (ℕ × ℕ)) (pending : Pending) (server ticket : ℕ)
     → Contains (cancels_but count own pending) (server, messages.Cancel ticket) ↔ IsDue count pending own server ticket
 cancels_exactly count own pending server ticket = (due_from count own pending server ticket, there_when_due count own pending server ticket)

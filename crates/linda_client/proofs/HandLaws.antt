@@ -222,7 +222,7 @@ module _ (P : PendingAccept → Type 0) (call : Call) (c : Client) (pending : Pe
   becomes_on r (leaves_on all from n task called some) hand = leaving_not all task
   becomes_on r (departs all from n task called none) hand = leaving_not all task
 
--- What becomes of an offer that is in hand, whatever is called.
+-- What becomes of an offer that is in hand, at each call.
 pub becomes : (c : Client) (call : Call) (r : Reaction) → IsClient c → react c call ≡ Ok r
     → (pending : Pending) → pending_in c.task ≡ Some pending → (last server ticket id : ℕ) → server < servers c
     → (ask : Ask) → ask_at pending ticket ≡ Some ask → InHand (λ a. last < a.n) pending server ticket id

@@ -72,7 +72,7 @@ leaves_course c call r (departs all server n task called none) = record {
 pub leaves_good : (c : Client) (call : Call) (r : Reaction) → IsClient c → react c call ≡ Ok r → LeavesForGood c r
 leaves_good c call r is e = leaves_course c call r (course c is call r e)
 
--- A client that has left sends nothing but Cancels.
+-- A client that has left sends only Cancels.
 away_from : (calls : List Call) (c : Client) → IsClient c → has_left c.task ≡ true → All IsCancel (all_sent (history c calls))
 away_from [] c is left = All-nil IsCancel
 away_from (call ∷ calls) c is left = by (react c call) refl (λ d is_d h. away_from calls d is_d h)
@@ -105,6 +105,6 @@ no_more_from (call ∷ calls) c is before later act parts left = by (react c cal
             subst (λ l. All IsCancel (all_sent l)) (same_rest first act (history r.client calls) later g) (away_from calls r.client (kept c call r is e) gone)
         at (x ∷ xs) g = next r.client (kept c call r is e) xs (same_rest first x (history r.client calls) (xs ++ act ∷ later) g)
 
--- After it has left a client sends nothing but Cancels.
+-- After it has left, a client sends only Cancels.
 pub sends_no_more : (number count : ℕ) (calls : List Call) → 1 ≤ count → count ≤ MAX_SERVERS → SendsNoMore (history (new_client number count) calls)
 sends_no_more number count calls low high = no_more_from calls (new_client number count) (new_is number count low high)

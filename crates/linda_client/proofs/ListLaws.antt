@@ -29,7 +29,7 @@ in_front {X} y x ys there = by (Contains-append_cases (y ∷ []) ys x there)
     by (inl here) = inl (All-contains (λ z. y ≡ z) (y ∷ []) x (All-cons (λ z. y ≡ z) y [] refl (All-nil (λ z. y ≡ z))) here)
     by (inr later) = inr later
 
--- one that passes, where some does
+-- one that passes, if some does
 pub any_one : {X : Type 0} (p : X → Bool) (xs : List X) → list_any p xs ≡ true → (x : X) × (Contains xs x × (p x ≡ true))
 any_one p [] e = absurd (false≢true e)
 any_one {X} p (y ∷ ys) e = by (p y) refl e (λ f. any_one p ys f)
@@ -48,7 +48,7 @@ not_any {X} p (y ∷ ys) e = by (p y) refl e (λ f. not_any p ys f)
     by true here f later = absurd (false≢true (sym f))
     by false other f later = All-cons (λ x. p x ≡ false) y ys other (later f)
 
--- where none passes, one that is there does not
+-- if none passes, one that is there does not
 pub none_any : {X : Type 0} (p : X → Bool) (xs : List X) (x : X) → Contains xs x → list_any p xs ≡ false → p x ≡ false
 none_any p xs x there none = All-contains (λ y. p y ≡ false) xs x (not_any p xs none) there
 
@@ -75,7 +75,7 @@ made_first : {Z : Type 0} (o : Option Z) (l : List Z) → cons_option o l ≡ op
 made_first None l = refl
 made_first (Some z) l = refl
 
--- what the items behind are to make, after one item more
+-- what the later items are to make, after one item more
 pub made_next : {X Y Z : Type 0} (h : ℕ × Y → Option Z) (k : X → Y) (n : ℕ) (xs : List X) (x : X) (before after all : List Z)
     → n < length xs → x ≡ get_or xs n x → after ≡ before ++ option_to_list (h (n, k x))
     → before ++ filter_map h (enumerate_from n (map k (drop n xs))) ≡ all → after ++ filter_map h (enumerate_from (n + 1) (map k (drop (n + 1) xs))) ≡ all
@@ -85,7 +85,7 @@ made_next {X} {Y} {Z} h k n xs x before after all low is more so =
     ∙ ap (λ l. before ++ l) (sym (made_first (h (n, k x)) rest)
     ∙ ap (λ l. filter_map h (enumerate_from n (map k l))) (sym (drop_more xs n x low ∙ ap (λ y. y ∷ drop (n + 1) xs) (sym is)))) ∙ so
 
--- what the items behind are to give, after one item more
+-- what the later items are to give, after one item more
 pub given_next : {X Y : Type 0} (f : ℕ × X → List Y) (first n : ℕ) (xs : List X) (x : X) (before after all : List Y)
     → n < length xs → x ≡ get_or xs n x → after ≡ before ++ f (first + n, x)
     → before ++ flat_map f (enumerate_from (first + n) (drop n xs)) ≡ all → after ++ flat_map f (enumerate_from (first + (n + 1)) (drop (n + 1) xs)) ≡ all
@@ -95,7 +95,7 @@ given_next {X} {Y} f first n xs x before after all low is more so =
     ap (λ m. after ++ flat_map f (enumerate_from m (drop (n + 1) xs))) e ∙ ap (λ l. l ++ rest) more ∙ append_assoc before (f (first + n, x)) rest
     ∙ ap (λ l. before ++ flat_map f (enumerate_from (first + n) l)) (sym (drop_more xs n x low ∙ ap (λ y. y ∷ drop (n + 1) xs) (sym is))) ∙ so
 
--- what the items behind are to map to, after one item more
+-- what the later items are to map to, after one item more
 pub mapped_next : {X Y : Type 0} (f : X → Y) (n : ℕ) (xs : List X) (d : X) (before after all : List Y)
     → n < length xs → after ≡ before ++ f (get_or xs n d) ∷ [] → before ++ map f (drop n xs) ≡ all
     → after ++ map f (drop (n + 1) xs) ≡ all
@@ -103,7 +103,7 @@ mapped_next f n xs d before after all low more so =
     ap (λ l. l ++ map f (drop (n + 1) xs)) more ∙ append_assoc before (f (get_or xs n d) ∷ []) (map f (drop (n + 1) xs))
     ∙ ap (λ l. before ++ map f l) (sym (drop_more xs n d low)) ∙ so
 
--- what the items behind are with their numbers, after one item more
+-- what the later items are with their numbers, after one item more
 pub numbered_next : {X : Type 0} (n : ℕ) (xs : List X) (d : X) (before after all : List (ℕ × X))
     → n < length xs → after ≡ before ++ (n, get_or xs n d) ∷ [] → before ++ enumerate_from n (drop n xs) ≡ all
     → after ++ enumerate_from (n + 1) (drop (n + 1) xs) ≡ all

@@ -39,7 +39,7 @@ cancel_again c (s, messages.Accept n ticket id) is = absurd is
 cancel_again c (s, messages.Cancel ticket) is = λ some. absurd (false≢true some)
 cancel_again c (s, messages.Leave n) is = absurd is
 
--- The next number of a server is as before where another is used.
+-- The next number of a server stays if a number of another server is used.
 pub others_stay : (c : Client) (s server : ℕ) → server ≢ s → get_or (used_at c s) server 0 ≡ next_at c server
 others_stay c s server other = get_or-set_other c.next s server (next_at c s + 1) 0 other
 
@@ -102,7 +102,7 @@ module _ (c : Client) (call : Call) where
   turn_answered pending rest a (arrives none saved called) = subst (λ o. AcceptAnswered o call) (sym none) tt
   turn_answered pending rest a (oldest own accepted saved called) = subst (λ o. AcceptAnswered o call) (sym accepted) (inl called)
 
-  -- One numbered message is sent alone, under the next number of its server, and is the one that is unanswered.
+  -- Only one numbered message is sent, under the next number of its server, and it is the one that is unanswered.
   module _ (r : Reaction) (s : ℕ) (m : Message) (within : s < servers c) (number : number_of m ≡ Some (next_at c s))
       (sent : r.packets ≡ (s, m) ∷ []) (next : r.client.next ≡ used_at c s)
       (now : unanswered r.client.task ≡ (s, m) ∷ []) (answered : AllAnswered) where

@@ -36,7 +36,7 @@ cancelled_next n own ticket =
     ∙ map-append (λ s. (s, messages.Cancel ticket)) (filter (λ s. not (is_spared own (s, ticket))) (range_with_len 0 n))
     (filter (λ s. not (is_spared own (s, ticket))) (n ∷ []))
 
--- one server more is sent a Cancel, where it is not spared
+-- one server more is sent a Cancel, if it is not spared
 pub cancelled_more : (n : ℕ) (own : Option (ℕ × ℕ)) (ticket : ℕ) → is_spared own (n, ticket) ≡ false
     → cancels_of (n + 1) own ticket ≡ cancels_of n own ticket ++ (n, messages.Cancel ticket) ∷ []
 cancelled_more n own ticket e =
@@ -58,7 +58,7 @@ numbers_more f a n =
     rw add-one (ap (flat_map f) (range_more a n) ∙ flat_map-append f (range_with_len a n) ((a + n) ∷ [])
     ∙ ap (λ l. flat_map f (range_with_len a n) ++ l) (append-nil (f (a + n))))
 
--- An ask stands at the place of its ticket.
+-- An ask is at the place of its ticket.
 at_end : {X : Type 0} (before rest : List X) (x : X) → slice_get (before ++ x ∷ rest) (length before) ≡ Some x
 at_end [] rest x = refl
 at_end (y ∷ before) rest x = at_end before rest x

@@ -63,7 +63,7 @@ saves_one c own p q a (Ok u) same was saved =
     of_pending c own p (λ d s. with_pending c q ≡ with_pending d (save_last a s)) same was (ap (with_pending c) saved)
 saves_one c own p q a (Err e) same was saved = tt
 
--- the client where memory ran out
+-- the client after memory ran out
 pub stays_so : (c own : Client) (p q : Pending) (r : Result (Unit {0}) AllocError) → c ≡ own
     → c.task ≡ Syncing p → OnErr r (q ≡ p) → OnErr r (with_pending c q ≡ own)
 stays_so c own p q (Ok u) same was failed = tt

@@ -42,7 +42,7 @@ begins c event b =
     subst (λ t. on_sync (record c { task = t }) event ≡ on_ready (record c { task = t }) event (first_ready c.clock event)) (sym b.idle)
     (passed (is_too_deep event) (has_too_many event) (on_ready (record c { task = Idle }) event (first_ready c.clock event)) b.limits)
 
--- where a base is ready it commits to that
+-- if a base is ready, it commits to that
 pub is_ready : (c : Client) (event : Tree) (base : ℕ) (got : Got) → Begins c event
     → first_ready c.clock event ≡ Some (base, got) → on_sync c event ≡ Ok (commit c event [] base got)
 is_ready c event base got b ready = begins c event b ∙ ap (on_ready c event) ready
@@ -52,7 +52,7 @@ first_false true None none e = cc
 first_false true (Some x) none e = cc
 first_false false o none e = refl
 
--- else the servers are asked, where its tickets are within the limit
+-- else the servers are asked, if its tickets are within the limit
 pub must_ask : (c : Client) (event : Tree) → Begins c event → IsWithinLimits event → false ≡ lacks_tickets c event
     → first_ready c.clock event ≡ None → MustAsk c event
 must_ask c event b within room none =

@@ -109,7 +109,7 @@ module _ (of : Message → Option ℕ) (s n : ℕ) where
       subst (λ t. count_by (is_under of s n) (cond t [] r.packets) + weight (nat_lt n a) ≤ weight (nat_lt n b))
       (sym e) (let low = up n a b more in omega (arith, low))
 
--- Where the next number of each server, as `mark` gives it of a client, rises so at each call, none is used twice.
+-- If the next number of each server, as `mark` gives it of a client, rises so at each call, none is used twice.
 module _ (of : Message → Option ℕ) (mark : Client → ℕ → ℕ) (s n : ℕ)
     (on : (c : Client) (call : Call) (r : Reaction) → IsClient c → react c call ≡ Ok r → Counts of s n call r (mark c s) (mark r.client s)) where
   used_from : (calls : List Call) (c : Client) → IsClient c → uses of (history c calls) s n + weight (nat_lt n (mark c s)) ≤ 1
@@ -218,7 +218,7 @@ module _ (s n : ℕ) (c : Client) (is : IsClient c) (call : Call) where
   numbers_on r more (gives_up called idle room) = all_count number_of s n call r (next_at c s) (next_at r.client s) (leaves_count s n 0 s c.next (omega arith))
   numbers_on r more _ = plain number_of s n call r (next_at c s) (next_at r.client s) more (All-nil (IsPlain number_of))
 
--- The Asks of one ticket, to each server: one to each, where it is this ticket.
+-- The Asks of one ticket, to each server: one to each, if it is this ticket.
 ask_row : (s k t : ℕ) (x : Ask) (a m : ℕ)
     → count_by (is_under ticket_of s k) (map (λ u. (u, messages.Ask t x.remove x.template)) (range_with_len a m)) + weight
     ((t == k) && nat_lt s a) ≤ weight (t == k)

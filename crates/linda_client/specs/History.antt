@@ -74,7 +74,7 @@ TicketsAreOnce sent =
     (s t ticket : ℕ) (p q : Bool) (x y : Template) → Contains sent (s, messages.Ask ticket p x)
     → Contains sent (t, messages.Ask ticket q y) → (p ≡ q) × (x ≡ y)
 
--- P holds of all that comes of calls of a new client, whatever they are.
+-- P holds of the history of a new client, for all calls.
 abbrev pub FromNew : (List Act → Type 0) → Type 0
 FromNew P = (number count : ℕ) (calls : List Call) → 1 ≤ count → count ≤ MAX_SERVERS
     → P (history (new_client number count) calls)

@@ -6,7 +6,7 @@ use Rattle.linda_client.specs.Ending.{IsCancel}
 use Rattle.linda_client.specs.Reaction.{Reaction}
 use Rattle.linda_client.specs.History.{Act, all_sent}
 
--- The client has left, nothing has ended, and nothing but Cancels is sent.
+-- The client has left, nothing has ended, and only Cancels are sent.
 pub record StaysAway (r : Reaction) : Type 0 where
   pub left : has_left r.client.task ≡ true
   pub silent : r.outcome ≡ None
@@ -18,7 +18,7 @@ pub record LeavesForGood (c : Client) (r : Reaction) : Type 0 where
   pub outcome : (r.outcome ≡ Some outcomes.Left)
       ↔ ((has_left c.task ≡ false) × (has_left r.client.task ≡ true))
 
--- After the outcome Left nothing but Cancels is sent.
+-- After the outcome Left only Cancels are sent.
 abbrev pub SendsNoMore : List Act → Type 0
 SendsNoMore acts =
     (before later : List Act) (act : Act) → acts ≡ before ++ act ∷ later

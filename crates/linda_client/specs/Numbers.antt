@@ -52,9 +52,9 @@ pub record UsesNoNumber (c : Client) (call : Call) (r : Reaction) (server : ℕ)
       → IsUnanswered r.client server m ⊎ IsAnswerTo (server, m) call
 
 -- A number is used at the server, which is there: this numbered message is sent to it, under its
--- next number, which then is one greater; and all that is sent goes so, each to its server under
--- the next number there, and unless the client lets this one be. Whatever was unanswered, at any
--- server, is answered, and what is sent is what is unanswered.
+-- next number, which then is one greater. All that is sent goes so, each message to its server
+-- under the next number there; and unless the client is asked to leave, this message is all that is
+-- sent. What was unanswered, at any server, is answered, and what is sent is what is unanswered.
 pub record UsesNumber (c : Client) (call : Call) (r : Reaction) (server : ℕ) (m : Message)
     : Type 0 where
   pub sent : Contains r.packets (server, m)

@@ -1,9 +1,8 @@
 //! Laws of a client, of each call and of many: each stated in the contract of a function that does
 //! nothing.
 //!
-//! `react` says case by case what a call comes to. These laws say in words of their own what never
-//! fails to hold, whatever is called and whatever servers reply, in whatever order and however
-//! often.
+//! `react` says case by case what a call comes to. These laws state what always holds, whatever is
+//! called and whatever servers reply, in any order and however often.
 
 ghost use Rattle.std.specs.Prelude.{◌≤◌, ℕ, All};
 ghost use Rattle.linda_client.specs.declared.limits.TheConstants.{MAX_SERVERS};
@@ -38,9 +37,9 @@ pub fn packets_are_sound()
     ensures { AtEachCall (λ c call r. All (IsSoundPacket r.client) r.packets) }
 {}
 
-/// A client that has left stays so, and nothing comes of it but Cancels; and the outcome is Left
-/// exactly if it leaves. From a new client, whatever is called and whatever comes: after the
-/// outcome Left nothing but Cancels is sent.
+/// A client that has left stays so, and only Cancels come of it; and the outcome is Left exactly if
+/// it leaves. From a new client, whatever is called and whatever comes: after the outcome Left only
+/// Cancels are sent.
 pub fn clients_leave_for_good()
     ensures leaves { AtEachCall (λ c call r. LeavesForGood c r) }
     ensures after { FromNew SendsNoMore }

@@ -63,8 +63,8 @@ pub(crate) fn push_expected(
     Ok(())
 }
 
-/// Where a text goes wrong whose reader stopped at a place: at the first letter of a word that is
-/// none, though the reader took some of its letters, as of `foo`, which begins like `false`.
+/// Where a text goes wrong if its reader stopped at this place: at the first letter of a word that
+/// is none, though the reader took some of its letters, as of `foo`, which begins like `false`.
 ///
 /// # Errors
 ///

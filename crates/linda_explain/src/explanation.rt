@@ -122,7 +122,7 @@ fn placed(
     Ok(said)
 }
 
-// Begins with where this rest of the line begins.
+// Begins with the place of this rest of the line.
 fn begun(alloc: Global, number: u64, line: &[u8], rest: &[u8]) -> Result<String, AllocError> {
     let byte = byte_of(line, rest);
     format!(in alloc; "line {number}, byte {byte}: ")

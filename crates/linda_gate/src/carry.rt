@@ -22,7 +22,8 @@ pub(crate) struct Sides {
 impl Sides {
     /// Passes on what may pass, until the client ends or something comes that may not. In the first
     /// case the server sees the end, and may still answer; in the other one both sides end, and a
-    /// line on standard error says why, but for who has no certificate: so HAProxy's checks come.
+    /// line on standard error says why, unless the client has no certificate: HAProxy's checks come
+    /// without one.
     pub(crate) fn carry_to_server<R: Wait + Eprint>(&self, rt: &R, alloc: Global) {
         match self.pass_all(rt, alloc) {
             Ok(true) => {

@@ -11,7 +11,7 @@ use Rattle.linda_hold.specs.declared.asked.Asked.{Asked}
 use Rattle.linda_hold.specs.FirstValue.{first_of}
 use Rattle.linda_hold.specs.Group.{if_unkeyed, unkeyed_at, unkeyed_of, HasNumbers}
 
--- There is no request where there is none that begins with a value, and none that begins with no value.
+-- There is no request if there is none that begins with a value and none that begins with no value.
 pub no_request : (o : Option Asked) → keyed_in first_of o ≡ None → unkeyed_at o ≡ None → o ≡ None
 no_request None keyed unkeyed = refl
 no_request (Some asked) keyed unkeyed = by (first_of asked) keyed unkeyed
@@ -20,7 +20,7 @@ no_request (Some asked) keyed unkeyed = by (first_of asked) keyed unkeyed
     by None keyed unkeyed = unkeyed
     by (Some v) keyed unkeyed = keyed
 
--- A set of the requests that begin with no value, where one row changed.
+-- A set of the requests that begin with no value, after one row changed.
 pub unkeyed_with : (old new : Many) (asked : Rows Asked) (id : ℕ) (o : Option Asked) (b : Bool) → HasNumbers old (unkeyed_of asked)
     → SetsId old new id b → b ≡ is_some (unkeyed_at o) → HasNumbers new (unkeyed_of (with_row asked id o))
 unkeyed_with old new asked id o b has changed same q =

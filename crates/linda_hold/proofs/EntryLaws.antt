@@ -171,7 +171,7 @@ module _ (raw : List (ℕ × Wait)) {u : Request → Option ℕ} (numbered : IsN
       (λ e known. false_from_ne_true _ (λ is. true≢false (ap is_some (sym known.named ∙ ap u (sym ((request_told request e.1.0).0 is)) ∙ none))))
       es each
 
-  -- A request waits where it is found.
+  -- A request waits exactly if it is found.
   pub waits_where_found : (request : Request) → is_some (u request) ≡ is_waiting request (values_of es)
   waits_where_found request = by (u request) refl
     where

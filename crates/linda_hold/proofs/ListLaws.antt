@@ -23,7 +23,7 @@ module _ {K X : Type 0} (test : K → Bool) where
   cases true x rest = refl
   cases false x rest = refl
 
-  -- A key passes exactly where a look-up finds something.
+  -- Some key passes exactly if a look-up finds something.
   pub lookup_any : (es : List (K × X)) → is_some (lookup test es) ≡ list_any (λ e. test e.0) es
   lookup_any [] = refl
   lookup_any (e ∷ es) = cases (test e.0) e.1 (lookup test es) ∙ ap (λ b. test e.0 || b) (lookup_any es)
@@ -61,7 +61,7 @@ module _ {X : Type 0} (p : X → Bool) where
       by true e most later = omega arith
       by false e most later = let less = later e in omega arith
 
--- What passes one test, where all that passes it passes another as well, is among what passes that one.
+-- If all that passes one test passes another as well, it can be looked for among what passes the other.
 module _ {X : Type 0} (p q : X → Bool) (also : (x : X) → p x ≡ true → q x ≡ true) where
   pub find_within : (xs : List X) → find p (filter q xs) ≡ find p xs
   find_within [] = refl
@@ -93,7 +93,7 @@ abbrev pub without_all : List Request → List Wait → List Wait
 without_all [] waits = waits
 without_all (request ∷ requests) waits = without_all requests (without request waits)
 
--- Waits but those of the requests of some of them are those of the others, where no two are of one request.
+-- If no two waits are of one request, the waits without the requests of some of them are the other waits.
 among : List Request → Wait → Bool
 among requests w = list_any (λ request. same_request request w.0) requests
 
@@ -173,7 +173,7 @@ module _ (p : Wait → Bool) where
           (not_among w.0 w waits distinct.0 refl)
           ∙ ap (λ l. w ∷ l) rest
 
-  -- Where the requests of those that pass are taken out, one after another, the others are left.
+  -- If the requests of those that pass are taken out, one after another, the others are left.
   pub without_passing : (waits : List Wait) → AreDistinct waits → without_all (passing waits) waits ≡ filter (λ w. not (p w)) waits
   without_passing waits distinct = at_once (passing waits) waits ∙ others waits distinct
 
@@ -183,7 +183,7 @@ pub without_more : (requests : List Request) (request : Request) (waits : List W
 without_more [] request waits = refl
 without_more (q ∷ requests) request waits = without_more requests request (without q waits)
 
--- Where none passes, all are left.
+-- If none passes, all are left.
 pub all_left : {X : Type 0} (p : X → Bool) (xs : List X) → filter p xs ≡ [] → filter (λ x. not (p x)) xs ≡ xs
 all_left p [] none = refl
 all_left p (x ∷ xs) none = by (p x) none (all_left p xs)

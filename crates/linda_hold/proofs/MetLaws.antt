@@ -146,7 +146,7 @@ module _ (entries : List (ℕ × Wait)) (row : Tuple) where
   pub all_met : met_from row 0 entries ≡ filter (may_meet row) (values_of (in_order entries))
   all_met = ap (λ es. filter (may_meet row) (values_of es)) (all_from_none (may_meet row) (in_order entries))
 
-  -- Where no number is left, no wait is.
+  -- If no number is left, no wait is.
   pub none_met : (from : ℕ) → IsNext reach from None → met_from row from entries ≡ []
   none_met from none = none_left (may_meet row) reach from (in_order entries) says none
 

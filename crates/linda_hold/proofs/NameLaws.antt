@@ -10,7 +10,7 @@ use Rattle.linda_hold.specs.declared.request.Request.{Request}
 use Rattle.linda_hold.specs.TicketIndex.{Requests, IsNumbered, Sets}
 use Rattle.linda_hold.proofs.ListLaws.{request_told}
 
--- The order tells numbers apart.
+-- The order decides whether two numbers are the same.
 pub number_told : (x y : ℕ) → Decides (is_eq (nat_cmp x y)) (x ≡ y)
 number_told x y = Decides-at _ _ (unsigned_tied x y) (unsigned_Decides x y)
 

@@ -1,4 +1,4 @@
--- What the names have once a number was given to a request, taken from one, or handed over; and where no number changed.
+-- What the names have once a number was given to a request, taken from one, or handed over; and if no number changed.
 use Rattle.std.proofs.Common.{◌≡◌, ℕ, None, Some, sym, ◌∙◌}
 use Rattle.linda_bag.specs.Filing.{Refiles}
 use Rattle.linda_hold.specs.declared.request.Request.{Request}

@@ -68,7 +68,7 @@ met_more k fields (Some asked) = by (later_of asked)
             alike : (p ≡ k → ⊥) → nat_lt p (k + 1) ≡ nat_lt p k
             alike differ = grind (arith, nat_tests)
 
--- Where no first value is at the position, there are no more.
+-- If no first value is at the position, nothing more is met.
 pub met_no_more : (k : ℕ) (fields : List Atom) (o : Option Asked) → row_at nat_cmp k (placed later_of o) ≡ None
     → is_met_below (k + 1) fields o ≡ is_met_below k fields o
 met_no_more k fields o none =
@@ -76,7 +76,7 @@ met_no_more k fields o none =
     ∙ ap (λ r. is_met_below k fields o || is_reached (slice_get fields k) r) none
     ∙ sym (or_none (is_met_below k fields o) (is_reached (slice_get fields k) None) (none_reached (slice_get fields k)))
 
--- There is no request where there is none that is early, and none that is later.
+-- There is no request if there is none that is early and none that is later.
 pub no_request : (o : Option Asked) → early_at o ≡ None → placed later_of o ≡ None → o ≡ None
 no_request None early later = refl
 no_request (Some asked) early later = by (later_of asked) early later

@@ -7,12 +7,12 @@ use Rattle.linda_hold.specs.declared.request.Request.{Request}
 use Rattle.linda_hold.specs.TicketIndex.{Tickets, Clients, number_in, number_at, AreUsed, Sets}
 use Rattle.linda_hold.proofs.NameLaws.{same_number, sets_number}
 
--- A change after another at the same place is the last alone.
+-- After two changes at the same place only the last one counts.
 pub changed_twice : {A : Type 0} (b : Bool) (first last old : A) → cond b last (cond b first old) ≡ cond b last old
 changed_twice true first last old = refl
 changed_twice false first last old = refl
 
--- No ticket stands in an empty map.
+-- No ticket is in an empty map.
 pub none_in_empty : (tickets : Tickets) → btree_map_len tickets ≡ 0 → (t : ℕ) → tree.get nat_cmp tickets t ≡ None
 none_in_empty tickets empty t = grind (arith, common_steps)
 
@@ -21,7 +21,7 @@ module _ (old new : Clients) (request : Request) (was : Tickets) (now : Option T
   clients : Sets (tree.get nat_cmp old) (tree.get nat_cmp new) request.client now
   clients = sets_number (tree.get nat_cmp old) (tree.get nat_cmp new) request.client now changed
 
-  -- Where the tickets of the client change at the ticket, the numbers change at the request.
+  -- If the tickets of the client change at the ticket, the numbers change at the request.
   pub sets_request : (number : Option ℕ) → Some was ≡ tree.get nat_cmp old request.client
       → ((t : ℕ) → number_in now t ≡ cond (is_eq (nat_cmp request.ticket t)) number (tree.get nat_cmp was t))
       → Sets (number_at old) (number_at new) request number
@@ -40,7 +40,7 @@ module _ (old new : Clients) (request : Request) (was : Tickets) (now : Option T
           ∙ tickets.apart q.ticket (λ t. other (λ i. record { client = same i; ticket = t i }))
           ∙ ap (λ o. number_in o q.ticket) (there ∙ ap (tree.get nat_cmp old) same)
 
-  -- Still no client stands there without a ticket, where this one does not.
+  -- Still no client is there without a ticket, if this one is not.
   pub used_still : ((tickets : Tickets) → now ≡ Some tickets → btree_map_len tickets ≡ 0 → ⊥) → AreUsed old → AreUsed new
   used_still live used client tickets is empty = by (same_number request.client client)
     where

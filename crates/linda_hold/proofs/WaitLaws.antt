@@ -66,7 +66,7 @@ own_reached a asked is =
 unkeyed_reached : (field : Option Atom) (asked : Asked) → first_of asked ≡ None → is_reached field (Some asked) ≡ true
 unkeyed_reached field asked is = or_right (is_some (keyed_at field (Some asked))) _ (ap (λ f. is_some (if_unkeyed f asked)) is)
 
--- Where the patterns fit the fields, the field at the position of the first value is that value.
+-- If the patterns fit the fields, the field at the position of the first value is that value.
 module _ (whole : List Atom) where
   value_there : (before : ℕ) (patterns : List Pattern) (fields : List Atom) (p : ℕ × Atom) → ((i : ℕ) → slice_get whole (before + i) ≡ slice_get fields i)
       → AllZip Fits patterns fields → value_from before patterns ≡ Some p → slice_get whole p.0 ≡ Some p.1

@@ -1,4 +1,4 @@
--- Requests: which of them are the same, and how one is stored where a model's value holds it.
+-- Requests: which of them are the same, and how one is stored in the value of a model.
 use Rattle.std.specs.Prelude.{ℕ, Bool, ◌==◌, ◌&&◌, refl}
 use Rattle.std.specs.Coded.{Coded, code_by, coded×, coded_ℕ}
 use Rattle.linda_hold.specs.declared.request.Request.{Request}

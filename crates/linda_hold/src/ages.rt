@@ -99,7 +99,7 @@ impl Ages {
         }
     }
 
-    /// How many seconds ago the number was noted; nothing if it is not.
+    /// How many seconds ago the number was noted; `None` if it is not.
     pub(crate) fn age(&self, number: u64) -> Option<u64>
         ensures { result ≡ age_at self.now number }
     {

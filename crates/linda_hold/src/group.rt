@@ -58,7 +58,7 @@ impl IdIndex<Asked> for Group {
         old: Option<&'a Asked>,
         new: &'a Asked,
     ) -> Result<(), AllocError> {
-        // What the number goes into alone may want memory, so it comes first.
+        // Only what the number goes into may need memory, so it comes first.
         match new.first() {
             Some(_) => {
                 self.firsts.put(alloc, id, old, new)?;

@@ -78,7 +78,7 @@ impl Holds {
         self.ages.set_second(second);
     }
 
-    /// For how many seconds the tuple is held; nothing if it is not, or if that was not noted.
+    /// For how many seconds the tuple is held; `None` if it is not, or if that was not noted.
     pub fn age(&self, id: u64) -> Option<u64> {
         self.ages.age(id)
     }

@@ -55,7 +55,7 @@ impl TicketIndex {
         }
     }
 
-    /// The least ticket of the client's requests; nothing if it has none.
+    /// The least ticket of the client's requests; `None` if it has none.
     pub(crate) fn first_ticket(&self, client: u32) -> Option<u64>
         ensures some { IfSome result (λ ticket.
             IsSome (number_at self.now.by_client (request_of client ticket))) }

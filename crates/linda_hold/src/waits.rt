@@ -233,7 +233,7 @@ impl Waits {
         }
     }
 
-    // The least ticket of the client's requests that wait; nothing if none does.
+    // The least ticket of the client's requests that wait; `None` if none does.
     fn first_ticket(&self, client: u32) -> Option<u64>
         ensures waits { IfSome result (λ ticket.
             is_waiting (request_of client ticket) self.now ≡ true) }

@@ -1,4 +1,4 @@
--- A bank that stands on a file.
+-- A bank that is stored on a file represents its state.
 use Rattle.std.proofs.Common.{◌≡◌, ℕ, List, subst}
 use Rattle.linda_tuple.specs.declared.form.Form.{Form}
 use Rattle.linda_store_state.specs.State.{State}

@@ -1,4 +1,4 @@
--- A bank that stands beside an empty disk.
+-- A bank that is stored beside an empty disk represents its state.
 use Rattle.std.proofs.Common.{◌≡◌, ◌∙◌, ℕ, Bool, true, false, List, [], ◌∷◌, sym, subst}
 use Rattle.linda_tuple.specs.declared.form.Form.{Form}
 use Rattle.linda_store_state.specs.State.{State}

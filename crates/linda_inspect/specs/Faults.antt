@@ -12,7 +12,7 @@ use Rattle.linda_inspect.specs.declared.fault.InspectFault.TheVariants as faults
 use Rattle.linda_inspect.specs.declared.fault.OutputFault.{OutputFault}
 use Rattle.linda_inspect.specs.declared.fault.OutputFault.TheVariants as outputs
 
--- Some state stands on the two.
+-- The two banks represent some state.
 abbrev pub MayStand : List ℕ → List ℕ → Type 0
 MayStand left right = (st : State) × Stands left right st
 

@@ -56,12 +56,12 @@ abbrev pub json_side : Bool → List ℕ
 json_side true = codes "\"right\""
 json_side false = codes "\"left\""
 
--- Why one of two stands.
+-- Why one of two is in use.
 abbrev pub json_why : Bool → List ℕ
 json_why true = codes "\"the greater generation\""
 json_why false = codes "\"the only bank\""
 
--- Which one stands, and why.
+-- Which one is in use, and why.
 abbrev pub json_standing : Bool → Bool → List ℕ
 json_standing right two =
     (codes ",\n\"stands\":" ++ json_side right) ++ (codes ",\n\"why\":" ++ json_why two)
@@ -83,7 +83,7 @@ json_bank form generation records used limit =
     json_bank_made form generation ++ json_bank_sizes records used limit
 
 -- The bytes are a bank in this form, of this generation, whose journal ends at this offset, and it
--- stands for the state.
+-- represents the state.
 pub record IsBankFor (file : List ℕ) (form : Form) (generation used : ℕ) (st : State)
     : Type 0 where
   pub opening : State
@@ -93,7 +93,7 @@ pub record IsBankFor (file : List ℕ) (form : Form) (generation used : ℕ) (st
       + length (spell_records form records) ≡ used
   pub done : AreDone opening (deeds_in records) st
 
--- The text is the object of two files on which a state stands, which begin so.
+-- The text is the object of two files that represent a state and begin so.
 pub record IsStanding (lists : Lists) (limit : ℕ) (left right : List ℕ) (one two : Heading)
     (text : List ℕ) : Type 0 where
   pub right_one : Bool
@@ -107,7 +107,7 @@ pub record IsStanding (lists : Lists) (limit : ℕ) (left right : List ℕ) (one
       ++ json_standing right_one (is_bank one && is_bank two)
       ++ json_bank form generation (length bank.records) used limit ++ json_state lists st
 
--- The text is the object of two files: both are empty, or a state stands on them.
+-- The text is the object of two files: both are empty, or they represent a state.
 pub record IsObject (lists : Lists) (limit : ℕ) (left right : List ℕ) (text : List ℕ)
     : Type 0 where
   pub one : Heading

@@ -78,7 +78,7 @@ impl<T: Drop> From<AllocFailed<T>> for OutputFault {
     }
 }
 
-/// What is returned where no bank was chosen.
+/// What is returned if no bank was chosen.
 pub(crate) fn of_choice(fault: ChoiceFault) -> InspectFault
     ensures { result ≡ fault_of_choice fault }
 {

@@ -106,7 +106,7 @@ fn write_new<W: Write>(writer: &mut W, head: Vec<u8>) -> Result<(), OutputFault>
     Ok(())
 }
 
-// The rest of the object of two files of which one stands, after its head.
+// The rest of the object of two files of which one is in use, after its head.
 fn write_standing<W: Write>(
     alloc: Global,
     writer: &mut W,

@@ -21,8 +21,8 @@ pub struct Lists {
 // Lines are written once they have so many bytes.
 const PIECE: usize = 65_536;
 
-/// Writes the next id and how much is kept; and where they are asked for the tuples by rising id,
-/// and the clients by rising number, each with its kept reply.
+/// Writes the next id and how much is kept; and, if they are asked for, the tuples by rising id and
+/// the clients by rising number, each with its kept reply.
 ///
 /// # Errors
 ///

@@ -17,7 +17,7 @@ use std::alloc::Global;
 use std::io::Write;
 
 /// Writes what two files of these bytes come to as the banks of a store, whose banks may have so
-/// many bytes: a line for each side, which one stands and why, and what it keeps. Where a bank is
+/// many bytes: a line for each side, which one is in use and why, and what it keeps. If a bank is
 /// damaged, what is whole before that.
 ///
 /// # Errors
@@ -32,11 +32,11 @@ pub fn write_report<W: Write>(
     limit: usize,
     lists: Lists,
 ) -> Result<(), InspectFault>
-    // It ends well only where a state stands on the two, or both are empty, where a server makes a
-    // store;
+    // It ends well only if the two represent a state, or if both are empty, in which case a server
+    // makes a store;
     ensures opens { OnOk result (((left.items ≡ []) × (right.items ≡ []))
         ⊎ MayStand left.items right.items) }
-    // and there nothing but memory that runs out and a failed output keeps it from that.
+    // and then only a fault that says nothing of the banks keeps it from that.
     ensures stands { (st : State) → Stands left.items right.items st → IfErr result IsOfOutput }
     ensures new { left.items ≡ [] → right.items ≡ [] → IfErr result IsOfOutput }
     // A fault is one of those bytes.
@@ -75,7 +75,7 @@ fn write_sides<W: Write>(
     write_lines(writer, &line)
 }
 
-// The lines of the bank that stands: of two, or alone.
+// The lines of the bank in use: one of two, or the only one.
 fn write_standing<W: Write>(
     alloc: Global,
     writer: &mut W,

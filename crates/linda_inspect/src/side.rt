@@ -8,7 +8,7 @@ use std::alloc::{AllocError, Global};
 ///
 /// # Errors
 ///
-/// `AllocError` where memory runs out.
+/// `AllocError` if memory runs out.
 pub(crate) fn side_line(alloc: Global, side: &str, bytes: &[u8]) -> Result<String, AllocError> {
     let len = bytes.len();
     match read_heading(bytes) {

@@ -18,7 +18,7 @@ use std::alloc::{AllocError, Global};
 const CUTS: usize = 2;
 
 /// The bank that is whole before a damage at this offset: the bytes before it, with a closed gate
-/// after them. Where these are damaged in their turn, those before that. None where no record or
+/// after them. If these are damaged in their turn, those before that. `None` if no record or
 /// snapshot is whole.
 ///
 /// # Errors

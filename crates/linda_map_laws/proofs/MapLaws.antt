@@ -115,12 +115,12 @@ module _ {X : Type 0} where
       ∙ ap (λ b. cond b w (tree.get nat_cmp old q)) ((eq_by_cmp_equiv nat_cmp_total).symm k q ∙ sym (unsigned_ties q k))
       ∙ ap (cond (q == k) w) (sym (get_is_lookup old q))
 
-  -- Where one key of a tree was set, the map has it inserted.
+  -- If one key of a tree was set, the map has it inserted.
   pub one_set : (old new : BTreeMap ℕ X) (k : ℕ) (v : X) → tree.Updates nat_cmp old new k (Some v)
       → from_entries {R = nat_cmp} new.entries ≡ insert (from_entries old.entries) k v
   one_set old new k v updates = same_map _ _ (λ q. updated old new k (Some v) updates q ∙ sym (get_inserted (from_entries old.entries) k v q))
 
-  -- Where one key was taken from a tree, the map has it removed.
+  -- If one key was taken from a tree, the map has it removed.
   pub one_gone : (old new : BTreeMap ℕ X) (k : ℕ) → tree.Updates nat_cmp old new k None
       → from_entries {R = nat_cmp} new.entries ≡ remove (from_entries old.entries) k
   one_gone old new k updates = same_map _ _ (λ q. updated old new k None updates q ∙ sym (get_removed (from_entries old.entries) k q))

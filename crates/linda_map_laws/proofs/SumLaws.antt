@@ -25,7 +25,7 @@ is_less Equal p = absurd p
 is_less Greater p = absurd p
 
 module _ {X : Type 0} where
-  -- The entries of a finite map stand by rising keys, as those of a `BTreeMap` do.
+  -- The entries of a finite map are in order of rising keys, as those of a `BTreeMap` are.
   below_keys : (k : ℕ) (es : List (ℕ × X)) → T (below_all nat_cmp k es) → AllByRecursion (λ y. nat_cmp k y ≡ Less) (keys_of es)
   below_keys k [] below = tt
   below_keys k (e ∷ es) below =

@@ -24,14 +24,14 @@ use Rattle.linda_pipe.specs.declared.fault.PipeFault.TheVariants as faults
 use Rattle.linda_pipe.specs.declared.exchange.Exchange.{Exchange}
 use Rattle.linda_pipe.specs.declared.line.TheConstants.{LINE_FEED}
 
--- more text behind the lines
+-- more text after the lines
 pub cut_more : (text more later : List ℕ) (lines : List (List ℕ)) → IsCut text lines more → IsCut (text ++ later) lines (more ++ later)
 cut_more text more later lines c = record {
   spelled = ap (λ t. t ++ later) c.spelled ∙ append_assoc (flat_map ended lines) more later;
   whole = c.whole;
 }
 
--- the same, behind a line feed
+-- the same, after a line feed
 cut_ended : (text line later : List ℕ) (lines : List (List ℕ)) → IsCut text lines line → IsCut (ended text ++ later) lines (ended line ++ later)
 cut_ended text line later lines c =
     subst (λ t. IsCut t lines (ended line ++ later)) (sym (append_assoc text (LINE_FEED ∷ []) later))
@@ -64,7 +64,7 @@ said_more said later sent old new one two =
     flat_map-append reply_line said later ∙ ap (λ l. l ++ flat_map reply_line later) one ∙ append_assoc sent old (flat_map reply_line later)
     ∙ ap (λ l. sent ++ l) (sym two)
 
--- a line was found behind the front of a text
+-- a line was found after the front of a text
 pub line_found : (front part later rest text : List ℕ) → text ≡ front ++ rest → rest ≡ part ++ LINE_FEED ∷ later → text ≡ (front ++ ended part) ++ later
 line_found front part later rest text e f =
     e ∙ ap (λ t. front ++ t) (f ∙ sym (append_assoc part (LINE_FEED ∷ []) later)) ∙ sym (append_assoc front (ended part) later)
@@ -73,15 +73,15 @@ pub read_line : (read front part : List ℕ) → ended ((read ++ front) ++ part)
 read_line read front part =
     append_assoc (read ++ front) part (LINE_FEED ∷ []) ∙ append_assoc read front (ended part)
 
--- ---- where it is over
+-- ---- when it is over
 
 module _ {first : Node} where
-  -- more of the text behind where it ended
+  -- more text after the place at which it ended
   pub over_more : (text more written : List ℕ) (result : Result Unit PipeFault) → IsOver first text written result → IsOver first (text ++ more) written result
   over_more text more written result o =
       λ later left. subst (λ t. HasEnded first t written left result) (sym (append_assoc text more later)) (o (more ++ later) left)
 
-  -- it was over behind a line of the text
+  -- it was over after a line of the text
   pub over_line : (read front part later rest text written : List ℕ) (result : Result Unit PipeFault) → text ≡ front ++ rest → rest ≡ part ++ LINE_FEED ∷ later
       → IsOver first (ended ((read ++ front) ++ part)) written result → IsOver first (read ++ text) written result
   over_line read front part later rest text written result e f o =
@@ -159,7 +159,7 @@ module _ {N : Type 0} {shown : N → Node} {first : Node} where
     out = sym u.out;
   }
 
-  -- the same, where more of the text was there
+  -- the same, if more of the text was there
   pub memory_ends_before : (text sent line more : List ℕ) (x : Exchange N) → IsAtLine shown first text sent line x
       → IsOver first (text ++ more) (sent ++ x.replies.items) (Err (faults.Memory (x.lines + 1)))
   memory_ends_before text sent line more x u =

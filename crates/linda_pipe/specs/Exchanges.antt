@@ -38,15 +38,15 @@ pub record IsEnded (first : Node) (read written : List ℕ) (left : Option (List
 
 -- The node of an exchange is shown so.
 module _ {N : Type 0} (shown : N → Node) where
-  -- The conversation over these bytes, in which this is said, began with that node and stands as
+  -- The conversation over these bytes, in which this is said, began with that node and is now as
   -- the exchange has it.
   abbrev pub HasTalked : Node → List ℕ → List Reply → Exchange N → Type 0
   HasTalked first bytes said x =
       IsConversation (beginning first) bytes said x.session.stage x.session.unread
       (point_of x.session (shown x.node))
 
-  -- A conversation in which `said` was said stands over these bytes now; what was said to the
-  -- newest of them is in the buffer.
+  -- A conversation in which `said` was said covers these bytes now; what was said to the newest of
+  -- them is in the buffer.
   pub record IsContinued (first : Node) (bytes : List ℕ) (said : List Reply) (goes_on : Bool)
       (old new : Exchange N) : Type 0 where
     pub later : List Reply

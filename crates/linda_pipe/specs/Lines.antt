@@ -3,7 +3,7 @@ use Rattle.std.specs.Prelude.{◌≡◌, ◌≢◌, ℕ, List, [], ◌∷◌, �
 use Rattle.std.specs.List.{flat_map}
 use Rattle.linda_pipe.specs.declared.line.TheConstants.{LINE_FEED}
 
--- no line feed stands among these bytes
+-- no line feed is among these bytes
 abbrev pub HasNoFeed : List ℕ → Type 0
 HasNoFeed bytes = All (λ b. b ≢ LINE_FEED) bytes
 

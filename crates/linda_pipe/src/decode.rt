@@ -8,7 +8,7 @@ ghost use Rattle.linda_pipe.specs.Hex.{digits_of, piece_of};
 use hex::FromHexError;
 use std::alloc::{AllocError, Global};
 
-/// What may stand at the end of a line, and is no part of it.
+/// What may be at the end of a line, and is no part of it.
 pub(crate) const CARRIAGE_RETURN: u8 = b'\r';
 
 /// The bytes that a line says, in digits of either case; a carriage return at its end is passed

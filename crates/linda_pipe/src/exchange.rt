@@ -22,7 +22,7 @@ use std::mem;
 
 /// A server, a connection to it, and the texts on both sides that are not done yet.
 ///
-/// Contracts say how it stands by `IsUnderway`: all whole lines of the text so far were answered,
+/// Contracts say how far it is by `IsUnderway`: all whole lines of the text so far were answered,
 /// and the replies are those that were sent and those in the buffer. What the server was at first
 /// is `first` there.
 #[derive(Drop)]
@@ -120,8 +120,8 @@ impl<N: Node> Exchange<N> {
         Ok(true)
     }
 
-    // Takes the end of a line. If nothing of the line came before, it is decoded where it stands,
-    // and is reported as not hexadecimal even if memory is short.
+    // Takes the end of a line. If nothing of the line came before, it is decoded in place, and is
+    // reported as not hexadecimal even if memory is short.
     fn take_end(&mut self, alloc: Global, end: &[u8]) -> Result<bool, PipeFault>
         requires few { self.old.lines + 1 < 2 ^ 64 }
         requires no_feed { HasNoFeed end.now }

@@ -5,8 +5,8 @@
 //! replies to the lines before are written, or some first bytes of them if the output failed.
 //! `specs/Piping` says all of it.
 //!
-//! What other commands need stands here as well: `extend_line` and `without_return`, which cut a
-//! text into lines while its pieces arrive, and the exit statuses `REFUSED` and `BAD_LINE`.
+//! What other commands need is here as well: `extend_line` and `without_return`, which cut a text
+//! into lines while its pieces arrive, and the exit statuses `REFUSED` and `BAD_LINE`.
 #![tactic(auto)]
 
 mod decode;

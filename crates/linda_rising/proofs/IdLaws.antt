@@ -10,7 +10,7 @@ use Rattle.linda_rising.specs.Rows.{Rises, IsPlace}
 abbrev pub IsAbsent : List ℕ → ℕ → Type 0
 IsAbsent ids id = (j : ℕ) → j < length ids → get_or ids j 0 ≢ id
 
--- Where there is an id at a place, it is not lower than this one, and not this one: so it is higher.
+-- Each id from the place on is not lower than this one, and not this one: so it is higher.
 pub higher_there : (ids : List ℕ) (id at : ℕ) → IsPlace ids id at → IsAbsent ids id → (k : ℕ) → at ≤ k → k < length ids → id < get_or ids k 0
 higher_there ids id at place absent k le l =
     elim (cases_order id (get_or ids k 0)) [

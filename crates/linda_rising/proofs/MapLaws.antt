@@ -30,7 +30,7 @@ module _ {T : Type 0} where
       ∙ ap (λ o. if q == id then None else o) (sym (get_at old q))
       ∙ sym (get_removed (from_entries old) id q))
 
-  -- Where a row is found, there is one at least.
+  -- If a row is found, there is at least one.
   pub len_some : (rows : List (ℕ × T)) (id : ℕ) (v : T) → at rows id ≡ Some v → 1 ≤ len (from_entries {R = nat_cmp} rows)
   len_some rows id v there = by (len (from_entries {R = nat_cmp} rows)) refl
     where

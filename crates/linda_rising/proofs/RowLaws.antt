@@ -45,7 +45,7 @@ module _ {T : Type 0} where
   none_there [] id absent = refl
   none_there (row ∷ rows) id absent = grind (arith, nat_tests, absent 0 (omega arith), none_there rows id (λ j within. absent (suc j) (omega arith)))
 
-  -- Where an id is not found, no row has it.
+  -- If an id is not found, no row has it.
   pub absent_there : (rows : List (ℕ × T)) (id : ℕ) → at rows id ≡ None → IsAbsent (ids_of rows) id
   absent_there [] id none j within same = omega arith
   absent_there (row ∷ rows) id none zero within same = not_none row.1 (sym (grind (arith, nat_tests)) ∙ none)
@@ -267,7 +267,7 @@ module _ {T : Type 0} where
       first : get_or (ids_of rows) h 0 ≡ e.0
       first = id_there rows h e within ∙ ap (λ x. x.0) (sym here)
 
-  -- Nothing changes, where the id has no row.
+  -- Nothing changes if the id has no row.
   pub sets_none : (rows : List (ℕ × T)) (id : ℕ) → at rows id ≡ None → Sets rows rows id None
   sets_none rows id none q = by (q == id) refl
     where

@@ -59,7 +59,7 @@ module _ {T : Type 0} where
       later = next_under id i next is from;
     }
 
-    -- Rows of the next block, where that one has none from the id on.
+    -- Rows of the next block, if the block for the id has none from the id on.
     pub run_next : (id i : ℕ) (rows : List (ℕ × T)) (next : Option ℕ) → IsFor bs id i → ((q : ℕ) → id ≤ q → at (get_or bs i (0, [])).1 q ≡ None)
         → i + 1 < length bs → IsRun id rows → ((q : ℕ) → id ≤ q → at rows q ≡ at (get_or bs (i + 1) (0, [])).1 q)
         → IsFrom bs (i + 1 + 1) next → Begins (at (all_rows bs)) id rows next
@@ -100,7 +100,7 @@ module _ {T : Type 0} where
             let low = block_begins bs (i + 1) key.0 rising within key.1 in
             some_rows rows key.0 (ap is_some (same key.0 (omega (arith, high, low))) ∙ key.1)
 
-    -- No row, where the last block has none from the id on.
+    -- No row, if the last block has none from the id on.
     pub run_none : (id i : ℕ) → IsFor bs id i → ((q : ℕ) → id ≤ q → at (get_or bs i (0, [])).1 q ≡ None)
         → length bs ≤ i + 1 → (q : ℕ) → id ≤ q → at (all_rows bs) q ≡ None
     run_none id i is none last q le =

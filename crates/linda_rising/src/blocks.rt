@@ -127,8 +127,8 @@ pub(crate) fn remove<T: Drop>(blocks: &mut VecDeque<Block<T>>, id: u64) -> Optio
     remove_at(blocks, place, id)
 }
 
-// Where the block is that may have a row under the id, or get it: the last one that begins at or
-// below the id, else the first. The last one and the first are tried before a search.
+// The place of the block that may have a row under the id, or get it: the last one that begins at
+// or below the id, else the first. The last one and the first are tried before a search.
 fn place_of<T>(blocks: &VecDeque<Block<T>>, id: u64) -> usize
     requires rising { IsRising blocks.now.items }
     requires some { 0 < length blocks.now.items }

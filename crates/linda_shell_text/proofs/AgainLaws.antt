@@ -31,7 +31,7 @@ use Rattle.linda_shell_text.proofs.EventLaws.{rest_at}
 
 -- ---- how a text of an event begins
 
--- A keyword, and what stands after it.
+-- A keyword, and what comes after it.
 abbrev HasWord : List ℕ → Type 0
 HasWord text = (k : Keyword) × (tail : List ℕ) × (text ≡ keyword_text k ++ tail)
 
@@ -87,7 +87,7 @@ more_ends (and_tree t ts) text rest (before, between, next, others, spaces, more
 
 -- ---- nodes
 
--- A keyword, and what stands after it.
+-- A keyword, and what comes after it.
 node_again : (k : Keyword) (t : Tree) (room : ℕ) (text tail rest : List ℕ) → text ≡ keyword_text k ++ tail → EndsWord tail → EndsWord rest
     → node_at (event_at room) k (tail ++ rest) ≡ Ok (t, rest) → event_at (suc room) (text ++ rest) ≡ Ok (t, rest)
 unfolding event_at
@@ -157,7 +157,7 @@ more_long (and_tree t ts) text (before, between, next, others, spaces, more, is,
     length-append before (COMMA ∷ (between ++ (next ++ others))) in
     omega (arith, ap length parts, rest, behind, inner, all)
 
--- What stands after a member is read as these members.
+-- What comes after a member is read as these members.
 abbrev MoreAgain : ℕ → Trees → List ℕ → List ℕ → Type 0
 MoreAgain room ts text rest =
     (n : ℕ) → count ts ≤ n → (more : Bool × List ℕ) × (mark_at (after_blanks (text ++ rest)) ≡ Ok more)

@@ -55,7 +55,7 @@ only_again bytes t (within, (behind, spaces, (blanks, text, more, is, parts))) =
 pub alone_only : (bytes : List ℕ) (b : Tree) → only_event bytes ≡ Ok b → (a : Tree) → IsEventAlone bytes a → a ≡ b
 alone_only bytes b e a alone = ok_is a b (sym (only_again bytes a alone) ∙ e)
 
--- Where an event stands there, the only fault is `Memory`.
+-- If an event is all there is, the only fault is `Memory`.
 pub alone_no_fault : (bytes : List ℕ) (n : ℕ) (fault told : EventTextFault)
     → (fault ≢ Text Memory → only_event bytes ≡ Err fault) → told ≡ settled_fault n fault
     → (a : Tree) → IsEventAlone bytes a → told ≢ Text Memory → ⊥

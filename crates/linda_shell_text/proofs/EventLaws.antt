@@ -115,11 +115,11 @@ under_node k make texts sound high room takes bytes x ends e =
 
 -- ---- members
 
--- A member, and what stands after it.
+-- A member, and what comes after it.
 abbrev AreSome : Tree → Trees → List ℕ → Type 0
 AreSome t ts text = (blanks first rest : List ℕ) × AreBlanks blanks × IsEventText t first × AreMore ts rest × (text ≡ blanks ++ (first ++ rest))
 
--- Bytes begin with what stands after a member.
+-- The bytes begin with what comes after a member.
 abbrev HasMore : ℕ → List ℕ → List Tree × List ℕ → Type 0
 HasMore room bytes x = (text : List ℕ) × AreMore (members_of x.0) text × AreSoundEvents (members_of x.0)
     × (height_of_all (members_of x.0) ≤ room) × (bytes ≡ text ++ x.1)

@@ -20,7 +20,7 @@ use Rattle.linda_shell_text.specs.Words.{keyword_text, EndsWord, candidate, chos
 
 -- ---- ends of words
 
--- What stands before an end of a word ends it, and so does its front.
+-- If bytes end a word, the front of these bytes ends it too.
 pub ends_front : (xs ys : List ℕ) → EndsWord (xs ++ ys) → EndsWord xs
 ends_front [] ys e = tt
 ends_front (b ∷ xs) ys e = e
@@ -29,7 +29,7 @@ pub ends_both : (xs ys : List ℕ) → EndsWord xs → EndsWord ys → EndsWord 
 ends_both [] ys e f = f
 ends_both (b ∷ xs) ys e f = e
 
--- Where a word ends, a numeral does.
+-- What ends a word ends a numeral.
 pub ends_numeral : (rest : List ℕ) → EndsWord rest → EndsNumeral rest
 ends_numeral [] e = tt
 ends_numeral (b ∷ rest) e =
@@ -202,7 +202,7 @@ pub close_again : (blanks rest : List ℕ) → AreBlanks blanks → mark_at (aft
 unfolding mark_at after_blanks
 close_again blanks rest all = rw (blanks_again blanks (CLOSING_BRACKET ∷ rest) all) refl
 
--- What stands after an opening bracket: members, or the closing bracket.
+-- What comes after an opening bracket: members, or the closing bracket.
 abbrev pub opened : Bool × List ℕ → List ℕ
 opened (true, rest) = rest
 opened (false, rest) = CLOSING_BRACKET ∷ rest

@@ -10,7 +10,7 @@ use Rattle.linda_shell_text.specs.declared.keyword.Keyword.TheVariants as keywor
 use Rattle.linda_shell_text.specs.Words.{keyword_text, EndsWord}
 use Rattle.linda_shell_text.specs.Limits.{IsWithinEvent}
 
--- A word and what stands after it, with blanks between them or none; one at least where a letter
+-- A word and what comes after it, with blanks between them or none; at least one blank if a letter
 -- or digit would follow.
 abbrev pub Begins : List ℕ → (List ℕ → Type 0) → List ℕ → Type 0
 Begins word IsRest text =
@@ -49,7 +49,7 @@ abbrev mutual
       × IsEventText member first × AreMore others rest
       × (text ≡ OPENING_BRACKET ∷ (blanks ++ (first ++ rest)))
 
-  -- What stands after a member: a comma and the next one, or the closing bracket.
+  -- What comes after a member: a comma and the next one, or the closing bracket.
   pub AreMore : Trees → List ℕ → Type 0
   AreMore no_trees text =
       (blanks : List ℕ) × AreBlanks blanks × (text ≡ blanks ++ CLOSING_BRACKET ∷ [])

@@ -38,7 +38,7 @@ under_at make below bytes = do
   event ← below (after_blanks label.1)
   Ok (make label.0 event.0, event.1)
 
--- What stands after a keyword, with the reader of the events below it.
+-- What comes after a keyword, with the reader of the events below it.
 abbrev pub node_at : Reader Tree → Keyword → Reader Tree
 node_at below keywords.In bytes = made (λ t. leaf (input t)) (lifted (template_at bytes))
 node_at below keywords.Rd bytes = made (λ t. leaf (read t)) (lifted (template_at bytes))

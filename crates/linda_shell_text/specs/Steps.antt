@@ -1,5 +1,4 @@
--- Reading an event from left to right, by the steps of linda_codec, where the faults are those of
--- events.
+-- Reading an event from left to right, by the steps of linda_codec, with the faults of events.
 use Rattle.std.specs.Prelude.{ℕ, List, Result, Ok, Err}
 use Rattle.linda_codec.specs.Steps.{ReadOr, GivesUnless, GivesWithout}
 use Rattle.linda_text.specs.declared.fault.TextFault.{TextFault}
@@ -28,7 +27,7 @@ abbrev pub GivesAlways : {X Y : Type 0} → (X → Y) → Result X EventTextFaul
     → Result Y EventTextFault → Type 0
 GivesAlways view result read = GivesWithout (Text Memory) view result read
 
--- A fault given by its offset, where so many bytes were there in all.
+-- A fault given by its offset, if there were so many bytes in all.
 abbrev pub settled_fault : ℕ → EventTextFault → EventTextFault
 settled_fault n (Text fault) = Text (placed n fault)
 settled_fault n TooManyNested = TooManyNested

@@ -27,12 +27,12 @@ keyword_text keywords.Choose = codes "choose"
 keyword_text keywords.Wrap = codes "wrap"
 keyword_text keywords.Nack = codes "nack"
 
--- No letter or digit stands at the front: where one does, a keyword or a number before it runs on.
+-- No letter or digit is at the front: with one there, a keyword or a number before it would go on.
 abbrev pub EndsWord : List ℕ → Type 0
 EndsWord [] = Unit {0}
 EndsWord (b ∷ rest) = is_ascii_alphanumeric b ≡ false
 
--- ---- which keyword may stand at the front: two begin with `a`, and two with `n`
+-- ---- which keyword may be at the front: two begin with `a`, and two with `n`
 
 -- Whether the third letter of what begins with `a` is that of `always`; here are those after the
 -- first.
@@ -66,7 +66,7 @@ candidate (b ∷ rest) =
 
 -- ---- reading
 
--- The bytes, where no letter or digit stands at their front.
+-- The bytes, if no letter or digit is at their front.
 unfoldable pub word_end : List ℕ → Result (List ℕ) TextFault
 word_end [] = Ok []
 word_end (b ∷ rest) =
@@ -105,13 +105,13 @@ front_number_at bytes = do
   behind ← word_end number.1
   Ok (number.0, after_blanks behind)
 
--- What is read is found, and nothing is where that is a fault.
+-- What is read is found, and none is found if reading gives a fault.
 abbrev pub Finds : {X Y : Type 0} → (X → Y) → Option X → Result Y TextFault → Type 0
 Finds view (Some x) read = read ≡ Ok (view x)
 Finds view None read = (fault : TextFault) × (read ≡ Err fault)
 
--- Whether members follow an opening bracket, and what stands there; or what stands after the
--- closing one.
+-- Whether members follow an opening bracket, and the bytes from the first one on; or those after
+-- the closing bracket.
 abbrev pub inside : List ℕ → Bool × List ℕ
 inside [] = (true, [])
 inside (b ∷ rest) = if b == CLOSING_BRACKET then (false, rest) else (true, b ∷ rest)

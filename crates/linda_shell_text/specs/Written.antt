@@ -22,7 +22,7 @@ written_base (alarm time) = written_behind keywords.Alarm (decimal time)
 written_base (always value) = written_behind keywords.Always (written_atom value)
 written_base never = keyword_text keywords.Never
 
--- What stands between two members, and nothing before the first one.
+-- What comes between two members; nothing before the first one.
 abbrev pub written_comma : Bool → List ℕ
 written_comma true = []
 written_comma false = COMMA ∷ SPACE ∷ []

@@ -23,16 +23,17 @@ use std::alloc::Global;
 ///
 /// # Errors
 ///
-/// The first fault from the left: one of texts, or `TooManyNested` where a node would stand under
-/// 1,000 others; `Text(Memory)` where an event stands there and finds none.
+/// The first fault from the left: one of texts, or `TooManyNested` if a node would be under 1,000
+/// others; `Text(Memory)` if the text is an event and there is no memory for it.
 pub fn read_event(alloc: Global, text: &str) -> Result<Event, EventTextFault>
-    // What is read stands there.
+    // The event that is read is all there is, but for blanks.
     ensures found { IfOk result (λ event. IsEventAlone text.now (tree_of event)) }
-    // What stands there is read, unless memory runs out: so a text is refused only where none does.
+    // If an event is all there is, it is read, unless memory runs out: so a text is refused only if
+    // it is no event.
     ensures only { (event : Tree) → IsEventAlone text.now event → Gives tree_of result (Ok event) }
     // Which fault it is, and where.
     ensures exact { Gives tree_of result (told (length text.now) (only_event text.now)) }
-    // Memory runs out only where an event stands there.
+    // Memory runs out only if an event is all there is.
     ensures memory { IsErrOf result (Text Memory) → (event : Tree) × IsEventAlone text.now event }
 {
     match only_event(alloc, text) {
@@ -53,7 +54,7 @@ fn only_event(alloc: Global, text: &str) -> Result<Event, EventTextFault>
 }
 
 impl EventTextFault {
-    // The fault given by its offset, where it counts the bytes left of so many.
+    // The fault given by its offset, if it counts the bytes left of so many.
     fn placed(self, len: usize) -> EventTextFault
         ensures value { result ≡ settled_fault len self }
         ensures memory { result ≡ Text Memory → self ≡ Text Memory }

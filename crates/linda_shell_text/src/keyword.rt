@@ -43,7 +43,7 @@ impl Keyword {
     }
 }
 
-/// The keyword at the front, after which no letter or digit stands, and the bytes after it.
+/// The keyword at the front, which no letter or digit follows, and the bytes after it.
 #[tactic(auto, unfolding(crate::specs::Words::keyword_at))]
 pub(crate) fn read_keyword(bytes: &[u8]) -> Result<(Keyword, &[u8]), TextFault>
     ensures { GivesAlways (λ x. (x.0, x.1.now)) result (keyword_at bytes.now) }
@@ -57,7 +57,7 @@ pub(crate) fn read_keyword(bytes: &[u8]) -> Result<(Keyword, &[u8]), TextFault>
     }
 }
 
-// Which keyword may stand at the front.
+// Which keyword may be at the front.
 #[tactic(auto, unfolding(crate::specs::Words::candidate))]
 fn candidate(bytes: &[u8]) -> Option<Keyword>
     ensures { result ≡ candidate bytes.now }

@@ -14,7 +14,7 @@ use std::alloc::{AllocError, Global};
 ///
 /// # Errors
 ///
-/// `AllocError` where memory runs out.
+/// `AllocError` if memory runs out.
 pub fn write_message(alloc: Global, message: &Message) -> Result<String, AllocError>
     ensures { IfOk result (λ s. string_bytes s ≡ message_words message.now) }
 {
@@ -68,7 +68,7 @@ fn ask_words(
 ///
 /// # Errors
 ///
-/// `AllocError` where memory runs out.
+/// `AllocError` if memory runs out.
 pub fn write_reply(alloc: Global, reply: &Reply) -> Result<String, AllocError>
     ensures { IfOk result (λ s. string_bytes s ≡ reply_words reply.now) }
 {
@@ -88,7 +88,7 @@ pub fn write_reply(alloc: Global, reply: &Reply) -> Result<String, AllocError>
 ///
 /// # Errors
 ///
-/// `AllocError` where memory runs out.
+/// `AllocError` if memory runs out.
 pub fn words_of_entry(
     alloc: Global,
     word: &str,

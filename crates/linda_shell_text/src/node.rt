@@ -42,7 +42,7 @@ pub(crate) fn build_event(
     }
 }
 
-// What stands after the keyword of an input, and the bytes after it.
+// What comes after the keyword of an input, and the bytes after that.
 fn build_input(alloc: Global, bytes: &[u8]) -> Result<(Event, &[u8]), EventTextFault>
     ensures { Gives (λ x. (tree_of x.0, x.1.now)) result
         (made (λ t. leaf (input t)) (lifted (template_at bytes.now))) }

@@ -28,7 +28,7 @@ use std::alloc::{AllocError, Global};
 ///
 /// # Errors
 ///
-/// `AllocError` where memory runs out.
+/// `AllocError` if memory runs out.
 pub fn write_outcome(alloc: Global, client: u32, outcome: &Outcome) -> Result<String, AllocError>
     ensures { IfOk result (λ s. string_bytes s ≡ line_of client (outcome_words outcome.now)) }
 {
@@ -43,7 +43,7 @@ pub fn write_outcome(alloc: Global, client: u32, outcome: &Outcome) -> Result<St
 ///
 /// # Errors
 ///
-/// `AllocError` where memory runs out.
+/// `AllocError` if memory runs out.
 pub fn write_refusal(
     alloc: Global,
     client: u32,
@@ -86,7 +86,7 @@ fn push_refused(line: &mut String, words: &str) -> Result<(), AllocError>
 ///
 /// # Errors
 ///
-/// `AllocError` where memory runs out.
+/// `AllocError` if memory runs out.
 pub fn write_fault(alloc: Global, client: u32, fault: (u32, u8, u64)) -> Result<String, AllocError>
     ensures { IfOk result (λ s. string_bytes s
         ≡ line_of client (fault_words fault.0 fault.1 fault.2)) }

@@ -19,13 +19,13 @@ pub enum Request {
     Leave,
 }
 
-/// What a line of one client asks for, `out TUPLE`, `sync EVENT` or `leave`: nothing, where it is
-/// empty or begins with `#`; `None` inside where it is no such line. A line has no line feed and no
+/// What a line of one client asks for, `out TUPLE`, `sync EVENT` or `leave`: `None` if it is empty
+/// or begins with `#`, and `Some(None)` if it is no such line. A line has no line feed and no
 /// carriage return at its end.
 ///
 /// # Errors
 ///
-/// `AllocError` where memory runs out.
+/// `AllocError` if memory runs out.
 pub fn read_request(alloc: Global, line: &[u8]) -> Result<Option<Option<Request>>, AllocError> {
     match line {
         [] => Ok(None),

@@ -7,7 +7,7 @@ ghost use Rattle.linda_shell_text.specs.Words.{word_end, label_at, open_at, mark
 use crate::marks::{CLOSING_BRACKET, OPENING_BRACKET};
 use linda_text::{COMMA, TextFault, skip_blanks, skip_word, split_number};
 
-/// The bytes, where no letter or digit stands at their front.
+/// The bytes, if no letter or digit is at their front.
 #[tactic(auto, unfolding(crate::specs::Words::word_end))]
 pub(crate) fn end_word(bytes: &[u8]) -> Result<&[u8], TextFault>
     ensures { GivesAlways (λ rest. rest.now) result (word_end bytes.now) }
@@ -23,7 +23,7 @@ pub(crate) fn end_word(bytes: &[u8]) -> Result<&[u8], TextFault>
     }
 }
 
-/// A number after blanks, after which no letter or digit stands, and the bytes after it.
+/// A number after blanks, which no letter or digit follows, and the bytes after it.
 #[tactic(auto, unfolding(crate::specs::Words::label_at))]
 pub(crate) fn read_label(bytes: &[u8]) -> Result<(u64, &[u8]), TextFault>
     ensures { GivesAlways (λ x. (x.0, x.1.now)) result (label_at bytes.now) }
@@ -32,7 +32,7 @@ pub(crate) fn read_label(bytes: &[u8]) -> Result<(u64, &[u8]), TextFault>
     Ok((number, end_word(rest)?))
 }
 
-/// Whether members stand after the opening bracket after the blanks, and the bytes from the first
+/// Whether members follow the opening bracket that comes after blanks, and the bytes from the first
 /// one on; or those after the closing bracket.
 #[tactic(auto, unfolding(crate::specs::Words::open_at))]
 pub(crate) fn open_list(bytes: &[u8]) -> Result<(bool, &[u8]), TextFault>
@@ -46,7 +46,7 @@ pub(crate) fn open_list(bytes: &[u8]) -> Result<(bool, &[u8]), TextFault>
     }
 }
 
-/// Whether a comma stands after the blanks, or the closing bracket; and the bytes after it.
+/// Whether a comma comes after blanks, and not the closing bracket; and the bytes after it.
 #[tactic(auto, unfolding(crate::specs::Words::mark_at))]
 pub(crate) fn read_mark(bytes: &[u8]) -> Result<(bool, &[u8]), TextFault>
     ensures { GivesAlways (λ x. (x.0, x.1.now)) result (mark_at (after_blanks bytes.now)) }

@@ -6,8 +6,8 @@ ghost use Rattle.linda_shell_text.specs.Words.{behind_word_at, front_number_at, 
 use crate::token::end_word;
 use linda_text::{TextFault, skip_blanks, skip_word, split_number};
 
-/// The number at the front of the text, after which no letter or digit stands, and what stands
-/// after it and after blanks; `None` where there is none, or it has more than 64 bits.
+/// The number at the front of the text, which no letter or digit follows, and the bytes after it
+/// and after blanks; `None` if there is none, or if it has more than 64 bits.
 pub fn number_in(text: &[u8]) -> Option<(u64, &[u8])>
     ensures { Finds (λ x. (x.0, x.1.now)) result (front_number_at text.now) }
 {
@@ -17,8 +17,8 @@ pub fn number_in(text: &[u8]) -> Option<(u64, &[u8])>
     }
 }
 
-/// What stands after the word, after which no letter or digit stands, and after blanks; `None`
-/// where the text does not begin with it.
+/// The bytes after the word, which no letter or digit follows, and after blanks; `None` if the text
+/// does not begin with it.
 pub fn behind_word<'a>(text: &'a [u8], word: &[u8]) -> Option<&'a [u8]>
     ensures { Finds (λ rest. rest.now) result (behind_word_at word.now text.now) }
 {
@@ -28,7 +28,7 @@ pub fn behind_word<'a>(text: &'a [u8], word: &[u8]) -> Option<&'a [u8]>
     }
 }
 
-// The number at the front, after which it ends, and what stands after blanks.
+// The number at the front, which ends there, and the bytes after it and after blanks.
 #[tactic(auto, unfolding(crate::specs::Words::front_number_at))]
 fn front_number(text: &[u8]) -> Result<(u64, &[u8]), TextFault>
     ensures { GivesAlways (λ x. (x.0, x.1.now)) result (front_number_at text.now) }
@@ -37,7 +37,7 @@ fn front_number(text: &[u8]) -> Result<(u64, &[u8]), TextFault>
     Ok((number, skip_blanks(end_word(rest)?)))
 }
 
-// What stands after the word, after which it ends, and after blanks.
+// The bytes after the word, which ends there, and after blanks.
 #[tactic(auto, unfolding(crate::specs::Words::behind_word_at))]
 fn skip_spaced_word<'a>(text: &'a [u8], word: &[u8]) -> Result<&'a [u8], TextFault>
     ensures { GivesAlways (λ rest. rest.now) result (behind_word_at word.now text.now) }

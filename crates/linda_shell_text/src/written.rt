@@ -22,7 +22,7 @@ use std::alloc::{AllocError, Global};
 ///
 /// # Errors
 ///
-/// `AllocError` where memory runs out.
+/// `AllocError` if memory runs out.
 pub fn write_event(alloc: Global, event: &Event) -> Result<String, AllocError>
     ensures { IfOk result (λ s. string_bytes s ≡ written_event (tree_of event.now)) }
 {
@@ -92,7 +92,7 @@ fn push_value(out: &mut String, value: &Atom) -> Result<(), AllocError>
     push_atom(out, value)
 }
 
-// What stands before the members of a choice.
+// What comes before the members of a choice.
 fn push_opening(out: &mut String) -> Result<(), AllocError>
     ensures { OnOk result (IsWrittenBehind out.old out.new
         (written_behind Choose (OPENING_BRACKET ∷ []))) }
@@ -111,7 +111,7 @@ fn push_label(out: &mut String, keyword: Keyword, number: u64) -> Result<(), All
     out.push_str(" ")
 }
 
-// What stands before a member of a choice.
+// What comes before a member of a choice.
 fn push_comma(out: &mut String, first: bool) -> Result<(), AllocError>
     ensures { OnOk result (IsWrittenBehind out.old out.new (written_comma first)) }
 {

@@ -1,4 +1,4 @@
--- One record more on the bank in use: what stands then.
+-- One more record on the bank in use: which state the bank represents then.
 use Rattle.std.proofs.Common.{◌≡◌, ℕ, ◌⊎◌, inl, inr, List, [], ◌∷◌, ◌++◌, refl, sym, ap, subst, append_assoc, append-nil}
 use Rattle.std.proofs.lemmas.List.{flat_map_more}
 use Rattle.linda_tuple.specs.declared.form.Form.{Form}
@@ -13,7 +13,7 @@ use Rattle.linda_journal.specs.Bank.{IsSettled, IsOldOrMore}
 use Rattle.linda_snap.specs.Snapshot.{spell_state}
 use Rattle.linda_snap.specs.Stands.{deeds_in, IsInUse, IsUp}
 
--- Deeds that go on where others ended are done as one list.
+-- Deeds that begin in the state in which others ended are done with them as one list.
 pub joined_done : (st mid new : State) (ds es : List Deed) → IsState st → AreDone st ds mid → AreDone mid es new → AreDone st (ds ++ es) new
 joined_done st mid new ds [] is first second =
     let same : mid ≡ new = one_after mid [] mid new (none_after mid (proper_state st mid ds is first.proper first.after)) second.after in
@@ -41,7 +41,7 @@ more_from : (opening st new : State) (records : List (List Deed)) (ds : List Dee
 more_from opening st new records ds ranges first second =
     subst (λ l. AreDone opening l new) (deeds_more records ds) (joined_done opening st new (deeds_in records) ds ranges first second)
 
--- What an append leaves of the bank in use stands for the old state, or for the new one.
+-- What an append leaves of the bank in use represents the old state or the new one.
 pub stands_with : (file other : List ℕ) (st new : State) (ds : List Deed) (used : IsInUse file other st) → AreDone st ds new → (image : List ℕ)
     → IsOldOrMore used.stands.form used.generation (spell_state used.stands.form used.stands.opening) used.stands.records ds image
     → IsInUse image other st ⊎ IsInUse image other new

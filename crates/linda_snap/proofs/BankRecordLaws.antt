@@ -69,7 +69,7 @@ piece_written s since most left piece front new st none gone f left_is piece_is 
       whole = f.whole;
     }
 
--- What stands behind the heading.
+-- What comes after the heading.
 headed : (generation : ℕ) (body rest : List ℕ) → heading generation (length body) ++ (body ++ rest) ≡ behind_gate written generation body ++ rest
 headed generation body rest =
     let n = number.spell generation in

@@ -65,7 +65,7 @@ Has mine last whole book = (c : ℕ) → get mine c ≡ cond (whole || nat_lt c 
 pub none_yet : (mine book : Clients) → mine ≡ empty → Has mine None false book
 none_yet mine book is c = ap (λ m. get m c) is ∙ get_empty c ∙ sym (ap (λ b. cond b (get book c) None) (le-ltb c 0 (omega arith)))
 
--- The first client behind those that are copied is copied too.
+-- The first client after those that are copied is copied too.
 pub one_more : (old now book : Clients) (last : Option ℕ) (key : ℕ) (e : Entry) → Has old last false book → get book key ≡ Some e
     → first_after last ≤ key → ((c : ℕ) → first_after last ≤ c → c < key → get book c ≡ None) → now ≡ insert old key e → Has now (Some key) false book
 one_more old now book last key e so_far there le least is c = ap (λ m. get m c) is ∙ by

@@ -14,7 +14,7 @@ use Rattle.linda_snap.specs.declared.renewal.SwitchFault.TheVariants as switches
 use Rattle.linda_snap.specs.Switch.{fault_of_disk}
 use Rattle.linda_snap.specs.Choice.{fault_of_device, fault_on, IsUnrecovered}
 
--- A device's fault, returned as what it is, tells of the count.
+-- A disk's fault, reported as what it is, agrees with the count of failures.
 pub device_told : {T : Type 0} (fault : DiskFault) (old new : ℕ) → CountsFailure {T = T} (Err fault) old new
     → TellsFailures choices.Disk (fault_of_device fault) old new
 device_told Device old new counts = record {
@@ -23,11 +23,11 @@ device_told Device old new counts = record {
 }
 device_told Memory old new counts = record { cause = λ is. cc; others = λ _. counts.memory refl }
 
--- A fault of no device tells that the count stayed.
+-- A fault that is not the device's agrees with a count that stayed.
 pub none_told : {F : Type 0} (device told : F) (old new : ℕ) → told ≢ device → new ≡ old → TellsFailures device told old new
 none_told device told old new not same = record { cause = λ is. absurd (not is); others = λ _. same }
 
--- What one disk's fault tells is told of two, where the other one's count stayed.
+-- If the fault agrees with one disk's count and the other one's count stayed, it agrees with the counts of both.
 pub left_told : {F : Type 0} (device told : F) (left left_new right right_new : ℕ)
     → TellsFailures device told left left_new → right_new ≡ right → TellsFailuresOfTwo device told left right left_new right_new
 left_told device told left left_new right right_new tells other = record {
@@ -42,7 +42,7 @@ right_told device told left left_new right right_new other tells = record {
   others = λ not. (other, tells.others not);
 }
 
--- The fault of the bank on a side is the device's exactly where the bank's is.
+-- The fault that is reported for the bank on a side is the device's exactly if the bank's fault is.
 pub side_failed : (right : Bool) (fault : BankFault) (told : ChoiceFault) → told ≡ fault_on right fault → (told ≡ choices.Disk) ↔ (fault ≡ banks.Disk)
 side_failed right banks.Spent told same = ((λ is. cc), (λ is. cc))
 side_failed right banks.Full told same = ((λ is. cc), (λ is. cc))
@@ -56,7 +56,7 @@ pub unrecovered_fails_none : (form : Form) (body : List ℕ) (records : List Rec
     → IsUnrecovered form body records fault → fault ≢ banks.Disk
 unrecovered_fails_none form body records fault is same = subst (IsUnrecovered form body records) same is
 
--- The fault of a switch is the device's exactly where the disk's is; and it is none of a bank that is full, or has no next one.
+-- The fault of a switch is the device's exactly if the disk's fault is; and it never says that a bank is full or that no generation is left.
 pub switch_failed : (fault : DiskFault) (told : SwitchFault) → told ≡ fault_of_disk fault → (told ≡ switches.Disk) ↔ (fault ≡ Device)
 switch_failed Device told same = ((λ is. refl), (λ is. same))
 switch_failed Memory told same = ((λ is. cc), (λ is. cc))

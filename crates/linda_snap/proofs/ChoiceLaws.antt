@@ -89,7 +89,7 @@ fault_there form file generation body records banks.Spent bank told = told
 fault_there form file generation body records banks.Full bank told = told
 fault_there form file generation body records banks.Disk bank told = told
 
--- A fault of one bank alone.
+-- A fault of a bank by itself is a fault of its file.
 pub fault_of_bank : (file : List ℕ) (fault : BankFault) → IsFaultOfBank file fault → IsFaultOfFile file fault
 fault_of_bank file (banks.Damaged offset) told = inl told
 fault_of_bank file banks.NoBank told = told
@@ -110,7 +110,7 @@ same_opening : (f k : Form) (body other : List ℕ) (a b : State) → f ≡ k �
 same_opening f k body other a b form same one two =
     one_snapshot k other a b (subst (λ l. IsSnapshot k l a) same (subst (λ x. IsSnapshot x body a) form one)) two
 
--- A bank stands for one state.
+-- A bank represents at most one state.
 one_state : (file : List ℕ) (g h : ℕ) (a b : State) → StandsOn file g a → StandsOn file h b → a ≡ b
 one_state file g h a b one two =
     let same = same_body file one.form two.form g h (spell_state one.form one.opening)
@@ -121,7 +121,7 @@ one_state file g h a b one two =
     let after = subst (λ (st : State). IsAfter st (deeds_in two.records) a) opening (subst (λ rs. IsAfter one.opening (deeds_in rs) a) same.2 one.done.after) in
     one_after two.opening (deeds_in two.records) a b after two.done.after
 
--- A bank that stands has no fault.
+-- A bank that represents a state is not damaged.
 never_fault : (file : List ℕ) (generation : ℕ) (st : State) (offset : ℕ) → StandsOn file generation st → IsFaultOfFile file (banks.Damaged offset) → ⊥
 never_fault file generation st offset on (inl told) =
     by (only_faults on.form file generation (spell_state on.form on.opening) on.records (banks.Damaged offset) on.bank (λ other. told))
@@ -219,7 +219,7 @@ on_side right = Ok right
 sides_differ : on_side false ≡ on_side true → ⊥
 sides_differ e = absurd cc
 
--- Two banks stand for one state.
+-- Two banks represent at most one state.
 pub one_stands : (left right : List ℕ) (a b : State) → Stands left right a → Stands left right b → a ≡ b
 one_stands left right a b (inl one) (inl two) = one_state left one.generation two.generation a b one.stands two.stands
 one_stands left right a b (inr one) (inr two) = one_state right one.generation two.generation a b one.stands two.stands
@@ -228,7 +228,7 @@ one_stands left right a b (inl one) (inr two) =
 one_stands left right a b (inr one) (inl two) =
     absurd (sides_differ (one_choice left right (Ok false) (Ok true) (on_left left right b two) (on_right left right a one)))
 
--- Two banks that stand have no fault.
+-- Two banks that represent a state have no fault.
 stand_chosen : (left right : List ℕ) (st : State) → Stands left right st
     → (side : Bool) × (generation : ℕ) × IsChoice left right (Ok side) × StandsOn (chosen side left right) generation st
 stand_chosen left right st (inl one) = (false, one.generation, on_left left right st one, one.stands)
@@ -359,7 +359,7 @@ up_right left right form generation end used other st is stored here there durab
   durable = durable;
 }
 
--- and stands.
+-- and represents the state.
 pub used_here : (used_file other_file : List ℕ) (form : Form) (generation end : ℕ) (used other : View) (st : State)
     → IsUp form generation end used other st → used.seen ≡ used_file → other.seen ≡ other_file → IsInUse used_file other_file st
 used_here used_file other_file form generation end used other st up here there = record {
@@ -368,7 +368,7 @@ used_here used_file other_file form generation end used other st up here there =
   lesser = subst (IsLesser generation) there up.lesser;
 }
 
--- What is told of the one that was chosen.
+-- The fault that is reported for the bank that was chosen.
 pub chosen_fault : (left right : List ℕ) (side : Bool) (fault : BankFault) (told : ChoiceFault) → IsChoice left right (Ok side)
     → told ≡ fault_on side fault → (fault ≢ banks.Disk → IsFaultOfFile (chosen side left right) fault) → told ≢ Disk → IsFaultOfBoth left right told
 chosen_fault left right side fault told is told_is there disk =

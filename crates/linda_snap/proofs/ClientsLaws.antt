@@ -24,7 +24,7 @@ up_to last clients = record { book = clients.book; last = last }
 
 -- ---- they are written
 
--- Their count is written behind the tuples.
+-- Their count is written after the tuples.
 pub counted : (begun : State) (clients : Clients) (bytes count : List ℕ) → HasTuples begun bytes → clients.book ≡ begun.book
     → clients.last ≡ None → count ≡ short_number.spell (length (entries begun.book)) → OwesClients begun clients (bytes ++ count)
 counted begun clients bytes count has same none is =

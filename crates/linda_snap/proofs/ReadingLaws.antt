@@ -22,7 +22,7 @@ all_here : {A : Type 0} (P : A → Type 0) (xs : List A) (x : A) (later : List A
 all_here P [] x later all = all.0
 all_here P (y ∷ xs) x later all = all_here P xs x later all.1
 
--- Some values were read; there are more of them, so the next one stands at the front of what is left.
+-- Some values were read; there are more of them, so the next one is at the front of what is left.
 pub record IsNext {A : Type 0} (spell : A → List ℕ) (xs ys : List A) (rest tail : List ℕ) : Type 0 where
   pub item : A
   pub later : List A

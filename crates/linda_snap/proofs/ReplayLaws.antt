@@ -23,7 +23,7 @@ one_redone old mid new front d goes allowed after st before ranges done =
     subst (λ l. AreDone st l new) (append_assoc before front (d ∷ []))
     (more_done st mid new (before ++ front) d ranges (goes st before ranges done) allowed after)
 
--- Where nothing is left behind what was done, all was done.
+-- If nothing is left after what was done, all was done.
 pub all_redone : (old new : State) (ds front rest : List Deed) → front ++ rest ≡ ds → length rest ≡ 0 → GoesOn old front new → GoesOn old ds new
 all_redone old new ds front [] parts none goes = subst (λ l. GoesOn old l new) (sym (append-nil front) ∙ parts) goes
 all_redone old new ds front (d ∷ rest) parts none goes = absurd (omega (arith, none))

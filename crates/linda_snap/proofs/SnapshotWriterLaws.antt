@@ -126,7 +126,7 @@ same_first : (at : ℕ) (snapshot : SnapshotEncoder) (now : Tuples) (from : ℕ)
     → IsFirstOwed snapshot now from found → IsFirstOwed (moved at snapshot) now from found
 same_first at snapshot now from found first = record { there = first.there; above = first.above; below = first.below; least = first.least; none = first.none }
 
--- One tuple more behind those that were spelled before.
+-- One more tuple after those that were spelled before.
 pub step_more : (begun : State) (snapshot : SnapshotEncoder) (bytes old new : List ℕ) (now : Tuples) (from next : ℕ) (e : ℕ × Tuple)
     → Owes begun (moved from snapshot) (bytes ++ old) now → IsFirstOwed snapshot now from (Some e) → new ≡ old ++ (placed written).spell e
     → (placed written).Fits e → next ≡ suc e.0 → Owes begun (moved next snapshot) (bytes ++ new) now

@@ -1,4 +1,4 @@
--- Which state stands on two banks, while one of them becomes a new one.
+-- Which state two banks represent while one of them becomes a new one.
 use Rattle.std.proofs.Common.{ℕ, ◌+◌, inl, inr, List, [], sym, subst, arith}
 use Rattle.linda_store_state.specs.DeedFormat.{written}
 use Rattle.linda_tuple.specs.declared.form.Form.{Form}
@@ -41,14 +41,14 @@ module _ (generation : ℕ) (body : List ℕ) (old mid : View) where
       joined old mid new (IsOldNoneOrNew old.seen generation body) (IsNoneOrNew written generation body)
       (IsOldNoneOrNew old.seen generation body) first second (λ image is. is) (λ image is. inr is)
 
--- ---- what stands
+-- ---- the state that is represented
 
 -- A bank begins with its generation.
 pub heading_of : (form : Form) (file : List ℕ) (generation : ℕ) (body : List ℕ) (records : List (List Deed))
     → IsBank form file generation body records → IsHeading file (headings.Bank form generation)
 heading_of form file generation body records bank = (bank.low, bank.fits, (is_candidate form file generation body records bank).0, (_, bank.parts))
 
--- What is stored on a disk stands there.
+-- What is stored on a disk represents the state.
 pub stands_on : (form : Form) (generation end : ℕ) (v : View) (st : State) → IsStored form generation end v st → StandsOn v.seen generation st
 stands_on form generation end v st stored =
     record {
@@ -71,7 +71,7 @@ module _ (form : Form) (generation end : ℕ) (used other : View) (st : State) (
   on_used : StandsOn used.seen generation st
   on_used = stands_on form generation end used st up.stored
 
-  -- A crash now leaves what stands for the state.
+  -- A crash now leaves what represents the state.
   pub stands_now : StandsBeside used.seen st other.seen
   stands_now = inl record { generation = generation; stands = on_used; lesser = up.lesser }
 

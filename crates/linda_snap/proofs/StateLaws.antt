@@ -54,7 +54,7 @@ module _ {X : Type 0} (f : Format (ℕ × X)) (Good : ℕ × X → Type 0) (limi
         good = run.good;
       }
 
-  -- What is told of a list that stands there.
+  -- What is read from bytes that begin with such a list.
   count_of : (bytes : List ℕ) (es : List (ℕ × X)) (rest : List ℕ) → IsListed f Good limit bytes es rest
       → short_number.read bytes ≡ Ok (length es, flat_map f.spell es ++ rest)
   count_of bytes es rest is =
@@ -92,7 +92,7 @@ IsTuples form next bytes es rest = IsListed (format.placed form) (IsPlacedBelow 
 abbrev IsClients : Form → List ℕ → List (ℕ × Entry) → List ℕ → Type 0
 IsClients form bytes es rest = IsListed (format.kept form) IsNumbered MAX_CLIENTS bytes es rest
 
--- What stands there is the snapshot of the state of these parts.
+-- The bytes that were read are a snapshot of the state with these parts.
 pub state_there : (form : Form) (bytes behind rest : List ℕ) (next : ℕ) (bag : FinMap nat_cmp Tuple) (book : FinMap nat_cmp Entry) → IsBytes bytes
     → number.read bytes ≡ Ok (next, behind) → 1 ≤ next → next ≤ NUMBER_LIMIT → IsTuples form next behind (entries bag) rest
     → IsClients form rest (entries book) []
@@ -112,7 +112,7 @@ state_there form bytes behind rest next bag book fits told low high tuples clien
       };
     }
 
--- What is told of a snapshot that stands there.
+-- What is read from the bytes of a snapshot.
 next_of : (form : Form) (bytes : List ℕ) (st : State) → IsSnapshot form bytes st
     → number.read bytes ≡ Ok (st.next, (listed (format.placed form)).spell (entries st.bag) ++ (listed (format.kept form)).spell (entries st.book))
 next_of form bytes st is = ap number.read is.parts

@@ -23,7 +23,7 @@ use Rattle.linda_snap.specs.Stands.{deeds_in}
 abbrev pub heading : ℕ → ℕ → List ℕ
 heading generation len = magic written ++ (number.spell generation ++ short_number.spell len)
 
--- Behind the first gate of the new bank `front` is written, and the server is in the state `st`:
+-- After the first gate of the new bank `front` is written, and the server is in the state `st`:
 pub record Follows (s : BankWriter) (front : List ℕ) (st : State) : Type 0 where
   -- it began in this state,
   pub begun : State
@@ -72,8 +72,8 @@ HasNoRoomFor s ds =
     ⊎ (s.limit < MIN_BYTES + 1 + s.len
     + (length s.since.bytes.items + bytes_for (length ds) (length (payload written ds))))
 
--- With these last bytes behind what is written all of the new bank is there, and it stands for the
--- state; it has so many records, and keeps within its limit.
+-- With these last bytes after what is written, the new bank is complete and represents the state;
+-- it has so many records, and keeps within its limit.
 pub record Completes (s : BankWriter) (front bytes : List ℕ) (st : State) : Type 0 where
   pub begun : State
   pub ranges : IsState begun

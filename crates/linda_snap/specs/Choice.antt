@@ -31,8 +31,8 @@ use Rattle.linda_snap.specs.Reading.{IsNoSnapshot}
 use Rattle.linda_snap.specs.Replay.{joined, IsImproper}
 use Rattle.linda_snap.specs.Stands.{IsStored, IsCounted, IsUp, Stands}
 
--- Which of two is chosen by what they begin with: true is the right one. The left one is looked at
--- first. Generations are compared whatever the forms are.
+-- Which of two banks is chosen by what they begin with: true is the right one. The left one is
+-- looked at first. Generations are compared without regard to the forms.
 abbrev pub choice : Heading → Heading → Result Bool ChoiceFault
 choice Foreign right = Err (Damaged false 1)
 choice NoBank Foreign = Err (Damaged true 1)
@@ -150,11 +150,11 @@ abbrev pub IsFaultOfBoth : List ℕ → List ℕ → ChoiceFault → Type 0
 IsFaultOfBoth left right told = IsChoice left right (Err told) ⊎ IsFaultOfChosen left right told
 
 module _ {B D : Type 0} {g : Ghosts D} where
-  -- Of two disks the bank that stands was chosen, with the state that it stands for, or none was,
+  -- Of two disks the bank in use was chosen, with the state that it represents; or none was chosen,
   -- and the disks are handed back, left and right (`choose_bank`).
   pub record Chooses (left right : D) (limit : ℕ)
       (result : Result (Chosen B D g) (ChoiceFault × D × D)) : Type 0 where
-    -- The two banks stand for the state,
+    -- The two banks represent the state,
     pub found : g.honest left → g.honest right
         → IfOk result (λ c. Stands (g.view left).seen (g.view right).seen c.state)
     -- and a crash now leaves them so;
@@ -167,7 +167,7 @@ module _ {B D : Type 0} {g : Ghosts D} where
         → IfOk result (λ c.
         ((g.view c.bank.disk).seen ≡ chosen c.is_right (g.view left).seen (g.view right).seen)
         × ((g.view c.other).seen ≡ chosen c.is_right (g.view right).seen (g.view left).seen))
-    -- So two banks that stand for a state are read as that state, or a device failed, or memory ran
+    -- So two banks that represent a state are read as that state, or a device failed, or memory ran
     -- out.
     pub only : (st : State) → g.honest left → g.honest right
         → Stands (g.view left).seen (g.view right).seen st
@@ -184,8 +184,8 @@ module _ {B D : Type 0} {g : Ghosts D} where
         × IfErr result (λ e. LeavesNothingNew (g.view left) (g.view e.1)
         × LeavesNothingNew (g.view right) (g.view e.2))
     pub new : IfOk result (λ c. (c.bank.limit ≡ limit) × (c.bank.is_spent ≡ false))
-    -- The state is in its ranges; the bank that was chosen stands for it on its own disk, whatever
-    -- the other one is; and a crash leaves of the other disk what a read gives.
+    -- The state is in its ranges; the bank that was chosen represents it on its own disk, also if
+    -- the other disk is not honest; and a crash leaves of the other disk what a read returns.
     pub ranges : IfOk result (λ c. IsState c.state)
     pub stored : IfOk result (λ c. g.honest c.bank.disk
         → IsStored c.bank.form c.bank.generation c.bank.end (g.view c.bank.disk) c.state)
@@ -197,7 +197,7 @@ module _ {B D : Type 0} {g : Ghosts D} where
     pub honest : IfOk result
         (λ c. (g.honest left × g.honest right) ↔ (g.honest c.bank.disk × g.honest c.other))
         × IfErr result (λ e. (g.honest left × g.honest right) ↔ (g.honest e.1 × g.honest e.2))
-    -- The counts of failures rise where a device is reported to have failed, and there alone.
+    -- The count of failures of a device rises exactly if a device is reported to have failed.
     pub cause : IfErr result (λ e.
         TellsFailuresOfTwo Disk e.0 (g.failures left) (g.failures right) (g.failures e.1)
         (g.failures e.2))

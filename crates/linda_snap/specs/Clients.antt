@@ -15,8 +15,8 @@ pub record HasTuples (begun : State) (bytes : List ℕ) : Type 0 where
   pub parts : bytes ≡ number.spell begun.next ++ (listed (placed written)).spell (entries begun.bag)
   pub fits : number.Fits begun.next × (listed (placed written)).Fits (entries begun.bag)
 
--- A snapshot of the state `begun` is written up to these bytes, and the clients behind the last
--- one:
+-- A snapshot of the state `begun` is written up to these bytes; the clients after the last one are
+-- still to come:
 pub record OwesClients (begun : State) (clients : Clients) (bytes : List ℕ) : Type 0 where
   -- they are those of the state;
   pub same : clients.book ≡ begun.book

@@ -15,7 +15,7 @@ use Rattle.linda_snap.specs.Snapshot.{listed, IsSnapshot}
 use Rattle.linda_snap.specs.declared.reading.SnapshotFault.{SnapshotFault}
 use Rattle.linda_snap.specs.declared.reading.SnapshotFault.TheVariants.{NoSnapshot, Memory}
 
--- These entries, so many of them and each of them good, stand at the front of the bytes.
+-- The bytes begin with these entries: so many of them, each of them good.
 pub record IsRun {X : Type 0} (f : Format (ℕ × X)) (Good : ℕ × X → Type 0) (count : ℕ)
     (bytes : List ℕ) (es : List (ℕ × X)) (rest : List ℕ) : Type 0 where
   pub parts : bytes ≡ flat_map f.spell es ++ rest
@@ -23,13 +23,12 @@ pub record IsRun {X : Type 0} (f : Format (ℕ × X)) (Good : ℕ × X → Type 
   pub fits : AllByRecursion f.Fits es
   pub good : AllByRecursion Good es
 
--- The entries of no map stand there so.
+-- The bytes do not begin so with the entries of any map.
 abbrev pub IsNoRun : {X : Type 0} → Format (ℕ × X) → (ℕ × X → Type 0) → ℕ → List ℕ → Type 0
 IsNoRun {X = X} f Good count bytes =
     (m : FinMap nat_cmp X) (rest : List ℕ) → IsRun f Good count bytes (entries m) rest → ⊥
 
--- A count that is not above the limit, and so many entries, each of them good, stand at the front
--- of the bytes.
+-- The bytes begin with a count that is not above the limit, and so many entries, each of them good.
 pub record IsListed {X : Type 0} (f : Format (ℕ × X)) (Good : ℕ × X → Type 0) (limit : ℕ)
     (bytes : List ℕ) (es : List (ℕ × X)) (rest : List ℕ) : Type 0 where
   pub parts : bytes ≡ (listed f).spell es ++ rest
@@ -37,7 +36,7 @@ pub record IsListed {X : Type 0} (f : Format (ℕ × X)) (Good : ℕ × X → Ty
   pub few : length es ≤ limit
   pub good : AllByRecursion Good es
 
--- The entries of no map stand there so.
+-- The bytes do not begin so with the entries of any map.
 abbrev pub IsNotListed : {X : Type 0} → Format (ℕ × X) → (ℕ × X → Type 0) → ℕ → List ℕ → Type 0
 IsNotListed {X = X} f Good limit bytes =
     (m : FinMap nat_cmp X) (rest : List ℕ) → IsListed f Good limit bytes (entries m) rest → ⊥

@@ -13,13 +13,13 @@ use Rattle.linda_snap.specs.Stands.{deeds_in}
 abbrev pub joined : List Record → List Deed
 joined records = deeds_in (deeds_of records)
 
--- Whatever was done before, these deeds go on from one state to the other.
+-- These deeds lead from one state to the other, whatever was done before.
 abbrev pub GoesOn : State → List Deed → State → Type 0
 GoesOn old ds new =
     (st : State) (before : List Deed) → IsState st → AreDone st before old
     → AreDone st (before ++ ds) new
 
--- Whatever was done before, and whatever comes later, these deeds cannot be done in this state.
+-- These deeds cannot be done in this state, whatever was done before and whatever comes later.
 abbrev pub Stops : State → List Deed → Type 0
 Stops old ds =
     (st : State) (before later : List Deed) → IsState st → AreDone st before old

@@ -66,7 +66,7 @@ abbrev pub seen : Option (ℕ × Bor Tuple) → Option (ℕ × Tuple)
 seen None = None
 seen (Some e) = Some (e.0, e.1.now)
 
--- This is the first of the tuples from an id on and below another one; nothing if there is none.
+-- This is the first of the tuples from an id on and below another one; none if there is none.
 pub record IsFirst (rows : Tuples) (from next : ℕ) (found : Option (ℕ × Tuple)) : Type 0 where
   pub there : IfSome found (λ e. get rows e.0 ≡ Some e.1)
   pub above : IfSome found (λ e. from ≤ e.0)

@@ -29,17 +29,17 @@ IsLesser generation file =
     IsNoBank file ⊎ ((form : Form) × (lesser : ℕ) × IsHeading file (headings.Bank form lesser)
     × (lesser < generation))
 
--- Of two banks, the first is in use and stands for the state, and the other is lesser.
+-- Of two banks, the first is in use and represents the state, and the other is lesser.
 pub record IsInUse (file other : List ℕ) (st : State) : Type 0 where
   pub generation : ℕ
   pub stands : StandsOn file generation st
   pub lesser : IsLesser generation other
 
--- Two banks stand for the state: one of them alone, or that of the greater generation.
+-- Two banks represent the state: the only bank of the two, or the one of the greater generation.
 abbrev pub Stands : List ℕ → List ℕ → State → Type 0
 Stands left right st = IsInUse left right st ⊎ IsInUse right left st
 
--- On a disk the bank in this form, of this generation, which ends at this offset, stands for the
+-- On a disk the bank in this form, of this generation, which ends at this offset, represents the
 -- state, and a crash now leaves it so.
 pub record IsStored (form : Form) (generation end : ℕ) (v : View) (st : State) : Type 0 where
   pub opening : State
@@ -62,7 +62,6 @@ pub record IsUp (form : Form) (generation end : ℕ) (used other : View) (st : S
   pub lesser : IsLesser generation other.seen
   pub durable : IsDurable other
 
--- What is left of the other disk stands, beside that bank, for the state: whichever of the two is
--- in use.
+-- That bank and what is left of the other disk represent the state, whichever of the two is in use.
 abbrev pub StandsBeside : List ℕ → State → List ℕ → Type 0
 StandsBeside used st image = Stands used image st

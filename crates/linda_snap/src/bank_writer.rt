@@ -54,7 +54,7 @@ pub enum BankChunk {
 
 impl BankWriter {
     /// Begins a bank of this generation and limit with a snapshot of the state. Returns it with the
-    /// first bytes behind its first gate, which are to be written. If it is given a whole copy of
+    /// first bytes after its first gate, which are to be written. If it is given a whole copy of
     /// the clients, it takes that, and else it walks over them; it walks over no tuple.
     ///
     /// # Errors
@@ -208,7 +208,7 @@ impl BankWriter {
         }
     }
 
-    // The next tuples of the snapshot; nothing if all are written.
+    // The next tuples of the snapshot; `None` if all are written.
     fn next_tuples<B: Bag>(
         &mut self,
         alloc: Global,
@@ -232,8 +232,7 @@ impl BankWriter {
         }
     }
 
-    // The count of the clients and the first of them, behind the tuples; nothing if they are
-    // written.
+    // The count of the clients and the first of them, after the tuples; `None` if they are written.
     fn begin_clients(&mut self, alloc: Global, most: usize) -> Result<Option<Vec<u8>>, AllocError>
         ensures some { (front : List ℕ) (st : states.State) → IsBehindTuples self.old front st
             → IfOk result (λ o. IfSome o (λ bytes.
@@ -258,7 +257,7 @@ impl BankWriter {
         }
     }
 
-    // The next clients, which end the snapshot; nothing if it has ended.
+    // The next clients, which end the snapshot; `None` if it has ended.
     fn next_clients(&mut self, alloc: Global, most: usize) -> Result<Option<Vec<u8>>, AllocError>
         requires { self.old.snapshot ≡ None }
         ensures some { (front : List ℕ) (st : states.State) → Follows self.old front st
@@ -322,7 +321,7 @@ fn one_at_least(most: usize) -> usize
     if most == 0 { 1 } else { most }
 }
 
-// What stands first behind the first gate.
+// What comes first after the first gate.
 fn spell_start(
     alloc: Global,
     generation: u64,

@@ -49,7 +49,7 @@ impl BookCopy {
         self.is_whole
     }
 
-    /// Copies the next clients of the book, so many at most. Returns nothing if memory runs out, or
+    /// Copies the next clients of the book, so many at most. Returns `None` if memory runs out, or
     /// if what is copied would spell more than 2^64 bytes.
     pub fn go_on(self, alloc: Global, book: &Book, most: u32) -> Option<BookCopy>
         ensures copies { Copies self book.now → IfSome result (λ x. Copies x book.now) }
@@ -65,7 +65,7 @@ impl BookCopy {
     }
 
     /// Copies anew what the book has now, after these deeds, for their clients, as far as it has
-    /// come. Returns nothing if memory runs out, or if what is copied would spell more than 2^64
+    /// come. Returns `None` if memory runs out, or if what is copied would spell more than 2^64
     /// bytes.
     pub fn renew(self, alloc: Global, book: &Book, deeds: &[Deed]) -> Option<BookCopy>
         ensures copies { (old new : State) → IsState old → GoesOn old deeds.now new

@@ -28,10 +28,10 @@ pub enum ChoiceFault {
     /// Neither disk holds a bank.
     #[error("no store")]
     NoStore,
-    /// The bank on the right disk, or on the left one, is damaged at this offset: 1 where it begins
-    /// otherwise or has no generation, 5 where both have one generation, 17 where its snapshot does
-    /// not fit or is none, else the offset of the gate of the first record that is none or that has
-    /// a deed which is not allowed.
+    /// The bank on the right disk, or on the left one, is damaged at this offset: 1 if other
+    /// letters or generation 0 follow its first gate, 5 if both have the same generation, 17 if its
+    /// snapshot does not fit or is none, else the offset of the gate of the first record that is
+    /// none or that has a deed which is not allowed.
     #[error("damaged at {offset}")]
     Damaged { right: bool, offset: usize },
     /// The device failed, which it counts.
@@ -53,26 +53,26 @@ impl From<DiskFault> for ChoiceFault {
     }
 }
 
-/// The bank that was chosen of two, and the state that it stands for.
+/// The bank that was chosen of two, and the state that it represents.
 #[derive(Drop)]
 pub struct Chosen<B: Bag, D: Disk> {
     /// The state.
     pub state: State<B>,
-    /// The bank that stands.
+    /// The bank in use.
     pub bank: Bank<D>,
     /// The disk that is not in use.
     pub other: D,
-    /// Whether the bank stands on the right disk.
+    /// Whether the bank in use is on the right disk.
     pub is_right: bool,
 }
 
-/// Which of two disks holds the bank that stands, and the state that it stands for. Both disks are
+/// Which of two disks holds the bank in use, and the state that it represents. Both disks are
 /// synced first; nothing is written.
 ///
 /// # Errors
 ///
-/// `NoStore`, `Damaged`, `Disk` where a device failed, `Memory`; each hands the disks back, left
-/// and right.
+/// `NoStore`, `Damaged`, `Disk` if a device failed, `Memory`; each hands the disks back, left and
+/// right.
 pub fn choose_bank<B: Bag, D: Disk>(
     alloc: Global,
     left: D,
@@ -106,7 +106,7 @@ pub fn choose_bank<B: Bag, D: Disk>(
     }
 }
 
-// What a fault of the bank on that side is told as.
+// The fault that is reported for a fault of the bank on that side.
 fn told_on(right: bool, fault: BankFault) -> ChoiceFault
     ensures { result ≡ fault_on right fault }
 {
@@ -154,7 +154,7 @@ fn look_at_both<D: Disk>(left: &mut D, right: &mut D) -> Result<bool, ChoiceFaul
     Ok(side)
 }
 
-// Opens the bank on a disk that was synced, with the state that it stands for.
+// Opens the bank on a disk that was synced, with the state that it represents.
 fn open_file<B: Bag, D: Disk>(
     alloc: Global,
     disk: D,
@@ -191,7 +191,7 @@ fn open_file<B: Bag, D: Disk>(
     }
 }
 
-// What a bank begins with, told by its disk, which is synced first.
+// What the bank on a disk begins with; the disk is synced first.
 fn look_at<D: Disk>(disk: &mut D) -> Result<Heading, DiskFault>
     ensures heading { D.honest disk.old → IfOk result (IsHeading (D.view disk.old).seen) }
     ensures seen { D.honest disk.old

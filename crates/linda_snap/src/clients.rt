@@ -27,8 +27,8 @@ pub(crate) struct Clients {
 }
 
 impl Clients {
-    /// Those of a book, behind all tuples of their snapshot. Returns them with the first bytes, the
-    /// count that is given and the first of them, until they have so many bytes.
+    /// The clients of a book, after all tuples of their snapshot. Returns them with the first
+    /// bytes, the count that is given and the first of them, until these are `most` bytes.
     ///
     /// # Errors
     ///
@@ -53,7 +53,7 @@ impl Clients {
     }
 
     /// Spells the next clients, one at least, until they have so many bytes, or there are 4,097 of
-    /// them. Returns their bytes, which are to be written after those before; nothing if all are
+    /// them. Returns their bytes, which are to be written after those before; `None` if all are
     /// written.
     ///
     /// # Errors

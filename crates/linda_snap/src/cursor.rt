@@ -13,7 +13,7 @@ use linda_book::{Book, KeptReply};
 use linda_store_state::State;
 use linda_tuple::Tuple;
 
-/// The first tuple of the state from this id on, with its id; nothing if there is none.
+/// The first tuple of the state from this id on, with its id; `None` if there is none.
 pub fn tuple_from<B: Bag>(state: &State<B>, from: u64) -> Option<(u64, &Tuple)>
     requires { IsState state.now }
     ensures found { IfSome result (λ e. entries_from from state.now.bag
@@ -28,7 +28,7 @@ pub fn tuple_from<B: Bag>(state: &State<B>, from: u64) -> Option<(u64, &Tuple)>
 }
 
 /// The first client of the book above this one, or at all if none is given, with its number and
-/// reply; nothing if there is none.
+/// reply; `None` if there is none.
 pub fn kept_after(book: &Book, last: Option<u32>) -> Option<(u32, (u64, &KeptReply))>
     ensures found { IfSome result (λ e. entries_from (first_after last) book.now
         ≡ (e.0, (e.1.0, e.1.1.now)) ∷ entries_from (suc e.0) book.now) }

@@ -28,12 +28,12 @@ const MAX_PLACED_BYTES: usize = NUMBER_BYTES + MAX_TUPLE_BYTES;
 /// a tuple. No entry of a snapshot has more.
 pub const MAX_KEPT_BYTES: usize = CLIENT_BYTES + KIND_BYTES + MAX_PLACED_BYTES;
 
-/// Reads an id and a tuple, and gives the bytes after them.
+/// Reads an id and a tuple, and returns them with the bytes after them.
 ///
 /// # Errors
 ///
-/// The first fault from the left, given by the count of bytes left; `Memory` where the tuple finds
-/// none.
+/// The first fault from the left, given by the count of bytes left; `Memory` if there is none for
+/// the tuple.
 pub(crate) fn read_placed(
     alloc: Global,
     form: Form,
@@ -60,8 +60,8 @@ pub(crate) fn read_kept(
     Ok((client, (n, reply), rest))
 }
 
-/// Appends the spelling of an id and a tuple. Where memory runs out, a part of it may stand after
-/// the old bytes.
+/// Appends the spelling of an id and a tuple. If memory runs out, a part of it may follow the old
+/// bytes.
 pub(crate) fn push_placed(out: &mut Vec<u8>, id: u64, tuple: &Tuple) -> Result<(), AllocError>
     ensures ok { OnOk result (out.new.items
         ≡ out.old.items ++ (format.placed written).spell (id, tuple.now)) }

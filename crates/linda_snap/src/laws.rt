@@ -9,14 +9,14 @@ ghost use Rattle.linda_journal.specs.Bank.{IsOldOrMore};
 ghost use Rattle.linda_snap.specs.Snapshot.{spell_state};
 ghost use Rattle.linda_snap.specs.Stands.{IsInUse, Stands};
 
-/// Two banks stand for one state at most.
+/// Two banks represent at most one state.
 pub fn two_banks_stand_for_one_state()
     ensures { (left right : List ℕ) (a b : State)
         → Stands left right a → Stands left right b → a ≡ b }
 {}
 
-/// While deeds that may be done are appended to the bank in use, whatever a crash leaves of it
-/// stands for the state before them or for the state after them.
+/// While deeds that may be done are appended to the bank in use, what a crash leaves of it always
+/// represents the state before them or the state after them.
 pub fn an_append_leaves_the_old_state_or_the_new()
     ensures { (file other : List ℕ) (st new : State) (ds : List Deed)
         → (used : IsInUse file other st) → AreDone st ds new → (image : List ℕ)

@@ -3,7 +3,7 @@
 //!
 //! - A snapshot is the one spelling of a state. What is put is read again, and bytes are refused
 //!   only if they spell no state that is in its ranges.
-//! - `choose_bank` answers the state of the two banks, or what is wrong with them, on which side
+//! - `choose_bank` returns the state of the two banks, or what is wrong with them, on which side
 //!   and where; `choose` says which of the two that is, by what they begin with.
 //! - `switch` makes a new bank of the next generation on the other disk. At no moment of it a crash
 //!   leaves anything but what has the same state.

@@ -22,12 +22,12 @@ use std::alloc::AllocError;
 /// of clients.
 pub const EMPTY_STATE_BYTES: usize = NUMBER_BYTES + SHORT_NUMBER_BYTES + SHORT_NUMBER_BYTES;
 
-/// Appends the spelling of the state in the form of new banks. Where memory runs out, a part of it
-/// may stand after the old bytes.
+/// Appends the spelling of the state in the form of new banks. If memory runs out, a part of it may
+/// follow the old bytes.
 ///
 /// # Errors
 ///
-/// `AllocError` where memory runs out.
+/// `AllocError` if memory runs out.
 pub fn put_state<B: Bag>(out: &mut Vec<u8>, state: &State<B>) -> Result<(), AllocError>
     requires ranges { IsState state.now }
     requires short { length (spell_state written state.now) < 2 ^ 32 }
@@ -83,7 +83,7 @@ pub(crate) fn push_count(out: &mut Vec<u8>, count: usize) -> Result<(), AllocErr
     out.extend_from_slice(&count.to_be_bytes())
 }
 
-/// What is left of so many bytes once the state is spelled in them; None where it spells more. No
+/// What is left of so many bytes once the state is spelled in them; `None` if it spells more. No
 /// memory is taken. It walks over the clients, if it is not given how many bytes they spell, and
 /// not over the tuples: the bag keeps their bytes.
 pub(crate) fn room_after<B: Bag>(
@@ -104,7 +104,7 @@ pub(crate) fn room_after<B: Bag>(
     }
 }
 
-// What is left of so many bytes behind a count and so many bytes.
+// What is left of `room` bytes after a count and `bytes` bytes.
 fn room_after_bytes(room: usize, bytes: usize) -> Option<usize>
     ensures some { IfSome result (λ left. left + (SHORT_NUMBER_BYTES + bytes) ≡ room) }
     ensures none { IfNone result (room < SHORT_NUMBER_BYTES + bytes) }

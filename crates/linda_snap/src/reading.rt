@@ -62,14 +62,14 @@ impl From<ReadFault> for SnapshotFault {
 ///
 /// # Errors
 ///
-/// `NoSnapshot` where they spell none that is in its ranges; `Memory`.
+/// `NoSnapshot` if they spell none that is in its ranges; `Memory`.
 pub fn get_state<B: Bag>(alloc: Global, form: Form, bytes: &[u8]) -> Result<State<B>, SnapshotFault>
     // What is read is spelled so, and in its ranges.
     ensures found { IfOk result (λ st. IsSnapshot form bytes.now st) }
     // A state that is spelled so is read, or memory runs out.
     ensures only { (st : states.State) → IsSnapshot form bytes.now st
         → IfOk result (λ s. s ≡ st) × IfErr result (λ f. f ≡ SnapshotFault.Memory) }
-    // It is refused only where the bytes spell no state.
+    // It is refused only if the bytes spell no state.
     ensures fault { IfErr result (λ f. f ≢ SnapshotFault.Memory → IsNoSnapshot form bytes.now) }
 {
     read_state(alloc, form, bytes)

@@ -52,16 +52,15 @@ impl From<DiskFault> for SwitchFault {
 }
 
 /// Makes a new bank of the next generation on the disk that is not in use, whose body is a snapshot
-/// of the state and whose journal is empty; and gives it, with the disk of the bank that was in
+/// of the state and whose journal is empty; and returns it, with the disk of the bank that was in
 /// use. That disk is not touched. The new bank is in the form of new banks, whatever the form of
 /// the one in use is.
 ///
 /// # Errors
 ///
 /// `BankFull` before all others, then `GenerationsSpent`, then `Memory`: before any device call,
-/// and all is handed back as it was. `Disk` where the device failed, and `Memory` where the disk
-/// found none: the bank that was in use is handed back spent, and both disks are to be opened
-/// again.
+/// and all is handed back as it was. `Disk` if the device failed, and `Memory` if the disk found
+/// none: the bank that was in use is handed back spent, and both disks are to be opened again.
 pub fn switch<B: Bag, D: Disk>(
     alloc: Global,
     current: Bank<D>,
@@ -77,7 +76,7 @@ pub fn switch<B: Bag, D: Disk>(
         state.now
         → IfOk result (λ x.
         IsUp x.0.form x.0.generation x.0.end (D.view x.0.disk) (D.view x.1) state.now) }
-    // It stands for it on its own disk, whatever the disk is that was in use.
+    // It represents it on its own disk, also if the disk that was in use is not honest.
     ensures stored { IfOk result (λ x. D.honest x.0.disk
         → IsStored x.0.form x.0.generation x.0.end (D.view x.0.disk) state.now) }
     ensures new { IfOk result (λ x. (x.0.form ≡ written) × (x.0.generation ≡ current.generation + 1)
@@ -85,12 +84,12 @@ pub fn switch<B: Bag, D: Disk>(
     // The disk that was in use is not touched.
     ensures same { IfOk result (λ x. x.1 ≡ current.disk)
         × IfErr result (λ e. e.1.disk ≡ current.disk) }
-    // It is BankFull exactly where the new bank would be longer than the limit,
+    // It is BankFull exactly if the new bank would be longer than the limit,
     ensures full { IfErr result (λ e. e.0 ≡ SwitchFault.BankFull
         ↔ (current.limit < MIN_BYTES + 1 + length (spell_state written state.now))) }
     ensures room { OnOk result (MIN_BYTES + 1 + length (spell_state written state.now)
         ≤ current.limit) }
-    // and GenerationsSpent else, exactly where no generation is left.
+    // else GenerationsSpent exactly if no generation is left.
     ensures next { OnOk result (current.generation + 1 < 2 ^ 64) }
     ensures last { IfErr result (λ e. e.0 ≡ SwitchFault.GenerationsSpent
         ↔ (MIN_BYTES + 1 + length (spell_state written state.now) ≤ current.limit)
@@ -129,7 +128,7 @@ pub fn switch<B: Bag, D: Disk>(
     }
 }
 
-// Makes a new bank of these bytes, which stand after its first gate, on a disk that is not in use.
+// Makes a new bank with these bytes after its first gate, on a disk that is not in use.
 fn renew<D: Disk>(
     other: D,
     generation: u64,
@@ -159,7 +158,7 @@ fn renew<D: Disk>(
     }
 }
 
-// How many bytes the state spells; nothing if a new bank for it would be longer than the limit. It
+// How many bytes the state spells; `None` if a new bank for it would be longer than the limit. It
 // may be given how many of them its clients spell.
 pub(crate) fn len_within<B: Bag>(
     state: &State<B>,
@@ -177,8 +176,8 @@ pub(crate) fn len_within<B: Bag>(
     Some(room - left)
 }
 
-// What is to stand after the first gate of a new bank whose body is a snapshot of the state, which
-// spells so many bytes.
+// What comes after the first gate of a new bank whose body is a snapshot of the state, which spells
+// so many bytes.
 fn spell_bank<B: Bag>(
     alloc: Global,
     generation: u64,

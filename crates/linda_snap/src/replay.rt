@@ -53,7 +53,7 @@ pub(crate) fn replay<B: Bag>(
     Ok(())
 }
 
-// Does the deeds one after the other, and says whether each was allowed where it came.
+// Does the deeds one after the other, and returns whether each was allowed where it came.
 fn redo_all<B: Bag>(
     alloc: Global,
     state: &mut State<B>,

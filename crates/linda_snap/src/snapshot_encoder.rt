@@ -128,7 +128,7 @@ impl SnapshotEncoder {
     }
 
     /// Spells the next tuples, one at least, until they have so many bytes, or there are 4,096 of
-    /// them. Returns their bytes, which are to be written after those before; nothing if all are
+    /// them. Returns their bytes, which are to be written after those before; `None` if all are
     /// written.
     ///
     /// # Errors
@@ -174,7 +174,7 @@ impl SnapshotEncoder {
         Ok(Some(more))
     }
 
-    /// What is written last, behind all tuples: what was kept for its clients, and how many these
+    /// What is written last, after all tuples: what was kept for its clients, and how many these
     /// are.
     pub fn into_book(self) -> (Book, u32)
         ensures book { (begun : states.State) (bytes : List ℕ) (now : Tuples)

@@ -13,7 +13,7 @@ use crate::bank_writer::BankWriter;
 use linda_disk::{Disk, DiskFault};
 use linda_journal::{Bank, Filling};
 
-/// Writes the last bytes of a new bank behind those before, opens its first gate, and gives it,
+/// Writes the last bytes of a new bank after those before, opens its first gate, and returns it,
 /// with the disk of the bank that was in use. That disk is not touched.
 ///
 /// # Errors
@@ -36,7 +36,7 @@ pub fn take_over<D: Disk>(
         → Completes next.now front bytes.now st
         → IfOk result (λ x.
         IsUp x.0.form x.0.generation x.0.end (D.view x.0.disk) (D.view x.1) st) }
-    // on its own disk, whatever the disk is that was in use.
+    // on its own disk, also if the disk that was in use is not honest.
     ensures stored { (front : List ℕ) (st : states.State)
         → (D.honest filling.disk → IsFilled front filling.at (D.view filling.disk))
         → Completes next.now front bytes.now st

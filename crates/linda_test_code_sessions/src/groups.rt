@@ -137,8 +137,8 @@ fn put_in<L: Ledger>(
     Ok(())
 }
 
-/// Serves what the words say as one group, and writes of each answer how many deeds its client was
-/// told of then, or the fault; then what was posted.
+/// Serves what the words say as one group. Writes for each answer how many deeds were reported to
+/// its client by then, or the fault; then what was posted.
 pub(crate) fn play_group<L: Ledger, R: Wait>(
     rt: &R,
     alloc: Global,

@@ -26,7 +26,7 @@ use std::sync::Wait;
 /// About so many bytes a step of a snapshot writes at most.
 const MOST: usize = 65_536;
 
-/// A client's seat, and where its replies come out.
+/// A client's seat, and the outlet of its replies.
 #[derive(Drop)]
 struct Session<S, O> {
     seat: S,

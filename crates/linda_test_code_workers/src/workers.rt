@@ -244,8 +244,8 @@ fn a_worker_at_a_shut_gate_is_stuck(rt: HostRuntime) -> Result<(), Fail> {
     crew_works(&rt, rt.alloc(), &crew)
 }
 
-// Four workers over a disk that stops inside this device call: all of them end, and what they were
-// told of is kept, with what was on its way to them or without.
+// Four workers over a disk that stops inside this device call: all of them end, and the deeds that
+// were reported to them are kept, with or without those that were on their way to them.
 fn play_cut<L: Ledger + Send + Sync, R: Threads + Wait + Clock + Abort + Sync>(
     rt: &R,
     alloc: Global,

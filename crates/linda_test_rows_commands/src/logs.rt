@@ -45,7 +45,7 @@ const TALLY: CounterValues = CounterValues {
     took: 0,
 };
 
-/// What the system says where a device is full.
+/// What the system says if a device is full.
 const NO_SPACE: i32 = 28;
 
 /// What happened so far, line by line, and how many lines of the log were given.

@@ -5,8 +5,8 @@ use std::cell::Cell;
 use std::io;
 use std::io::{ErrorKind, Read, Write};
 
-/// Gives its bytes in pieces of at most so many, and then ends or fails. It fails as well where it
-/// is asked while something that was written is not flushed.
+/// Gives its bytes in pieces of at most so many, and then ends or fails. It also fails if it is
+/// asked while something that was written is not flushed.
 #[derive(Drop)]
 pub(crate) struct Pieces<'a> {
     pub(crate) bytes: &'a [u8],

@@ -70,7 +70,7 @@ pub(crate) fn push_bytes(
     }
 }
 
-// Appends a text, before which a quotation mark stood, and after which one is.
+// Appends a text that comes after an opening quotation mark and ends with a closing one.
 fn push_text(bytes: &mut Vec<u8>, text: &str) -> Result<(), WordsFault> {
     match text.strip_suffix('"') {
         Some(text) => done(bytes.extend_from_slice(text.as_bytes())),

@@ -133,7 +133,7 @@ fn tell_rest(alloc: Global, rest: &[u8], came: &mut String) -> Result<(), WordsF
     tell_two(came, "bytes", hex::encode(alloc, rest)?)
 }
 
-// Writes whom the session greeted, how it stands, and how many bytes came after its last message.
+// Writes whom the session greeted, its stage, and how many bytes came after its last message.
 fn show(session: &Session, came: &mut String) -> Result<(), AllocError> {
     match session.greeted() {
         Some(client) => write!(came, "> greeted {client}, ")?,

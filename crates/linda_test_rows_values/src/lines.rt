@@ -1,9 +1,9 @@
 //! The lines of scripts.
 //!
-//! `line LINE` gives what the line says, and what it tells. `tidied SCRIPT` gives the script
-//! without its blanks. `kept ID TUPLE` and `kept ID none`, both also with ` | CLIENT TICKET` at the
-//! end, give what is said of a tuple that is kept, or of none, and held for that request; `sent
-//! CLIENT REPLY | CLIENT REPLY` what is said of two replies.
+//! `line LINE` gives the input that the line has, after `says`, and its output, after `tells`.
+//! `tidied SCRIPT` gives the script without its blanks. `kept ID TUPLE` and `kept ID none`, both
+//! also with ` | CLIENT TICKET` at the end, give what is said of a tuple that is kept, or of none,
+//! and held for that request; `sent CLIENT REPLY | CLIENT REPLY` what is said of two replies.
 
 use crate::notation::{push_written, tell};
 use crate::told::done;

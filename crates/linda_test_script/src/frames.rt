@@ -1,4 +1,4 @@
-//! The bytes of what a script says and tells.
+//! The bytes of the input and the output of a script.
 
 use crate::fault::WordsFault;
 use crate::lines::{said, told};
@@ -23,11 +23,11 @@ pub fn said_frames(alloc: Global, script: &str) -> Result<Vec<u8>, WordsFault> {
     Ok(frames)
 }
 
-/// The frames of the replies that a script tells, one after the other.
+/// The frames of the replies in the output lines of a script, one after the other.
 ///
 /// # Errors
 ///
-/// `Unknown` if a line tells no reply; `Memory` if memory runs out.
+/// `Unknown` if an output line is no reply; `Memory` if memory runs out.
 pub fn told_frames(alloc: Global, script: &str) -> Result<Vec<u8>, WordsFault> {
     let mut frames = Vec::new(alloc);
     for line in script.lines() {
@@ -60,7 +60,7 @@ pub fn read_hex(alloc: Global, digits: &str) -> Result<Vec<u8>, WordsFault> {
     }
 }
 
-// Appends the frame of the reply that is told.
+// Appends the frame of the reply of an output line.
 fn push_told(alloc: Global, frames: &mut Vec<u8>, words: &str) -> Result<(), WordsFault> {
     Ok(encode_reply(frames, &read_reply(alloc, words)?)?)
 }

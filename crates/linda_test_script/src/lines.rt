@@ -2,8 +2,8 @@
 
 use std::alloc::{AllocError, Global};
 
-/// What a line says that goes in: the line without the blanks around it, if anything is there and
-/// it is not told after `>`.
+/// The input of a line: the line without the blanks around it, if anything is there and it is no
+/// output line, which begins with `>`.
 pub fn said(line: &str) -> Option<&str> {
     let line = line.trim();
     if line.is_empty() || line.starts_with('>') {
@@ -13,13 +13,12 @@ pub fn said(line: &str) -> Option<&str> {
     }
 }
 
-/// What a line tells that comes out: what is after `> `, if it begins so.
+/// The output of a line: what is after `> `, if it begins so.
 pub fn told(line: &str) -> Option<&str> {
     line.trim().strip_prefix("> ")
 }
 
-/// The lines of a script that say or tell something, without blanks around them, each with a line
-/// feed.
+/// The lines of a script that are not empty, without blanks around them, each with a line feed.
 ///
 /// # Errors
 ///

@@ -1,7 +1,7 @@
 //! Hosts of tests: what these ask of the server that sessions share.
 //!
-//! A test speaks to a host, whatever that is made of; here alone it is a `Shared` over disks in
-//! memory, so that the prover goes through its parts in few places.
+//! A test speaks to a host of any kind; only here it is a `Shared` over disks in memory, so that
+//! the prover goes through its parts in few places.
 
 ghost use Rattle.std.specs.Prelude.{◌≤◌, ◌<◌, length, All};
 ghost use Rattle.linda_store_step.specs.declared.size.TheConstants.{MAX_BATCH};

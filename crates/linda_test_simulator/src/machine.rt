@@ -23,7 +23,7 @@ impl<R: Wait> Drop for Machine<'_, R> {
 }
 
 impl<'r, R: Wait> Machine<'r, R> {
-    /// The clock stands at 0.
+    /// The clock begins at 0.
     pub fn new(rt: &'r R) -> Machine<'r, R> {
         Machine {
             rt,

@@ -58,12 +58,12 @@ named_takes {A = A} a word bytes x e =
 
 -- ---- strings
 
--- In an escape, the backslash stands before the bytes.
+-- In an escape, the backslash comes before the bytes.
 abbrev pub slashed : Bool → List ℕ → List ℕ
 slashed true bytes = mark.BACKSLASH ∷ bytes
 slashed false bytes = bytes
 
--- What stands up to the closing quote says these bytes.
+-- What comes before the closing quote says these bytes.
 abbrev pub Says : Bool → List ℕ → List ℕ × List ℕ → Type 0
 Says in_escape bytes x = (content : List ℕ) × IsContent x.0 (slashed in_escape content) × (bytes ≡ content ++ mark.QUOTE ∷ x.1)
 

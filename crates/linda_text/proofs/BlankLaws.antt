@@ -1,4 +1,4 @@
--- Blanks: what is passed over, and what stands after them.
+-- Blanks: what is passed over, and what comes after them.
 use Rattle.std.proofs.Common.{◌≡◌, inl, inr, ℕ, ◌≤◌, Bool, true, false, cond, List, [], ◌∷◌, ◌++◌, refl, ap, arith}
 use Rattle.std.specs.Prelude.{◌==◌}
 use Rattle.std.specs.Char.{is_ascii_digit}
@@ -9,7 +9,7 @@ use Rattle.linda_text.specs.Reading.{after_blanks}
 use Rattle.linda_text.proofs.NumeralLaws.{from_digit}
 use Rattle.linda_text.specs.declared.marks.TheConstants as mark
 
--- Bytes are blanks and what stands after them.
+-- The bytes are blanks and what comes after them.
 abbrev HasBlanks : List ℕ → List ℕ → Type 0
 HasBlanks bytes rest = (blanks : List ℕ) × AreBlanks blanks × (bytes ≡ blanks ++ rest)
 

@@ -143,7 +143,7 @@ few_of : (read : Read (List ℕ)) → made length (read >>= if_short) ≡ (made 
 few_of (Ok x) = few_by (ltb MAX_TEXT (length x.0)) x
 few_of (Err fault) = refl
 
--- A string is too long where its count is too great.
+-- A string is too long exactly if its count is too great.
 short_by_count : (bytes : List ℕ) → made length (short_at bytes) ≡ (made length (content_at false bytes) >>= if_few)
 unfolding short_at
 short_by_count bytes = few_of (content_at false bytes)
@@ -178,11 +178,11 @@ long_fails bytes after count fault ends so_far =
 
 -- ---- a string
 
--- What stands before the bytes left.
+-- What comes before the bytes left.
 abbrev pub before : List ℕ → List ℕ → List ℕ
 before bytes rest = take (length bytes - length rest) bytes
 
--- A string that was measured says so much, and what says it is UTF-8 where that is.
+-- A string that was measured says so many bytes, and its text is UTF-8 exactly if they are.
 measured : (bytes rest : List ℕ) (count : ℕ) → made length (short_at bytes) ≡ Ok (count, rest)
     → (content : List ℕ) × (short_at bytes ≡ Ok (content, rest)) × (length content ≡ count) × (is_utf8 (before bytes rest) ≡ is_utf8 content)
 unfolding short_at

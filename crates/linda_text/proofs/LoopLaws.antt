@@ -70,7 +70,7 @@ fails_inside field front count i bytes more after here fault total lt is_more fo
     let same : with_front front (fields_at field (count - i) bytes) ≡ Err fault = rw (k, found, is_more, read) refl in
     sym so_far ∙ same
 
--- After the last field that may stand there.
+-- After the last field that may be there.
 pub is_full : {A : Type 0} (field : Reader A) (front : List A) (count i : ℕ) (bytes rest : List ℕ) (total : Read (List A)) → count ≤ i
     → no_more_at bytes ≡ Ok rest → with_front front (fields_at field (count - i) bytes) ≡ total → total ≡ Ok (front, rest)
 unfolding fields_at

@@ -13,14 +13,14 @@ use Rattle.linda_codec.proofs.TakeLaws.{bind_ok, ok_is}
 use Rattle.linda_text.proofs.BlankLaws.{blanks_take, blanks_again}
 use Rattle.linda_text.proofs.RowLaws.{IsSpaced, Anything}
 
--- The end of bytes begins at the count of what stands before it.
+-- The end of some bytes begins at the count of the bytes before it.
 end_of : (front rest bytes : List ℕ) → bytes ≡ front ++ rest → (length rest ≤ length bytes) × (rest ≡ drop (length bytes - length rest) bytes)
 end_of front rest bytes e =
     let sum : length bytes ≡ length front + length rest = ap length e ∙ length-append front rest in
     let count : length front ≡ length bytes - length rest = omega arith in
     (omega arith, sym (ap (drop (length bytes - length rest)) e ∙ drop_at front rest (length bytes - length rest) count))
 
--- What is read from the offset on stands there, fits, and ends within the bytes.
+-- What is read from the offset on is there, fits, and ends within the bytes.
 pub is_found : {A : Type 0} {IsText : A → List ℕ → Type 0} {Fits : A → Type 0} {Ends : List ℕ → Type 0} {read : Reader A}
     → IsSpaced IsText Fits Ends read → (bytes tail : List ℕ) (at : ℕ) (x : A × List ℕ)
     → tail ≡ drop at bytes → read tail ≡ Ok x → Fits x.0 × (length x.1 ≤ length bytes)
@@ -33,7 +33,7 @@ is_found {IsText = IsText} {read = read} is bytes tail at x is_tail e =
     let end = end_of (take at bytes ++ (s.0 ++ s.1)) x.1 bytes whole in
     (t.0, end.0, subst (λ (r : List ℕ). Stands IsText x.0 (drop at bytes) r) end.1 s)
 
--- What stands from the offset on is what was read there.
+-- What is there from the offset on is what was read.
 pub is_only : {A : Type 0} {IsText : A → List ℕ → Type 0} {Fits : A → Type 0} {Ends : List ℕ → Type 0} {read : Reader A}
     → IsSpaced IsText Fits Ends read → (bytes tail : List ℕ) (at : ℕ) (x : A × List ℕ)
     → tail ≡ drop at bytes → read tail ≡ Ok x → (a : A) (rest : List ℕ) → Fits a → Ends rest → Stands IsText a (drop at bytes) rest → (a ≡ x.0) × (rest ≡ x.1)
@@ -43,7 +43,7 @@ is_only {A = A} {read = read} is bytes tail at x is_tail e a rest fits ends stan
     let same : pair ≡ x = ok_is pair x (sym found ∙ e) in
     (ap (λ (y : A × List ℕ). y.0) same, ap (λ (y : A × List ℕ). y.1) same)
 
--- Where a value stands from the offset on, the only fault is `Memory`.
+-- If a value is there from the offset on, the only fault is `Memory`.
 pub no_fault : {A : Type 0} {IsText : A → List ℕ → Type 0} {Fits : A → Type 0} {Ends : List ℕ → Type 0} {read : Reader A}
     → IsSpaced IsText Fits Ends read → (bytes tail : List ℕ) (at n : ℕ) (fault told : TextFault)
     → tail ≡ drop at bytes → (fault ≢ Memory → read tail ≡ Err fault) → told ≡ placed n fault
@@ -53,13 +53,13 @@ no_fault {read = read} is bytes tail at n fault told is_tail fails is_told a res
     let failed : read tail ≡ Err fault = fails (λ m. not_memory (is_told ∙ ap (placed n) m)) in
     absurd cc
 
--- ---- where memory ran out
+-- ---- when memory ran out
 
 there : {A : Type 0} (read : Result A TextFault) → IsOk read → (a : A) × (read ≡ Ok a)
 there (Ok a) ok = (a, refl)
 there (Err fault) ok = absurd cc
 
--- A value stands from the offset on.
+-- A value is there from the offset on.
 pub stands_there : {A : Type 0} {IsText : A → List ℕ → Type 0} {Fits : A → Type 0} {Ends : List ℕ → Type 0} {read : Reader A}
     → IsSpaced IsText Fits Ends read → (bytes tail : List ℕ) (at : ℕ)
     → tail ≡ drop at bytes → IsOk (read tail) → (a : A) × (rest : List ℕ) × (Fits a × Stands IsText a (drop at bytes) rest)

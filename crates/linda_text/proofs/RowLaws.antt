@@ -59,7 +59,7 @@ close_again blanks rest all = rw (blanks_again blanks (mark.CLOSING ∷ rest) al
 
 -- ---- fields
 
--- A text of the fields stands at the front, there are no more than so many, and each fits.
+-- A text of the fields is at the front, there are no more than so many, and each fits.
 abbrev BeginFields : {A : Type 0} → (A → List ℕ → Type 0) → (A → Type 0) → ℕ → List ℕ → List A × List ℕ → Type 0
 BeginFields IsText Fits room bytes x = (text : List ℕ) × AreFields IsText x.0 text × (length x.0 ≤ room) × AllByRecursion Fits x.0 × (bytes ≡ text ++ x.1)
 
@@ -129,7 +129,7 @@ fields_takes {A = A} {IsText = IsText} {Fits = Fits} {field = field} is (suc roo
     let m = bind_ok (more_at (after_blanks bytes)) (λ more. cond more.0 (field (after_blanks more.1) >>= others_read field room) (Ok ([], more.1))) x e in
     fields_by is room bytes m.0.1 m.0.0 x m.1 (fields_takes is room) m.2
 
--- After a field stand blanks and a mark.
+-- After a field come blanks and a mark.
 fields_end : {A : Type 0} (IsText : A → List ℕ → Type 0) (items : List A) (text rest : List ℕ) → AreFields IsText items text → EndsNumeral (text ++ rest)
 fields_end IsText [] text rest is =
     rw (is.2, append_assoc is.0 (mark.CLOSING ∷ []) rest) (blanks_end is.0 mark.CLOSING rest is.1 refl)
@@ -218,7 +218,7 @@ row_again {A = A} {IsText = IsText} {Fits = Fits} {field = field} is row text re
 
 -- ---- readers that pass over blanks first
 
--- What is read stands there after blanks, and fits; each value that fits and stands there is read, where what follows ends it.
+-- What is read is there after blanks, and fits; each value that fits and is there is read, if what follows ends it.
 pub record IsSpaced {A : Type 0} (IsText : A → List ℕ → Type 0) (Fits : A → Type 0) (Ends : List ℕ → Type 0) (read : Reader A) : Type 0 where
   pub takes : (bytes : List ℕ) (x : A × List ℕ) → read bytes ≡ Ok x → Fits x.0 × Stands IsText x.0 bytes x.1
   pub again : (a : A) (bytes rest : List ℕ) → Stands IsText a bytes rest → Fits a → Ends rest → read bytes ≡ Ok (a, rest)

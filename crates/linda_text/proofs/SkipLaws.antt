@@ -61,7 +61,7 @@ left_alone : (A : Type 0) (step : Result (List ℕ) TextFault) → left_by (step
 left_alone A (Ok rest) = refl
 left_alone A (Err fault) = refl
 
--- After the last field that may stand there.
+-- After the last field that may be there.
 pub ends : {A : Type 0} (field : Reader A) (count i : ℕ) (bytes : List ℕ) (total : Result (List ℕ) TextFault) → count ≤ i
     → left_by (fields_at field (count - i) bytes) ≡ total → total ≡ no_more_at bytes
 unfolding fields_at

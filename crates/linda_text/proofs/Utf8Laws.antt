@@ -1,4 +1,4 @@
--- What stands between quotes is UTF-8 exactly where what it says is: an escape is of ASCII and represents a byte of ASCII.
+-- What comes between quotes is UTF-8 exactly if what it says is: an escape is of ASCII and represents a byte of ASCII.
 use Rattle.std.proofs.Common.{◌≡◌, inl, inr, ℕ, zero, suc, ◌+◌, ◌-◌, ◌<◌, Bool, true, false, cond, List, [], ◌∷◌, ◌++◌}
 use Rattle.std.proofs.Common.{length, take, drop, Ok, refl, sym, ap, subst, ◌∙◌, append_assoc, arith}
 use Rattle.std.specs.Prelude.{Some, None, ◌==◌, ◌&&◌}
@@ -49,7 +49,7 @@ ascii_text b low = IsUtf8-from_ascii (b ∷ []) each
     each zero = low
     each (suc i) = omega arith
 
--- They are UTF-8 where both parts are.
+-- They are UTF-8 exactly if both parts are.
 joined : (front behind : List ℕ) (b : ℕ) → b < 128 → is_utf8 (front ++ b ∷ behind) ≡ (is_utf8 front && is_utf8 behind)
 joined front behind b low =
     same_test _ _
@@ -89,7 +89,7 @@ escape_low e b found = low_by (e == mark.QUOTE) (e == mark.BACKSLASH) (e == mark
 
 -- ---- what is said, and the bytes that say it
 
--- Whatever stands before both, the one is UTF-8 where the other is.
+-- With the same front before both, what is said is UTF-8 exactly if the bytes that say it are.
 same_text : (said content : List ℕ) → IsContent said content → (front : List ℕ) → is_utf8 (front ++ said) ≡ is_utf8 (front ++ content)
 same_text [] content none front = rw none refl
 same_text (b ∷ said) content (form, rest, inl plain, is, parts) front =
@@ -102,7 +102,7 @@ same_text (b ∷ said) content (form, rest, inr escape, is, parts) front =
     let others : is_utf8 said ≡ is_utf8 rest = same_text said rest is [] in
     rw (parts, escape.2, joined front said b low.1, joined front (escape.0 ∷ rest) mark.BACKSLASH (omega arith), letter, others) refl
 
--- What a string says is UTF-8 where all is that stands up to the bytes left, its closing quote as well.
+-- What a string says is UTF-8 exactly if all that comes before the bytes left is, with its closing quote.
 pub says_text : (bytes content rest : List ℕ) → content_at false bytes ≡ Ok (content, rest)
     → is_utf8 (take (length bytes - length rest) bytes) ≡ is_utf8 content
 says_text bytes content rest found =

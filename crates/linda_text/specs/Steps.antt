@@ -1,5 +1,4 @@
--- Reading texts from left to right, by the steps of linda_codec, where the faults are those of
--- texts.
+-- Reading texts from left to right, by the steps of linda_codec, with the faults of texts.
 use Rattle.std.specs.Prelude.{List, ℕ, Result}
 use Rattle.linda_codec.specs.Steps.{ReadOr, GivesUnless, GivesWithout}
 use Rattle.linda_text.specs.declared.fault.TextFault.{TextFault}

@@ -13,7 +13,7 @@ use Rattle.linda_tuple.specs.Template.{Template}
 use Rattle.linda_text.specs.Letters.{truth_word, int_word, text_word, bool_word, any_word}
 use Rattle.linda_text.specs.declared.marks.TheConstants as mark
 
--- These bytes were written after what stood there.
+-- These bytes were written after what was there.
 abbrev pub IsWrittenBehind : String Global → String Global → List ℕ → Type 0
 IsWrittenBehind old new bytes = string_bytes new ≡ string_bytes old ++ bytes
 

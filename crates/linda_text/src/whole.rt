@@ -84,7 +84,7 @@ fn only_template(alloc: Global, text: &str) -> Result<Template, TextFault>
     Ok(template)
 }
 
-/// Sees that nothing but blanks is left.
+/// Checks that only blanks are left.
 ///
 /// # Errors
 ///

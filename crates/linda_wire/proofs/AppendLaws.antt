@@ -1,7 +1,7 @@
 -- Bytes that are appended one after another.
 use Rattle.std.proofs.Common.{◌≡◌, ℕ, List, ◌++◌, Result, Ok, Err, OnOk, is_ok, if◌then◌else◌, ap, ◌∙◌, append_assoc}
 
--- Behind the first bytes the second ones were appended, if they were: so both were, in one.
+-- The second bytes were appended after the first ones, if at all: so both were appended, as one.
 pub both_behind : {T E : Type 0} (r : Result T E) (old first second mid new : List ℕ) → mid ≡ old ++ first
     → OnOk r (new ≡ mid ++ second) → OnOk r (new ≡ old ++ (first ++ second))
 both_behind (Ok v) old first second mid new m n = n ∙ ap (λ (l : List ℕ). l ++ second) m ∙ append_assoc old first second

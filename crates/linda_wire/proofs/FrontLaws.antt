@@ -20,7 +20,7 @@ use Rattle.linda_wire.proofs.LengthLaws.{IsFaultOfLength, payload_len-fault, pay
 use Rattle.linda_wire.proofs.LengthLaws.{length_field-length, length_field-told, payload_there, payload_len-append}
 use Rattle.linda_wire.proofs.LengthLaws.{payload_len-broken, payload_len-frame}
 
--- ---- what stands at the front, by cases
+-- ---- what is at the front, by cases
 
 front_with_whole : {A : Type 0} (r : Result A FrameFault) (after : List ℕ) (value : A) (rest : List ℕ)
     → front_with r after ≡ Whole value rest → (r ≡ Ok value) × (after ≡ rest)
@@ -92,7 +92,7 @@ parts_of bytes len fits there =
     ∙ ap (λ (a : List ℕ). a ++ (payload ++ drop (LENGTH_BYTES + len) bytes)) field
     ∙ ap (λ (b : List ℕ). take LENGTH_BYTES bytes ++ b) behind ∙ take-append-drop LENGTH_BYTES bytes)
 
--- What is read stands at the front as it is spelled.
+-- What is read is at the front, as it is spelled.
 front_takes : {A : Type 0} (f : Format A) → IsFramed f
     → (bytes : List ℕ) (value : A) (rest : List ℕ) → IsBytes bytes → front f bytes ≡ Whole value rest → (bytes ≡ frame (f.spell value) ++ rest) × f.Fits value
 front_takes f is bytes value rest fits e =
@@ -146,7 +146,7 @@ is_fault_of f is bytes fault e =
 
 -- ---- the answers of a feed
 
--- Where a value stands at the front, all of its frame is there.
+-- If a value is at the front, all of its frame is there.
 pub whole_has_frame : {A : Type 0} (f : Format A) (bytes : List ℕ) → IsWhole (front f bytes) → HasFrame bytes
 whole_has_frame f bytes whole = by_length f bytes (payload_len bytes) refl whole
   where
@@ -156,7 +156,7 @@ whole_has_frame f bytes whole = by_length f bytes (payload_len bytes) refl whole
     by_length f bytes (Ok (Some len)) e whole = has_frame bytes len e
     by_length f bytes (Err fault) e whole = absurd whole
 
--- Where a payload that is there spells a value, that stands at the front.
+-- If a payload that is there spells a value, that value is at the front.
 pub is_whole : {A : Type 0} (f : Format A) (bytes : List ℕ) (len : ℕ) → payload_len bytes ≡ Ok (Some len)
     → IsOk (whole_of f (take len (drop LENGTH_BYTES bytes))) → IsWhole (front f bytes)
 is_whole f bytes len there ok = rw there (spelled (whole_of f (take len (drop LENGTH_BYTES bytes))) (drop (LENGTH_BYTES + len) bytes) ok)
@@ -180,7 +180,7 @@ pub told_of_length : (old bytes : List ℕ) (fault : FrameFault) → bytes ≡ o
 told_of_length old bytes fault e told =
     subst (λ (b : List ℕ). IsFaultOf b fault) e (fault_of_length bytes fault (payload_len-long bytes fault told) (payload_len-fault bytes fault told))
 
--- A value that was read stood at the front as it is spelled.
+-- A value that was read was at the front, as it is spelled.
 pub found_at_front : {A : Type 0} (f : Format A) → IsFramed f → (old : List ℕ) (answer : Result (Option A) FrameFault) (new : List ℕ)
     → IsBytes old → Answers (front f) old answer new
     → IfOk answer (λ o. IfSome o (λ value. (old ≡ frame (f.spell value) ++ new) × f.Fits value))

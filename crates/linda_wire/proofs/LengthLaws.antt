@@ -1,4 +1,5 @@
--- Laws of a frame's length: what is told is what was written, and more bytes change nothing.
+-- Laws of a frame's length: the length that is read is the one that was written, and more bytes
+-- change nothing.
 use Rattle.std.proofs.Common.{◌≡◌, ℕ, ◌+◌, ◌^◌, ◌<◌, ◌≤◌, Bool, true, false, cond, ltb, eqb, List, ◌++◌, length, take}
 use Rattle.std.proofs.Common.{Option, Some, None, Result, Ok, Err, refl, sym, ap, subst, ◌∙◌, append_assoc, arith}
 use Rattle.std.specs.Int.{w32, from_be_bytes}
@@ -45,7 +46,7 @@ payload_len-judged : (bytes : List ℕ) → payload_len bytes ≡ judged (length
 unfolding payload_len
 payload_len-judged bytes = refl
 
--- A payload that is there: its length is the one that is told, within its limits.
+-- A payload that is there: its length is the one that is read, within its limits.
 pub record IsThere (count told len : ℕ) : Type 0 where
   pub told-is : told ≡ len
   pub some : 0 < len

@@ -88,7 +88,7 @@ with_rest : {U A : Type 0} (len : ℕ) (unit : U) (value : A) (rest : List ℕ) 
 with_rest len unit value [] = refl
 with_rest len unit value (b ∷ rest) = ((λ e. absurd cc), refl)
 
--- Bytes are left behind a value: whether they are none says whether the payload spells it.
+-- Bytes are left after a value: whether there are none says whether the payload spells it.
 pub judged_ok : {U A : Type 0} (len : ℕ) (read : Read A) (unit : U) (rest : List ℕ) → left_by read ≡ Ok rest
     → Judges (with_no_rest len unit rest) (in_frame len read)
 judged_ok len (Ok x) unit rest e = rw (← left_is x.1 rest e) (with_rest len unit x.0 x.1)
@@ -103,7 +103,7 @@ told_fault len (reading.BadText left) other e = absurd cc
 told_fault len (reading.TooMany left) other e = absurd cc
 told_fault len (reading.LongText left) other e = absurd cc
 
--- A fault that is told of what is left is the payload's.
+-- A fault that is reported for what is left is the payload's.
 pub judged_err : {A : Type 0} (len : ℕ) (read : Read A) (fault : ReadFault) → (fault ≡ reading.Memory → ⊥)
     → left_by read ≡ Err fault → (frame_fault len fault ≡ Memory → ⊥) × (in_frame len read ≡ Err (frame_fault len fault))
 judged_err len (Ok x) fault other e = absurd cc

@@ -1,4 +1,4 @@
--- Offsets that clients are told for faults of frames.
+-- Offsets that are reported to clients for faults of frames.
 use Rattle.std.specs.Prelude.{ℕ, Option, Some, None}
 use Rattle.linda_wire.specs.declared.fault.FrameFault.{FrameFault}
 use Rattle.linda_wire.specs.declared.fault.FrameFault.TheVariants.{Memory, EmptyFrame, FrameTooLong}

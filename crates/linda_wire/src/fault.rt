@@ -27,8 +27,8 @@ pub enum FrameFault {
 }
 
 impl FrameFault {
-    /// The offset that a client is told: that of the first byte at fault, counted from the frame's
-    /// first byte, or 0 if the frame's length is at fault. None if memory ran out.
+    /// The offset that is reported to a client: that of the first byte at fault, counted from the
+    /// frame's first byte, or 0 if the frame's length is at fault. `None` if memory ran out.
     pub fn offset(self) -> Option<u32>
         ensures { result ≡ offset_of self }
     {

@@ -69,7 +69,7 @@ impl<T: FramePayload> FrameFeed<T> {
         self.unread.append(piece)
     }
 
-    /// The value at the front, which is then read; None if less than a whole frame is there.
+    /// The value at the front, which is then read; `None` if less than a whole frame is there.
     ///
     /// # Errors
     ///

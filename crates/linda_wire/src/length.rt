@@ -9,7 +9,7 @@ ghost use Rattle.linda_wire.specs.Stream.{payload_len, HasFrame};
 use crate::fault::FrameFault;
 use crate::limits::{LENGTH_BYTES, MAX_PAYLOAD};
 
-/// How many bytes the first frame has after its length: None while some of them are to come.
+/// How many bytes the first frame has after its length: `None` while some of them are to come.
 #[tactic(auto, unfolding(crate::specs::Stream::payload_len))]
 pub(crate) fn len_of_payload(bytes: &[u8]) -> Result<Option<usize>, FrameFault>
     ensures value { result ≡ payload_len bytes.now }

@@ -48,6 +48,6 @@ still_noted ds more k lasts was =
       each = λ c. was.each c ∙ ap (λ l. last_in l c) (sym (take-append-le k ds more within));
     }
 
--- Where all are noted, each client's last number is.
+-- If all are noted, each client's last number is.
 pub all_noted : (ds : List Deed) (k : ℕ) (lasts : Lasts) → AreNoted ds k lasts → k ≡ length ds → (c : ℕ) → noted_number (get lasts c) ≡ last_in ds c
 all_noted ds k lasts was whole c = was.each c ∙ ap (λ l. last_in l c) (take_all k ds (omega (arith, whole)))

@@ -70,7 +70,7 @@ module _ (task : Task) (s : ℕ) (servers : List Server) (members : Members) (ps
 pub server_there : (w : World) (s : ℕ) → s < length w.servers → refusal_at w s ≡ None
 server_there w s within = cond-true (nat_lt s (length w.servers)) None (Some faults.NoServer) (lt-ltb s (length w.servers) within)
 
--- a server that is there is asked, where the servers are those of a vector
+-- a server that is there is asked, if the servers are those of a vector
 pub there_at : (s : ℕ) (servers : List Server) (members : Members) (ps : List Packet) (w : World)
     → (let scene : World = record { servers = servers; members = members; packets = ps } in scene) ≡ w → s < length servers → refusal_at w s ≡ None
 there_at s servers members ps w w_is within = subst (λ (x : World). refusal_at x s ≡ None) w_is
@@ -90,7 +90,7 @@ pub stop_allowed : (s : ℕ) (ks : List ℕ) (servers : List Server) (members : 
 stop_allowed s ks servers members ps w w_is within are few =
     subst (λ (x : World). refusal_of_stop x s ks ≡ None) w_is (stop_lawful (record { servers = servers; members = members; packets = ps }) s ks within are few)
 
--- a server was asked, where the servers are those of a vector, and the answer has another name
+-- a server was asked, if the servers are those of a vector, and the answer has another name
 pub asked_at : {E : Type 0} (task : Task) (s : ℕ) (servers : List Server) (members : Members) (ps later : List Packet) (server now : Server)
     → s < length servers → server ≡ get_or servers s server
     → (w : World) → (let scene : World = record { servers = servers; members = members; packets = ps } in scene) ≡ w
@@ -136,7 +136,7 @@ pub short_at : {E : Type 0} (Comes : World → Told → World → Type 0) (refus
     → AsksOrNot Comes refused w result new
 short_at Comes refused w new short result result_is allowed shown = subst (λ r. AsksOrNot Comes refused w r new) (sym result_is) (allowed, shown)
 
--- A server's call is a step, or leaves what is shown, where the servers are those of a vector.
+-- A server's call is a step, or leaves what is shown, if the servers are those of a vector.
 module _ (task : Task) (s : ℕ) (servers : List Server) (members : Members) (ps later : List Packet)
     (server now : Server) (within : s < length servers) (there : server ≡ get_or servers s server)
     (w : World) (w_is : (let scene : World = record { servers = servers; members = members; packets = ps } in scene) ≡ w) where
@@ -184,7 +184,7 @@ received_at call c k servers olds news ps later final told low is final_is w w_i
 
 -- A packet that is there is delivered: a message to its server, or a reply to its client.
 module _ (w new : World) (k : ℕ) (p : Packet) (result : Result Seen WorldFault) (there : slice_get w.packets k ≡ Some p) where
-  -- whatever is asked before it is copied
+  -- whatever refusal may come before it is copied
   carried_early : (body : Body) (early : Option WorldFault) → p.body ≡ body
       → Tells (λ told. (refusal_by w p body ≡ None) × Carries body p k w told new)
       (λ fault. (refusal_by w p body ≡ Some fault) × (new ≡ w)) ((early ≡ None) × IsShownAs w new) result

@@ -47,8 +47,7 @@ falls_short w new was is shown = record {
   whole = λ e. absurd (true≢false e);
 }
 
--- After a fault: an event where the server is down took place, one that is refused changed nothing, and where memory ran
--- out the world is spent.
+-- After a fault: if the server is down, the event took place; if the event is refused, nothing changed; and if memory ran out, the world is spent.
 pub fails : (w new : run.World) (was spent : Bool) (event : WorldEvent) (fault : WorldFault) → IsRun (record { world = w; is_spent = was })
     → was ≡ false → (fault ≡ faults.Memory → spent ≡ true) → Answers w event (Err fault) new → IsRun (record { world = new; is_spent = spent })
 fails w new was spent event fault is unspent is_spent answer = by fault is_spent answer
@@ -72,7 +71,7 @@ pub runs_more : (w mid new : World) (events : List WorldEvent) (event : WorldEve
 runs_more w mid new [] event seen same step = (seen, (new, (subst (λ v. Steps v event (Ok seen) new) same step, refl)))
 runs_more w mid new (x ∷ xs) event seen run step = (run.0, (run.1.0, (run.1.1.0, runs_more run.1.0 mid new xs event seen run.1.1.1 step)))
 
--- A world begins where its nodes were never used.
+-- A world begins if its nodes were never used.
 pub start_of : (nodes : List Node) → 1 ≤ length nodes → length nodes ≤ MAX_SERVERS → All IsUnused nodes → IsStart (world_of nodes)
 start_of nodes some few unused =
     let count : length (map new_server nodes) ≡ length nodes = length-map nodes new_server in
@@ -84,7 +83,7 @@ start_of nodes some few unused =
       packets = refl;
     }
 
--- Where no client is added nothing changes.
+-- If no client is added, nothing changes.
 pub unchanged : (old : run.World) (c : ℕ) (fault : WorldFault) (new : run.World) → AddsOrNot old c (Err fault) new → new ≡ old
 unchanged old c faults.ClientKnown new known = known.1
 unchanged old c faults.Memory new short = short.1
@@ -98,7 +97,7 @@ unchanged old c (faults.Down s) new never = absurd never
 pub shown_unchanged : (old new : run.World) → new ≡ old → IsShownAs old new
 shown_unchanged old new same = subst (IsShownAs old) (sym same) (same_shown old)
 
--- Where one event is refused or goes wrong the others are not done.
+-- If one event is refused or goes wrong, the later ones are not done.
 pub stops_at : (old mid new : World) (before later all : List WorldEvent) (event : WorldEvent) (fault : WorldFault)
     → all ≡ before ++ event ∷ later → Runs old before mid → Steps mid event (Err fault) new → StopsAt old all fault new
 stops_at old mid new before later all event fault parts runs step =

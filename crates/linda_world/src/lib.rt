@@ -1,7 +1,7 @@
 //! Servers and clients with a network between them that loses, repeats and delays as it likes, as
 //! one machine that is driven event by event.
 //!
-//! A `World` is made of nodes, of whatever kind. `step` does one event, exactly as
+//! A `World` is made of nodes of any kind. `step` does one event, exactly as
 //! `linda_world_laws/specs/Steps` says of it; so what linda_world_laws proves of every run holds of
 //! the machine: no tuple is taken twice, and whatever is held is held for a reason.
 //!

@@ -103,7 +103,7 @@ impl<N: Node> World<N> {
         }
     }
 
-    /// All deeds that the server ever did, in order. None if there is no such server.
+    /// All deeds that the server ever did, in order. No deeds if there is no such server.
     pub fn deeds(&self, server: u32) -> &[Deed]
         ensures deeds { result.now ≡ deeds_by (slice_get self.now.world.servers server) }
         ensures run { IsRun self.now }

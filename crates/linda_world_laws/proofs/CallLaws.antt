@@ -150,7 +150,7 @@ to_some P (Some x) h = h x refl
 refuses : (f : ClientFault) (r : Reaction) → Err f ≡ Ok r → ⊥
 refuses f r e = cc
 
--- A client takes replies of its servers alone.
+-- A client takes replies only of its own servers.
 pub received_within : (c : Client) (s : ℕ) (reply : Reply) (r : Reaction) → react c (Receive s reply) ≡ Ok r → s < servers c
 received_within c s reply r e = by (nat_lt s (servers c)) refl e
   where

@@ -110,7 +110,7 @@ module _ (laws : OfSteps) (ms : Members) (s : ℕ) where
       front_of (IsUsedBy ms s) ds left.all.deeds left.front
       (used_all old.state old.soft left.first left.all orderly (front_of (IsSpoken ms s) left.first xs left.is_first spoken) left.happens)
 
--- One thing came to a node: the deed or none, what it sends, and where that leaves it.
+-- One thing came to a node: the deed or none, what it sends, and the node after that.
 pub record IsSingle (old : Node) (x : Coming) (ds : List Deed) (sends : List (ℕ × Reply)) (new : Node) : Type 0 where
   pub deed : Option Deed
   pub deeds_are : ds ≡ option_to_list deed
@@ -286,7 +286,7 @@ module _ (laws : OfSteps) (ms : Members) (ps : List Sent) (s : ℕ) (ds es : Lis
             done y m d x_is e (laws.step_deed old.state new.state y old.soft m
             (record { deed = one.deed; sends = sends; soft = new.soft }) d orderly.soft_is.there step e)
 
-    -- What is held then has a reason, where packets stay and those that are sent are among them.
+    -- What is held then has a reason, if packets stay and those that are sent are among them.
     held_then : (news : List Sent) → ((r : Request) → HasCancel ps s r → HasCancel news s r)
         → ((r : Request) (id : ℕ) → HasOffer ps s ds r id → HasOffer news s (ds ++ es) r id)
         → ((r : Request) (id : ℕ) (row : Tuple) → IsPut (ds ++ es) id row

@@ -1,4 +1,4 @@
--- What becomes of packets where some count as delivered, and others are sent.
+-- What becomes of packets if some count as delivered, and others are sent.
 use Rattle.std.proofs.Common.{◌≡◌, ℕ, zero, suc, Bool, true, List, [], ◌∷◌, ◌++◌, map, Some, All, Contains, slice_get, ◌⊎◌, inl, inr, sym, ap, ◌∙◌, subst}
 use Rattle.std.specs.Prelude.{option_map}
 use Rattle.std.proofs.lemmas.Option.{none-some, same_Some, slice_get-map}
@@ -66,7 +66,7 @@ still_there ks ps p there =
     let later = all_there ks at.0 ps p at.1 in
     record { is_delivered = later.0; there = placed (delivered ks ps) at.0 (record p { delivered = later.0 }) later.1 }
 
--- Where one packet is delivered each is as it was, or is that one.
+-- If one packet is delivered, each is as it was, or is that one.
 same_but_one : (k i : ℕ) (ps : List Packet) (p : Packet) → slice_get ps i ≡ Some p → (slice_get (delivered_at k ps) i ≡ Some p) ⊎ (slice_get ps k ≡ Some p)
 same_but_one k i [] p there = absurd (none-some p there)
 same_but_one zero zero (q ∷ ps) p there = inr there

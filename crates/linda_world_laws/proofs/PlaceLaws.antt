@@ -1,4 +1,4 @@
--- Lists and maps in which one place was set, and lists in which nothing stands twice.
+-- Lists and maps in which one place was set, and lists in which nothing occurs twice.
 use Rattle.std.proofs.Common.{◌≡◌, ◌≢◌, ℕ, zero, suc, List, [], ◌∷◌, ◌++◌, length, Some, Contains, slice_get, set, ◌⊎◌, inl, inr, refl, sym, ap, ◌∙◌, subst}
 use Rattle.std.proofs.lemmas.Option.{none-some, same_Some, slice_get-get_or, get_or_from_slice_get, slice_get_within}
 use Rattle.std.proofs.lemmas.Bool.Decides.{eqb_tells}
@@ -10,7 +10,7 @@ use Rattle.linda_world_laws.specs.Promises.{IsOnce}
 pub same_or_apart : (i k : ℕ) → (i ≡ k) ⊎ (i ≢ k)
 same_or_apart i k = elim (eqb_tells i k) [ inl same ↦ inl same.1 | inr apart ↦ inr apart.1 ]
 
--- What stands at a place where one was set: the new one there, and the old ones elsewhere.
+-- What is at a place after one was set: the new one there, and the old ones elsewhere.
 pub set_there : {X : Type 0} (xs : List X) (i : ℕ) (x old : X) → slice_get xs i ≡ Some old → slice_get (set xs i x) i ≡ Some x
 set_there [] i x old there = absurd (none-some old there)
 set_there (y ∷ ys) zero x old there = refl
@@ -44,7 +44,7 @@ each_of_insert {X} P m i x now others k y found = by (same_or_apart k i)
         subst (λ j. P j y) (sym same) (subst (P i) is now)
     by (inr apart) = others k y apart (sym (get_other m i x k apart) ∙ found)
 
--- what a list contains stands at a place, and the other way round
+-- what a list contains is at a place, and the other way round
 pub place : {X : Type 0} (xs : List X) (x : X) → Contains xs x → (i : ℕ) × (slice_get xs i ≡ Some x)
 place xs x there = (there.0, slice_get-get_or xs there.0 x there.1 ∙ ap (λ y. Some y) there.2)
 
@@ -57,14 +57,14 @@ none_there x there = none-some x (place [] x there).1
 pub none_twice : {X : Type 0} → IsOnce {X = X} []
 none_twice i k x first second = absurd (none-some x first)
 
--- where one was pushed, each stands where it did, or is that one at the end
+-- after one was pushed, each is at its old place, or is that one at the end
 place_pushed : {X : Type 0} (xs : List X) (x y : X) (i : ℕ) → slice_get (xs ++ x ∷ []) i ≡ Some y → (slice_get xs i ≡ Some y) ⊎ ((i ≡ length xs) × (x ≡ y))
 place_pushed [] x y zero found = inr (refl, same_Some x y found)
 place_pushed [] x y (suc i) found = absurd (none-some y found)
 place_pushed (z ∷ xs) x y zero found = inl found
 place_pushed (z ∷ xs) x y (suc i) found = elim (place_pushed xs x y i found) [ inl before ↦ inl before | inr last ↦ inr (ap suc last.0, last.1) ]
 
--- One more stands once, if it was not there.
+-- One more occurs once, if it was not there.
 pub pushed_once : {X : Type 0} (xs : List X) (x : X) → IsOnce xs → (Contains xs x → ⊥) → IsOnce (xs ++ x ∷ [])
 pushed_once {X} xs x once new i k y first second = by (place_pushed xs x y i first) (place_pushed xs x y k second)
   where

@@ -72,7 +72,7 @@ module _ (ms news : Members) (go : Goes ms news) where
   used_on : (s : ℕ) (d : Deed) → IsUsedBy ms s d → IsUsedBy news s d
   used_on s d = member_on _ (λ c new on low. let more = on.numbers s in omega (arith, low, more)) _
 
-  -- What is kept of a server is kept, where its holds have a reason still.
+  -- What is kept of a server is kept, if its holds still have a reason.
   pub reasoned_on : (ps new : List Packet) (s : ℕ) (server : Server)
       → ((id : ℕ) (request : Request) → HasReason ms ps s server.deeds id request → HasReason news new s server.deeds id request)
       → IsReasoned ms ps s server → IsReasoned news new s server
@@ -130,7 +130,7 @@ spoken w task s ks reasons (closes c _) = All-cons (IsSpoken w.members s) (hangs
 spoken w task s ks reasons (saves _) = All-nil (IsSpoken w.members s)
 spoken w task s ks reasons (halts _ _ ms are) = in_hand_spoken w.members w.packets s ks ms reasons.sane are
 
--- An Offer stays undelivered where messages are delivered.
+-- An Offer stays undelivered when messages are delivered.
 offer_unmoved : (w : World) (task : Task) (s : ℕ) (ks : List ℕ) → IsAsked w task s ks → (p : Packet)
     → ((m : Message) → p.body ≡ bodies.Message m → ⊥) → Contains w.packets p → Contains (delivered ks w.packets) p
 offer_unmoved w task s ks (takes k q m at body) p apart there = elim (same_or_delivered k w.packets p there) [

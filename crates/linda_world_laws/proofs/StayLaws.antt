@@ -25,7 +25,7 @@ use Rattle.linda_world_laws.specs.Promises.{OfServer, DeedsStay, IsBacked}
 use Rattle.linda_world_laws.specs.Honest.{IsEarned}
 use Rattle.linda_world_laws.specs.Below.{OfSound}
 
--- nothing that is reported, and what is sent where there is no room
+-- nothing that is reported, and what is sent if there is no room
 backed_none : (ds : List Deed) → AreBacked ds []
 backed_none ds = All-nil (λ (send : ℕ × Reply). reports_deed send.1 ≡ true → ReportsOne ds send.0 send.1)
 

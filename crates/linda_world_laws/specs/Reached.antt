@@ -1,4 +1,4 @@
--- Runs: where a world begins, and which worlds they lead to.
+-- Runs: how a world begins, and which worlds they lead to.
 use Rattle.std.specs.Prelude.{◌≡◌, ℕ, ◌≤◌, false, List, [], ◌∷◌, length, All}
 use Rattle.std.specs.FinMap as map
 use Rattle.linda_client.specs.declared.limits.TheConstants.{MAX_SERVERS}

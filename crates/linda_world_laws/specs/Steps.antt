@@ -74,7 +74,7 @@ silent (Ok done) = Sent []
 silent (Err faults.Full) = IsFull
 silent (Err faults.Down) = IsDown
 
--- A node was asked this: what it answers, the deeds that it adds, and where that leaves it.
+-- A node was asked this: what it answers, the deeds that it adds, and the node after that.
 abbrev pub Does : Task → Node → NodeAnswer → List Deed → Node → Type 0
 Does (Takes c m) old answer ds new = Works old (says c m ∷ []) answer ds new
 Does (HangsUp c) old answer ds new = Closes old c answer new × (ds ≡ [])

@@ -1,5 +1,5 @@
 //! Laws of every world that a run leads to, and of every step: each stated in the contract of a
-//! function that does nothing but call the laws of the layers below.
+//! function that only calls the laws of the layers below.
 
 ghost use Rattle.std.specs.Prelude.{◌≡◌, ◌≤◌, ℕ, List, [], ◌∷◌, length, Ok, IfSome, option_to_list};
 ghost use Rattle.linda_client.specs.declared.limits.TheConstants.{MAX_SERVERS};

@@ -92,7 +92,7 @@ pub(super) fn option<'a>(alloc: Global, name: &'a str, value: &'a str, help: &'a
         .action(ArgAction::Set)
 }
 
-/// An option of this name that stands alone.
+/// An option of this name that takes no value.
 pub(super) fn flag<'a>(alloc: Global, name: &'a str, help: &'a str) -> Arg<'a>
     ensures rule { rule_of result ≡ flag_rule name.entry.now }
     ensures own { result.global ≡ false }

@@ -37,7 +37,7 @@ pub(super) fn call_command<'a>(alloc: Global) -> Result<Command<'a>, AllocError>
     with_arg(fourth, flag(alloc, EXPLAIN, EXPLAIN_LINES))
 }
 
-/// The program's command where it calls servers at sockets.
+/// The program's command if it calls servers at sockets.
 pub(super) fn command_of_sockets<'a>(alloc: Global) -> Result<Command<'a>, AllocError> {
     bare_linda(alloc).subcommand(call_command_of_sockets(alloc)?)
 }

@@ -41,8 +41,8 @@ pub(super) fn serve_command<'a>(alloc: Global) -> Result<Command<'a>, AllocError
     with_arg(eleventh, flag(alloc, EXPLAIN, EXPLAIN_END))
 }
 
-/// The program's command where it serves with a socket, which has to be there then, and no port; or
-/// where its status is asked for at a path.
+/// The program's command if it serves with a socket, which is required then, and no port; or if its
+/// status is asked for at a path.
 pub(super) fn command_of_paths<'a>(
     alloc: Global,
     at_socket: bool,

@@ -24,7 +24,7 @@ pub(super) const METRIC: &str = "metric";
 ///
 /// # Errors
 ///
-/// `AllocError` where memory runs out.
+/// `AllocError` if memory runs out.
 pub(super) fn status_found(
     alloc: Global,
     matches: &ArgMatches,
@@ -60,7 +60,7 @@ fn port_found(matches: &ArgMatches) -> Option<StatusPlace>
 ///
 /// # Errors
 ///
-/// `AllocError` where memory runs out.
+/// `AllocError` if memory runs out.
 pub(super) fn metrics_found(alloc: Global, matches: &ArgMatches) -> Result<Vec<String>, AllocError>
     ensures { IfOk result (λ metrics. map string_bytes metrics.items
         ≡ unwrap_or ((options_of (found_of matches.now)).all (codes "metric")) []) }

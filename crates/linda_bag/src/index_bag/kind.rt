@@ -23,8 +23,8 @@ pub struct Kind<'a> {
 }
 
 impl IndexBag {
-    /// The next kind of tuples after the last one, by tags and then by numbers of fields; nothing
-    /// if there is none. Without a last one it is the first of all. Takes no walk over tuples.
+    /// The next kind of tuples after the last one, by tags and then by numbers of fields; `None` if
+    /// there is none. Without a last one it is the first of all. Takes no walk over tuples.
     pub fn kind_after<'a>(&'a self, last: Option<(&'a Atom, usize)>) -> Option<Kind<'a>>
         ensures past { IfSome result (λ kind. IsPast last.entry kind.tag.now kind.fields) }
         ensures counted { IfSome result (λ kind.

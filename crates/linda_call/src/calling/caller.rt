@@ -22,7 +22,7 @@ use std::io::Write;
 use std::sync::Wait;
 use std::time::{Clock, Instant};
 
-/// A client and how it stands with each server, the tuples that are put together, its links, what
+/// A client and its standing with each server, the tuples that are put together, its links, what
 /// comes by them, and when it began.
 #[derive(Drop)]
 pub(super) struct Caller<'a> {

@@ -1,5 +1,5 @@
-//! The client of a call and how it stands with its servers: what it does with lines, with time and
-//! with what comes, over no connection.
+//! The client of a call and its standing with each of its servers: what it does with lines, with
+//! time and with what comes, over no connection.
 
 ghost use Rattle.std.specs.Prelude.{◌≡◌, ◌≤◌, None, Some, Ok, Err, true, false, map};
 ghost use Rattle.std.specs.Prelude.{IfOk, IfErr, OnErr};
@@ -28,7 +28,7 @@ use linda_shell_text::Request;
 use linda_wire::{Message, Reply};
 use std::alloc::Global;
 
-/// A client, and how it stands with each of its servers.
+/// A client, and its standing with each of its servers.
 #[derive(Drop)]
 pub(super) struct Party {
     client: Client,

@@ -31,7 +31,7 @@ pub(super) enum Meeting {
     InUse,
 }
 
-/// How the client stands with one server.
+/// The client's standing with one server.
 #[derive(Clone, Copy, Debug)]
 pub(super) struct ServerStanding {
     /// It was welcomed.
@@ -83,7 +83,7 @@ pub(super) fn first_unmet(standings: &[ServerStanding]) -> Option<u32>
     None
 }
 
-/// How the client stands with the server of this number, and as with one that was not met if there
+/// The client's standing with the server of this number, or that with one that was not met if there
 /// is none.
 pub(super) fn standing_at(standings: &[ServerStanding], server: u32) -> ServerStanding
     ensures { result ≡ spec.standing_at standings.now server }
@@ -96,7 +96,7 @@ pub(super) fn standing_at(standings: &[ServerStanding], server: u32) -> ServerSt
     }
 }
 
-/// The server of this number stands so, if there is one.
+/// The server of this number gets this standing, if there is one.
 pub(super) fn put(standings: &mut Vec<ServerStanding>, server: u32, standing: ServerStanding)
     ensures { standings.new.items ≡ spec.with_standing standings.old.items server standing }
 {

@@ -38,8 +38,8 @@ impl Client {
     /// - Refused is handed on as a fault, whatever is pending.
     ///
     /// All else is ignored, and so is all but offers and refusals by a client that has left. At a
-    /// commitment every ticket is cancelled at every server, but where the accepted offer was,
-    /// unless an offer of it is saved.
+    /// commitment every ticket is cancelled at every server, but for the ticket and the server of
+    /// the accepted offer, unless an offer of them is saved.
     ///
     /// # Errors
     ///

@@ -28,7 +28,8 @@ const ONLY: &[u8] = b"\"the only bank\"";
 ///
 /// # Errors
 ///
-/// `AllocError` where memory runs out; a part of it may then be there. So it is of all below.
+/// `AllocError` if memory runs out; a part of it may then be there. The same holds for all
+/// functions below.
 pub(super) fn push_files(
     out: &mut Vec<u8>,
     left: Heading,
@@ -92,7 +93,8 @@ fn letters(form: Form) -> &'static [u8]
     }
 }
 
-/// Appends which bank stands, the right one or the left one, of two or alone.
+/// Appends which bank is in use, the right one or the left one, and whether it is one of two or the
+/// only one.
 pub(super) fn push_standing(
     out: &mut Vec<u8>,
     is_right: bool,

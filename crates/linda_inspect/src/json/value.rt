@@ -26,7 +26,7 @@ const TEN: u8 = b'a';
 ///
 /// # Errors
 ///
-/// `AllocError` where memory runs out; a part of it may then be there.
+/// `AllocError` if memory runs out; a part of it may then be there.
 pub fn push_tuple(out: &mut Vec<u8>, tuple: &Tuple) -> Result<(), AllocError>
     ensures { OnOk result (IsPushed out.old out.new (json_tuple tuple.now)) }
 {
@@ -84,7 +84,7 @@ fn push_number(out: &mut Vec<u8>, number: u64) -> Result<(), AllocError>
 ///
 /// # Errors
 ///
-/// `AllocError` where memory runs out; a part of it may then be there.
+/// `AllocError` if memory runs out; a part of it may then be there.
 pub fn push_member(out: &mut Vec<u8>, name: &[u8], number: u64) -> Result<(), AllocError>
     ensures { OnOk result (IsPushed out.old out.new (json_member name.now number)) }
 {
@@ -96,7 +96,7 @@ pub fn push_member(out: &mut Vec<u8>, name: &[u8], number: u64) -> Result<(), Al
 ///
 /// # Errors
 ///
-/// `AllocError` where memory runs out; a part of it may then be there.
+/// `AllocError` if memory runs out; a part of it may then be there.
 pub fn push_string(out: &mut Vec<u8>, bytes: &[u8]) -> Result<(), AllocError>
     ensures { OnOk result (IsPushed out.old out.new (json_string bytes.now)) }
 {

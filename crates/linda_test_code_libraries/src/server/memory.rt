@@ -70,7 +70,7 @@ const ROWS: &[Row] = &[
     (Do::Put(9, 2, 6), Told::Replies(1), Told::State(5, 4, 3, 0)),
 ];
 
-/// Where a client stands that left by its first message.
+/// The standing of a client that left by its first message.
 const AWAY: Told = Told::Standing(1, true);
 
 /// This comes of a step.

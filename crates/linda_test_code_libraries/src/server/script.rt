@@ -44,7 +44,7 @@ pub(super) enum Do {
     Close(u32),
     /// The client leaves for good by its message n.
     Leave(u32, u64),
-    /// Where the client stands.
+    /// The client's standing.
     Standing(u32),
     /// It is stopped inside this device call of a snapshot, and opened again.
     StopSnapshot(u64, Torn),

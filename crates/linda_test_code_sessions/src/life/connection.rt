@@ -43,7 +43,8 @@ pub(super) enum Event {
     Save(u64),
 }
 
-/// How a connection stands: how many messages were taken from its session, and whether all is over.
+/// The state of a connection: how many messages were taken from its session, and whether all is
+/// over.
 #[derive(Clone, Copy)]
 pub(super) struct Stand {
     pub(super) taken: u64,
@@ -146,7 +147,7 @@ impl<'s, D: Disk, L: Ledger, R: Wait> Connection<'s, D, L, R> {
         Ok(())
     }
 
-    // Puts a message where the session says that it goes. Says whether it could.
+    // Puts a message where the session says that it goes. Returns whether it could.
     fn place(&mut self, message: Message, route: Route) -> bool {
         let Line {
             session,

@@ -26,14 +26,14 @@ const SAVED: usize = 9;
 /// At least so many replies of each kind come in a life, and so much happens.
 const FLOOR: [u64; 10] = [30, 300, 200, 60, 150, 20, 100, 3, 30, 100];
 
-/// A client, what it said and has to be told, and how often it was told so.
+/// A client, what it said and which replies are due to it, and how often each kind came.
 #[derive(Drop)]
 pub(super) struct Near {
     random: Random,
     client: Client,
     pub(super) story: Story,
     pub(super) counts: [u64; 10],
-    // What it is told now.
+    // What is reported to it now.
     told: Vec<Told>,
 }
 

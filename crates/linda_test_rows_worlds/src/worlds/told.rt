@@ -39,7 +39,7 @@ fn push_got(out: &mut String, got: &Got) -> Result<(), AllocError> {
     }
 }
 
-/// The packets from this number on, each with its number, from where to where it goes, and what it
+/// The packets from this number on, each with its number, its sender, its receiver and what it
 /// says.
 pub fn push_packets(out: &mut String, packets: &[Packet], first: usize) -> Result<(), AllocError> {
     for (k, packet) in packets.iter().enumerate() {

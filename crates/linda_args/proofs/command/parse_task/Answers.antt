@@ -1,4 +1,4 @@
--- What the parser says of the program's command, by the words alone.
+-- What the parser returns for the program's command depends only on the words.
 use Rattle.std.proofs.Common.{rules, ℕ, List, map}
 use Rattle.std.specs.String.{string_bytes}
 use Rattle.linda_args.proofs.CommandLaws.{fault_by_words, none_by_words, rows_by_words}

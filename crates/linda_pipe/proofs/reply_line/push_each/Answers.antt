@@ -4,7 +4,7 @@ use Rattle.std.proofs.lemmas.Result.{err_from_is_err_and}
 use Rattle.linda_pipe.specs.Piping.{reply_line}
 use Rattle.linda_pipe.proofs.reply_line.push_each.Goals as goal
 
--- the text of before stands in front of the lines so far, and these in front of what was pushed last
+-- the text from before comes first, then the lines so far, then what was pushed last
 pub returns-in_err-push_reply_line-clause-err : goal.returns-in_err-push_reply_line-clause-err
 returns-in_err-push_reply_line-clause-err c =
     let p = err_from_is_err_and c.from_residual.result c.from_residual.ensures.1 in

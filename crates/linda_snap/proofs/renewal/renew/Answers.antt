@@ -1,4 +1,4 @@
--- The gate is closed, all is written behind it, and it opens.
+-- The gate is closed, all is written after it, and the gate is opened.
 use Rattle.std.proofs.Common.{◌+◌, [], length, subst, sym, arith}
 use Rattle.linda_store_state.specs.DeedFormat.{written}
 use Rattle.linda_disk.specs.Run.{LeavesOnly}

@@ -2,7 +2,7 @@ use Rattle.std.proofs.Common.{◌≡◌, length}
 use Rattle.linda_text.specs.Reading.{after_blanks}
 use Rattle.linda_text.proofs.blank.skip_blanks.Given as goal
 
--- After the blanks stands what stood after them at first.
+-- After the blanks comes what came after them at first.
 abbrev pub invariant-loop-rest : goal.invariant-loop-rest
 invariant-loop-rest l = after_blanks l.rest ≡ after_blanks l.bytes
 

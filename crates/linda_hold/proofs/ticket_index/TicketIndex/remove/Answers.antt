@@ -1,4 +1,4 @@
--- The request alone loses its number, and a client with its last ticket.
+-- Only the request loses its number; a client is removed with its last ticket.
 use Rattle.std.proofs.Common.{cond, None, Some, IsSome, btree_map_len, nat_cmp, true≢false, refl, sym, ap, subst, ◌∙◌}
 use Rattle.std.specs.Ordering.{is_eq}
 use Rattle.std.specs.BTreeMap as tree

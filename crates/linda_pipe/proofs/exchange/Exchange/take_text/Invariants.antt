@@ -3,7 +3,7 @@ use Rattle.linda_store.specs.Node.{Node}
 use Rattle.linda_pipe.specs.Exchanges.{IsUnderway}
 use Rattle.linda_pipe.proofs.exchange.Exchange.take_text.Given as goal
 
--- some front of the text was taken, and what is left is behind it
+-- some front of the text was taken, and what is left comes after it
 abbrev pub invariant-loop-end : goal.invariant-loop-end
 invariant-loop-end g l = record {
   front : List ℕ;

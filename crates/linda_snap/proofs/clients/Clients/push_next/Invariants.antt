@@ -5,7 +5,7 @@ use Rattle.linda_snap.specs.Clients.{OwesClients}
 use Rattle.linda_snap.proofs.ClientsLaws.{up_to}
 use Rattle.linda_snap.proofs.clients.Clients.push_next.Given as goal
 
--- What was spelled so far goes behind what is written, and the rest is owed.
+-- What was spelled so far comes after what is written, and the rest is owed.
 abbrev pub invariant-loop : goal.invariant-loop
 invariant-loop l =
     ((begun : State) (bytes : List ℕ) → OwesClients begun l.self (bytes ++ l.fn.out.items)

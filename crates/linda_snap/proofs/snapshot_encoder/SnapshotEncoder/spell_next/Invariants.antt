@@ -5,7 +5,7 @@ use Rattle.linda_snap.specs.SnapshotEncoder.{Owes}
 use Rattle.linda_snap.proofs.SnapshotWriterLaws.{moved}
 use Rattle.linda_snap.proofs.snapshot_encoder.SnapshotEncoder.spell_next.Given as goal
 
--- What was spelled so far goes behind what is written, and the rest is owed.
+-- What was spelled so far comes after what is written, and the rest is owed.
 abbrev pub invariant-loop : goal.invariant-loop
 invariant-loop g l =
     ((begun : State) (bytes : List ℕ) → Owes begun l.self bytes l.state.bag
