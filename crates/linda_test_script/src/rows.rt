@@ -2,7 +2,7 @@
 //!
 //! ```text
 //! # A comment.
-//! == step: a request that waits is told what is put
+//! == step: a request that waits is offered what is put
 //! 8 in 1 ("a", ?i)
 //! 7 out 1 ("a", 4)
 //! > 7 stored 1 1
