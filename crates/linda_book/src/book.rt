@@ -115,7 +115,7 @@ impl Book {
         self.entries.len()
     }
 
-    /// The least client of the book that is not below `client`; nothing only if there is none.
+    /// The least client of the book that is not below `client`; `None` only if there is none.
     pub fn next_from(&self, client: u32) -> Option<u32>
         ensures found { IfSome result (λ next. IsSome (map.get self.now next)) }
         ensures above { IfSome result (λ next. client ≤ next) }
@@ -127,7 +127,7 @@ impl Book {
         Some(next)
     }
 
-    /// The least client of the book that is above `client`; nothing only if there is none.
+    /// The least client of the book that is above `client`; `None` only if there is none.
     pub fn next_after(&self, client: u32) -> Option<u32>
         ensures found { IfSome result (λ next. IsSome (map.get self.now next)) }
         ensures above { IfSome result (λ next. client < next) }
@@ -140,7 +140,7 @@ impl Book {
     }
 
     /// The least client of the book that is not below `client`, with the number and the reply that
-    /// are kept for it; nothing only if there is none.
+    /// are kept for it; `None` only if there is none.
     pub fn entry_from(&self, client: u32) -> Option<(u32, (u64, &KeptReply))>
         ensures found { IfSome result (λ e. map.get self.now e.0 ≡ Some (e.1.0, e.1.1.now)) }
         ensures above { IfSome result (λ e. client ≤ e.0) }
@@ -153,7 +153,7 @@ impl Book {
     }
 
     /// The least client of the book that is above `client`, with the number and the reply that are
-    /// kept for it; nothing only if there is none.
+    /// kept for it; `None` only if there is none.
     pub fn entry_after(&self, client: u32) -> Option<(u32, (u64, &KeptReply))>
         ensures found { IfSome result (λ e. map.get self.now e.0 ≡ Some (e.1.0, e.1.1.now)) }
         ensures above { IfSome result (λ e. client < e.0) }

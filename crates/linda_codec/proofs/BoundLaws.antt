@@ -39,7 +39,7 @@ many_bounded read one (suc n) bytes =
     (λ first. bounded_then (length first.1) (many_at read n first.1) (λ others. Ok (first.0 ∷ others.0, others.1))
     (many_bounded read one n first.1) (λ others. omega arith))
 
--- A fault that counts some of the bytes from an offset on is told at one of those.
+-- A fault that counts some of the bytes from an offset on is reported at one of those.
 place_of : (from to : ℕ) (fault : ReadFault) → IsLeftOf (to - from) fault → IsPlace from to (placed to fault)
 place_of from to Memory h = tt
 place_of from to Short h = tt
@@ -62,7 +62,7 @@ told_place from to (BadText left) h = place_of from to (BadText left) (h (λ e. 
 told_place from to (TooMany left) h = place_of from to (TooMany left) (h (λ e. cc))
 told_place from to (LongText left) h = place_of from to (LongText left) (h (λ e. cc))
 
--- The fault of a reader from an offset on is told within the bytes.
+-- The fault of a reader from an offset on is reported within the bytes.
 pub is_place : {A : Type 0} (read : Reader A) → ((bytes : List ℕ) → IsBounded (length bytes) (read bytes))
     → (bytes tail : List ℕ) (at : ℕ) (fault told : ReadFault) → tail ≡ drop at bytes
     → (fault ≢ Memory → read tail ≡ Err fault) → told ≡ placed (length bytes) fault → IsPlace at (length bytes) told

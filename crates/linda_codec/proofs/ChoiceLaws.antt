@@ -4,7 +4,7 @@ use Rattle.std.proofs.lemmas.List.{take_rest}
 use Rattle.linda_codec.specs.Steps.{Reader}
 use Rattle.linda_codec.specs.Formats.{body_at, choice_at}
 
--- Where there is a kind byte, the choice is by it, and its body stands after it.
+-- If there is a kind byte, the choice is by it, and its body comes after it.
 pub by_the_first : {A : Type 0} (rows : List (ℕ × Reader A)) (other : Reader A) (bytes : List ℕ) → 1 ≤ length bytes
     → choice_at rows other bytes ≡ body_at rows other (get_or bytes 0 0) (take (length bytes - 1) (drop 1 bytes))
 by_the_first rows other [] some = absurd (omega (arith, some))

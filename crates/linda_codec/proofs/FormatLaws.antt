@@ -129,7 +129,7 @@ both_is {A = A} {B = B} {f = f} {g = g} one two = record {
       (λ a. bounded_then (length a.1) (g.read a.1) (λ b. Ok ((a.0, b.0), b.1)) (two.bounded a.1) (λ b. omega arith));
 }
 
--- What is read by a format, and what that makes, stand behind these bytes as the value is spelled; and what is left was there.
+-- What is read is a value whose spelling is these bytes and the bytes that were read; and what is left was there.
 pub record IsReader {A : Type 0} (spell : A → List ℕ) (Fits : A → Type 0) (front : List ℕ) (read : Reader A) : Type 0 where
   pub takes : (bytes : List ℕ) (x : A × List ℕ) → IsBytes bytes → read bytes ≡ Ok x → IsSpelled spell Fits (front ++ bytes) x
   pub bounded : (bytes : List ℕ) → IsBounded (length bytes) (read bytes)
@@ -272,7 +272,7 @@ no_kind_is {A = A} spell Fits = record { takes = none; bounded = within }
     within [] = tt
     within (kind ∷ bytes) = (omega arith, omega arith)
 
--- Each row of a table reads what is spelled behind its kind byte.
+-- Each row of a table reads what is spelled after its kind byte.
 abbrev pub AreBodies : {A : Type 0} → (A → List ℕ) → (A → Type 0) → List (ℕ × Reader A) → Type 0
 AreBodies spell Fits rows = AllByRecursion (λ row. IsReader spell Fits (row.0 ∷ []) row.1) rows
 

@@ -1,4 +1,4 @@
--- Writing behind bytes, which stay in front.
+-- Writing after bytes, which stay in front.
 use Rattle.std.proofs.Common.{◌≡◌, List, ℕ, ◌++◌, length, take, drop, sym, ap, ◌∙◌, append_assoc, refl}
 use Rattle.std.proofs.lemmas.List.{take_at, take-append-drop}
 

@@ -8,7 +8,7 @@ use Rattle.linda_codec.specs.Places.{placed}
 use Rattle.linda_codec.specs.Lawful.{IsBytes, IsFormat}
 use Rattle.linda_codec.proofs.TakeLaws.{IsBytes-drop, ok_is}
 
--- The end of bytes begins at the count of what stands before it.
+-- The end of bytes begins at the count of what is before it.
 end_of : (front rest bytes : List ℕ) → bytes ≡ front ++ rest → (length rest ≤ length bytes) × (rest ≡ drop (length bytes - length rest) bytes)
 end_of front rest bytes e =
     let sum : length bytes ≡ length front + length rest = ap length e ∙ length-append front rest in
@@ -35,7 +35,7 @@ is_only {A = A} {f = f} is bytes tail at x is_tail e a rest fits spelled =
     let same : pair ≡ x = ok_is pair x (sym found ∙ e) in
     (ap (λ (y : A × List ℕ). y.0) same, ap (λ (y : A × List ℕ). y.1) same)
 
--- Where a value is spelled from the offset on, the only fault is want of memory.
+-- If a value is spelled from the offset on, the only fault is `Memory`.
 pub no_fault : {A : Type 0} {f : Format A} → IsFormat f → (bytes tail : List ℕ) (at n : ℕ) (fault told : ReadFault)
     → tail ≡ drop at bytes → (fault ≢ Memory → f.read tail ≡ Err fault) → told ≡ placed n fault
     → (a : A) (rest : List ℕ) → f.Fits a → drop at bytes ≡ f.spell a ++ rest → told ≢ Memory → ⊥

@@ -9,7 +9,7 @@ use Rattle.linda_tuple.specs.declared.form.Form.{Form}
 use Rattle.linda_tuple.specs.Form.{most_fields}
 use Rattle.linda_codec.proofs.TakeLaws.{ok_is}
 
--- Where bytes are left, a value stands before them.
+-- If bytes are left, a value is before them.
 pub is_there : {F A : Type 0} (read : ReadOr F A) (rest : List ℕ) → left_by read ≡ Ok rest → IsOk read
 is_there (Ok x) rest e = refl
 is_there (Err fault) rest e = absurd cc
@@ -31,17 +31,17 @@ pub left_fault : {F A B : Type 0} (step : ReadOr F A) (next : A × List ℕ → 
 left_fault (Ok x) next fault e = absurd cc
 left_fault (Err f) next fault e = e
 
--- What a step leaves is left where the next one only makes something of the value.
+-- What a step leaves is still left if the next one only makes something of the value.
 pub left_made : {F A B : Type 0} (step : ReadOr F A) (make : A → B) → left_by (step >>= λ x. Ok (make x.0, x.1)) ≡ left_by step
 left_made (Ok x) make = refl
 left_made (Err fault) make = refl
 
--- Behind what the first of two formats reads, the second one leaves what both leave.
+-- After what the first of two formats reads, the second one leaves what both leave.
 pub left_behind : {A B : Type 0} (f : Format A) (g : Format B) (bytes : List ℕ) (a : A) (rest : List ℕ)
     → f.read bytes ≡ Ok (a, rest) → left_by ((both f g).read bytes) ≡ left_by (g.read rest)
 left_behind f g bytes a rest e = rw e (left_made (g.read rest) (λ b. (a, b)))
 
--- Behind a tag and a count, so many values leave what all of it leaves.
+-- After a tag and a count, so many values leave what all of it leaves.
 pub left_tagged : {A : Type 0} (form : Form) (f : Format A) (bytes rest : List ℕ) (count : ℕ × List ℕ)
     → left_by ((atom form).read bytes) ≡ Ok rest → count_at (most_fields form) rest ≡ Ok count
     → left_by ((tagged form f).read bytes) ≡ left_by (many_at f.read count.0 count.1)

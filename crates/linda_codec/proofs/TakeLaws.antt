@@ -61,7 +61,7 @@ Takes-none bytes fits = record { parts = refl; rest_fits = fits }
 pub Takes-byte : (b : ℕ) (bytes text rest : List ℕ) → Takes bytes text rest → Takes (b ∷ bytes) (b ∷ text) rest
 Takes-byte b bytes text rest t = record { parts = ap (λ (w : List ℕ). b ∷ w) t.parts; rest_fits = t.rest_fits }
 
--- What was taken, behind bytes that stand in front.
+-- What was taken, after bytes that are in front.
 pub Takes-behind : (front bytes text rest : List ℕ) → Takes bytes text rest → Takes (front ++ bytes) (front ++ text) rest
 Takes-behind front bytes text rest t = record { parts = ap (λ (w : List ℕ). front ++ w) t.parts ∙ sym (append_assoc front text rest); rest_fits = t.rest_fits }
 

@@ -56,7 +56,7 @@ pub record IsReadAt {A : Type 0} (f : Format A) (bytes : List ℕ) (at : ℕ)
   pub found : IfOk read (IsSpelledAt f bytes at)
   -- What is spelled so is read, unless memory runs out.
   pub only : ReadsSpelled f bytes at read
-  -- Which fault it is, and where.
+  -- Which fault it is, and at which offset.
   pub exact : Gives (λ x. x) read (read_at f.read bytes at)
   -- The offset of a fault is within what was read.
   pub place : IfErr read (IsPlace at (length bytes))

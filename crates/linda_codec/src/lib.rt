@@ -8,12 +8,12 @@
 //! truth value) and `07` (anything), which are nowhere else. Numbers are big-endian. In the first
 //! form a text's length is one byte, in the second one it is two; the limits are those of `Form`.
 //!
-//! Whatever is put is read again, whatever is read is spelled so, and of bytes that spell nothing
+//! All that is put is read again, all that is read is spelled so, and of bytes that spell nothing
 //! the first fault from the left is returned, also if memory is short. `specs/Formats` has what
 //! formats are made of, each with its spelling and its reader in one; `specs/Values` says what the
 //! formats of atoms, tuples and templates are.
 //!
-//! Whatever has a spelling is `Spelled`, here and in the crates above: it is read, passed over,
+//! All that has a spelling is `Spelled`, here and in the crates above: it is read, passed over,
 //! written and counted by one interface, and so are lists of it (`read_list`, `skip_list`,
 //! `push_list`, `list_len`).
 //!

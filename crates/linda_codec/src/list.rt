@@ -1,5 +1,5 @@
-//! Values one after the other: read, passed over, written and counted in the same way, whatever
-//! they are.
+//! Values one after the other: read, passed over, written and counted in the same way for all
+//! types.
 
 ghost use Rattle.std.specs.Prelude.{◌≡◌, ◌≤◌, ◌<◌, ◌*◌, ◌^◌, ◌++◌, All, length, take, OnOk};
 ghost use Rattle.std.specs.List.{flat_map};

@@ -4,7 +4,7 @@ use Rattle.linda_disk.specs.declared.fault.DiskFault.{DiskFault}
 use Rattle.linda_disk.specs.declared.fault.DiskFault.TheVariants.{Device, Memory}
 use Rattle.linda_disk.specs.Disk.{CountsFailure, TellsFailures}
 
--- A fault that is counted from a count that stayed is counted from the beginning, whatever else the call would return.
+-- A fault that is counted from a count that did not change is counted from the beginning, no matter what else the call would return.
 pub fails_on : {T U : Type 0} (fault : DiskFault) (old mid new : ℕ) → mid ≡ old
     → CountsFailure {T = T} (Err fault) mid new → CountsFailure {T = U} (Err fault) old new
 fails_on Device old mid new same counts = record {
@@ -18,7 +18,7 @@ fails_on Memory old mid new same counts = record {
   device = λ is. cc;
 }
 
--- A fault that is the device's exactly where another one is tells the same.
+-- If a fault satisfies `TellsFailures`, so does another one that is the device's exactly if that one is.
 pub renamed : {F G : Type 0} (device told : F) (failed fault : G) (old new : ℕ) → (told ≡ device) ↔ (fault ≡ failed)
     → TellsFailures failed fault old new → TellsFailures device told old new
 renamed device told failed fault old new same tells = record {
@@ -26,6 +26,6 @@ renamed device told failed fault old new same tells = record {
   others = λ not. tells.others (λ is. not (same.1 is));
 }
 
--- What tells of a count goes on from one that stayed.
+-- A fault that satisfies it from a count satisfies it from an earlier one, if that did not change.
 pub tells_on : {F : Type 0} (device told : F) (old mid new : ℕ) → mid ≡ old → TellsFailures device told mid new → TellsFailures device told old new
 tells_on device told old mid new same tells = subst (λ n. TellsFailures device told n new) same tells

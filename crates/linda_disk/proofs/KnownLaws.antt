@@ -9,7 +9,7 @@ use Rattle.linda_disk.specs.Past.{first_or, first_after}
 pub as_opened : (h : DiskHistory) → h.calls ≡ [] → (content h ≡ h.first) × (fits h ≡ true)
 as_opened h none = (ap (content_from h.first) none, ap (fits_from h.first) none)
 
--- Where all or some of its bytes were read first, its first byte is theirs.
+-- If a front of the bytes was read, with one byte at least if there are any, their first byte is that of the front.
 pub first_read : (front bytes : List ℕ) → take (length front) bytes ≡ front
     → (0 < length bytes → 0 < length front) → first_or (first_or 0 front) bytes ≡ first_or 0 front
 first_read front [] is some = refl

@@ -26,7 +26,7 @@ synced h fit = record {
   clock = record { ok = omega arith; most = omega arith };
 }
 
--- A sync that reports a failure is not.
+-- A sync that reports a failure is not on record.
 not_synced : (h : DiskHistory) (fault : DiskFault) → Syncs {T = Unit {0}} (Err fault) (view_of h) (view_of h)
 not_synced h fault = record {
   seen = tt;
@@ -56,7 +56,7 @@ told_at turn result old new goes other =
     let done = subst (λ (h : DiskHistory). Syncs (answer_at turn.0) (view old) (view_of h)) now at_turn in
     subst (λ (r : Result (Unit {0}) DiskFault). Syncs r (view old) (view new)) (sym (goes.told other)) done
 
--- A sync at any turn, and where memory runs out.
+-- A sync at any turn, and if memory runs out.
 pub sync_goes : (turn : Turn × Trouble) (result : Result (Unit {0}) DiskFault) (old new : MemDisk)
     → GoesBy turn (history_at turn.0 Sync old.history) result old new
     → Syncs result (view old) (view new)

@@ -48,7 +48,7 @@ weaker old new P Q run follows = record {
       ⊎_elim (λ earlier. inl earlier) (λ is. inr (follows image is)) (run.before t image le left);
 }
 
--- What a crash now may leave has what a run that ends now leaves only.
+-- If a run that ends now leaves only what has P, what a crash now may leave has P.
 pub leaves_now : (old new : View) (P : List ℕ → Type 0) → LeavesOnly old new P → IsTimed new → (image : List ℕ)
     → new.may_leave image → P image
 leaves_now old new P run timed image left = run.each image (timed.counts_now old.moment image run.later left)
@@ -76,6 +76,6 @@ pub goes_on_as_before : (old mid new : View) (P : List ℕ → Type 0) → Leave
 goes_on_as_before old mid new P so_far timed no_more time =
     goes_on old mid new P so_far time (λ image left. leaves_now old mid P so_far timed image (no_more image left))
 
--- What was durable stays so, where a crash may leave nothing that it could not leave before.
+-- What was durable stays so, if it reads the same and a crash may leave nothing that it could not leave before.
 pub stays_durable : (old new : View) → IsDurable old → LeavesNoMore old new → new.seen ≡ old.seen → IsDurable new
 stays_durable old new durable no_more same image left = durable image (no_more image left) ∙ sym same

@@ -74,7 +74,7 @@ module _ {D : Type 0} (g : Ghosts D) where
   runs_on two law counted count device old mid (Ok x) new first second law_by count_by = done_on old mid new first second law_by count_by
   runs_on two law counted count device old mid (Err fault) new first second law_by count_by = broken_on device fault old mid new first second law_by
 
-  -- What a run says, whatever it came to.
+  -- What a run says, no matter what it came to.
   pub honest_of : {T F : Type 0} (law count : Law) (device : F) (old : D) (r : Result T F) (new : D)
       → Runs g law count device old r new → g.honest old ↔ g.honest new
   honest_of law count device old (Ok x) new run = run.honest

@@ -98,7 +98,7 @@ left Kept h = content h
 left Lost h = synced h
 left (Filled b) h = filled b h
 
--- A disk of this history, as clauses speak of it.
+-- A disk of this history, as contracts see it.
 abbrev pub view_of : DiskHistory → View
 view_of h = record {
   seen = content h;

@@ -20,7 +20,7 @@ pub not_written : (at n : ℕ) (file : List ℕ) → TornWrite at n file file
 not_written at n file =
     record { before = refl; after = refl; no_shorter = omega arith; no_longer = grind arith }
 
--- What is written ends where the write ends, or where the file did.
+-- The file then ends where the write ends or where it ended before, whichever is later.
 pub length-overlay : (at : ℕ) (bytes file : List ℕ) → at ≤ length file
     → length (overlay at bytes file) ≡ max (length file) (at + length bytes)
 length-overlay at bytes file le =
@@ -30,7 +30,7 @@ length-overlay at bytes file le =
     let rest = length-drop (at + length bytes) file in
     grind (arith, front, middle, taken, rest)
 
--- So is one of other bytes.
+-- A write that is done is a torn one, too.
 pub written : (at : ℕ) (bytes file : List ℕ) → at ≤ length file
     → TornWrite at (length bytes) file (overlay at bytes file)
 written at bytes file le =

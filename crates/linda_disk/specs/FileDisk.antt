@@ -1,4 +1,4 @@
--- A file of the operating system, as clauses speak of it.
+-- A file of the operating system, as contracts see it.
 use Rattle.std.specs.Prelude.{ℕ}
 use Rattle.linda_disk.specs.declared.file_disk.FileDisk.{FileDisk}
 use Rattle.linda_disk.specs.View.{View}

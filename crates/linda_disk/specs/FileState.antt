@@ -1,4 +1,4 @@
--- Knowledge of a file, as clauses speak of it.
+-- Knowledge of a file, as contracts see it.
 use Rattle.linda_disk.specs.declared.file_state.FileState.{FileState}
 use Rattle.linda_disk.specs.DiskHistory.{DiskHistory}
 use Rattle.linda_disk.specs.Past.{history_of}

@@ -1,4 +1,4 @@
--- Bytes that are written behind the end of a file, or the file as it was.
+-- Bytes that are written after the end of a file, or the file as it was.
 use Rattle.std.specs.Prelude.{◌≡◌, ◌↔◌, ℕ, List, ◌++◌, length, take, Bool, true, false, Result}
 use Rattle.std.specs.Prelude.{IfOk, IfErr}
 use Rattle.linda_disk.specs.declared.disk.Disk.{Ghosts}
@@ -18,7 +18,7 @@ HasMore old bytes true new = new ≡ old ++ bytes
 HasMore old bytes false new = new ≡ old
 
 module _ {D : Type 0} (g : Ghosts D) where
-  -- These bytes were written behind the end of a file, or, at false, the device did not take them
+  -- These bytes were written after the end of a file, or, at false, the device did not take them
   -- and the file is as it was (`lengthen`).
   pub record Lengthens (bytes : List ℕ) (old : D) (result : Result Bool DiskFault) (new : D)
       : Type 0 where

@@ -1,4 +1,4 @@
--- A disk in memory as its clauses speak of it, and what a call does to it.
+-- A disk in memory as contracts see it, and what a call does to it.
 use Rattle.std.specs.Prelude.{◌≡◌, ℕ, ◌+◌, ◌^◌, ◌≤◌, Result, Ok, Err, IsErrOf}
 use Rattle.linda_disk.specs.declared.call.DeviceCall.{DeviceCall}
 use Rattle.linda_disk.specs.declared.call.DeviceCall.TheVariants.{Write, Cut, Sync}

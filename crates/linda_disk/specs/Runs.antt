@@ -21,11 +21,11 @@ anything old new = Unit {0}
 abbrev pub takes : ℕ → Law
 takes calls old new = new.moment ≡ old.moment + calls
 
--- At no moment a crash leaves an image without P.
+-- A crash at any moment leaves an image that has P.
 abbrev pub leaves : (List ℕ → Type 0) → Law
 leaves P old new = LeavesOnly old new P
 
--- At no moment a crash leaves anything but what a read gave.
+-- A crash at any moment leaves what a read gave.
 abbrev pub stays : Law
 stays old new = LeavesOnly old new (λ image. image ≡ old.seen)
 

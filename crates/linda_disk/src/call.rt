@@ -41,6 +41,6 @@ pub(crate) enum DeviceCall {
     Write(usize, Bytes),
     /// The file was cut to this length.
     Cut(usize),
-    /// All that was written came to where a crash does not reach.
+    /// All that was written was made durable.
     Sync,
 }

@@ -9,9 +9,10 @@ use crate::fault::DiskFault;
 /// One file on a device. All but the count of failures is promised of an honest disk only.
 ///
 /// Until a sync succeeds, a crash may leave any bytes in the ranges that were written since the
-/// last one and past the length of then, any length between the least and the greatest since then,
-/// and a cut may not have happened. Each call is one step from what a crash could leave before it
-/// to what it may leave after it, so that several calls between two syncs add up by themselves.
+/// last one and past the length at that sync, any length between the least and the greatest since
+/// then, and a cut may not have happened. Each call is one step from what a crash could leave
+/// before it to what it may leave after it, so that several calls between two syncs add up by
+/// themselves.
 pub trait Disk: Drop {
     /// The disk meets the model. No call changes it.
     ghost honest: { Self → Type 0 };
@@ -71,7 +72,7 @@ pub trait Disk: Drop {
         ensures honest { honest self.old ↔ honest self.new }
         ensures cause { CountsFailure result (failures self.old) (failures self.new) };
 
-    /// Brings all that was written to where a crash does not reach.
+    /// Makes all that was written durable: a crash then leaves it.
     ///
     /// # Errors
     ///

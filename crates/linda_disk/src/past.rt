@@ -29,7 +29,7 @@ pub(crate) enum Link {
     Wrote(Moment<Link>, usize, Moment<Spelling>),
     /// The file was cut to this length.
     Cut(Moment<Link>, usize),
-    /// All that was written came to where a crash does not reach.
+    /// All that was written was made durable.
     Synced(Moment<Link>),
 }
 

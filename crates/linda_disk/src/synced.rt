@@ -7,8 +7,8 @@ ghost use Rattle.linda_disk.specs.Runs.{Runs, WritesSynced, anything, takes};
 use crate::disk::Disk;
 use crate::fault::DiskFault;
 
-/// Writes the bytes at this offset, over what is there and past the end, and brings all that was
-/// written to where a crash does not reach.
+/// Writes the bytes at this offset, over what is there and past the end, and makes all that was
+/// written durable.
 ///
 /// # Errors
 ///

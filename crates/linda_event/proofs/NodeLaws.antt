@@ -1,4 +1,4 @@
--- What is read off the nodes of an event, where they stand under a member.
+-- What is read off the nodes of an event, if they are under a member.
 use Rattle.std.proofs.Common.{◌≡◌, ℕ, ◌==◌, Bool, true, false, not, ◌&&◌, cond, if◌then◌else◌, List, [], ◌∷◌, ◌++◌, map, Option, Some, None, refl, ap, ◌∙◌}
 use Rattle.std.specs.Prelude.{filter, filter_map}
 use Rattle.std.proofs.lemmas.List.{map-append}
@@ -63,7 +63,7 @@ above_if : (b : Bool) (rest : Place) (node : Node) → (b && leads_to node.place
 above_if true rest node = refl
 above_if false rest node = refl
 
--- a node of a member is on a way where it is on what is left of the way in that member
+-- a node of a member is on a way exactly if it is on what is left of the way in that member
 pub above_under : (m : ℕ) (way : Option Place) (node : Node) → is_above way (under m node) ≡ is_above (way_under m way) node
 above_under m None node = refl
 above_under m (Some []) node = refl

@@ -1,4 +1,4 @@
--- What is read off the nodes of an event, by what stands at its root.
+-- What is read off the nodes of an event, by what is at its root.
 use Rattle.std.proofs.Common.{◌≡◌, ℕ, ◌+◌, ◌<◌, ◌≤◌, true, false, List, [], ◌∷◌, ◌++◌, ◌||◌, length, get_or, map}
 use Rattle.std.proofs.Common.{append-nil, Option, Some, None, option_map, Bool, Bor, Vec, Box, Global, refl, sym, ap}
 use Rattle.std.proofs.Common.{◌∙◌, rules}
@@ -184,7 +184,7 @@ pub pushed_base : (e : Event) (old new : List Base) (b : Base) → new ≡ old +
     → map kind_of new ≡ map kind_of old ++ bases_of (tree_of e)
 pushed_base e old new b pushed is = rw (pushed, is) (map-append kind_of old (b ∷ []))
 
--- a way behind references is there where it is
+-- a way as references is there exactly if the way of their values is
 pub some_now : (way : Option (Bor Place)) (b : Bool) → is_some way ≡ b → is_some (option_map (λ s. s.now) way) ≡ b
 some_now None b e = e
 some_now (Some s) b e = e
@@ -203,7 +203,7 @@ ready_here clock items i x found h is told e =
     sym (any_more (is_ready clock) _ (bases_of (tree_of x)) (bases_in (rest_nodes (i + 1) items)) (bases_more items i x h is)
     ∙ ap (λ b. b || list_any (is_ready clock) (bases_in (rest_nodes (i + 1) items))) (sym told ∙ e))
 
--- the next member has none, and the members after it have one where those that are left do
+-- the next member has none, and the members after it have one exactly if those that are left do
 pub ready_after : (clock : ℕ) (items : List Event) (i : ℕ) (x : Event) (found : Bool) → i < length items
     → x ≡ get_or items i x → found ≡ list_any (is_ready clock) (bases_of (tree_of x)) → found ≡ false
     → list_any (is_ready clock) (bases_in (rest_nodes (i + 1) items)) ≡ list_any (is_ready clock) (bases_in (rest_nodes i items))

@@ -1,8 +1,8 @@
-//! A value as it was at one moment, which contracts alone see.
+//! A value as it was at one moment, which only contracts see.
 //!
-//! A `Moment<T>` takes no bytes and owns nothing: its ghost field names what was behind a reference
-//! when it was made. So it may go to another thread whatever `T` is, and a struct that keeps one is
-//! `Send` if its other fields are.
+//! A `Moment<T>` takes no bytes and owns nothing: its ghost field names the value that a reference
+//! pointed to when it was made. So it may go to another thread for any `T`, and a struct that keeps
+//! one is `Send` if its other fields are.
 #![tactic(auto)]
 
 ghost use Rattle.std.specs.Prelude.{◌≡◌};

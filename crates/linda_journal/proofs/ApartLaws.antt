@@ -5,11 +5,11 @@ use Rattle.linda_codec.specs.Formats.{Format}
 use Rattle.linda_codec.specs.Lawful.{IsFormat}
 use Rattle.linda_codec.proofs.TakeLaws.{ok_is}
 
--- Where a spelling stands at the front of bytes, no other one does.
+-- At most one value is spelled at the front of bytes.
 abbrev pub IsApart : {A : Type 0} → (A → List ℕ) → (A → Type 0) → Type 0
 IsApart {A = A} spell Fits = (a b : A) (x y : List ℕ) → Fits a → Fits b → spell a ++ x ≡ spell b ++ y → (a ≡ b) × (x ≡ y)
 
--- The spellings of a lawful format are so.
+-- This holds of a lawful format.
 pub format_apart : {A : Type 0} {f : Format A} → IsFormat f → IsApart f.spell f.Fits
 format_apart {A = A} {f = f} is a b x y fits_a fits_b same =
     let p : A × List ℕ = (a, x) in
@@ -20,7 +20,7 @@ format_apart {A = A} {f = f} is a b x y fits_a fits_b same =
 -- ---- values that take bytes each
 
 module _ {A : Type 0} (spell : A → List ℕ) (Fits : A → Type 0) (apart : IsApart spell Fits) (some : (a : A) → 0 < length (spell a)) where
-  -- Where the spelling of some values is the front of that of others, they are the first of these.
+  -- If the spelling of some values is the front of that of others, they are the first of these.
   pub first_ones : (xs ys : List A) (rest : List ℕ) → AllByRecursion Fits xs → AllByRecursion Fits ys
       → flat_map spell ys ≡ flat_map spell xs ++ rest → (tail : List A) × (ys ≡ xs ++ tail) × (rest ≡ flat_map spell tail)
   first_ones [] ys rest fits_x fits_y same = (ys, refl, sym same)
@@ -50,7 +50,7 @@ module _ {A : Type 0} (spell : A → List ℕ) (Fits : A → Type 0) (apart : Is
 
 -- ---- values, and what ends them
 
--- Bytes that end a list of values: there are some, and no value stands at their front with bytes after it.
+-- Bytes that end a list of values: there are some, and no value is spelled at their front with bytes after it.
 pub record Ends {A : Type 0} (spell : A → List ℕ) (Fits : A → Type 0) (rest : List ℕ) : Type 0 where
   pub some : 0 < length rest
   pub stop : (a : A) (more : List ℕ) → Fits a → rest ≡ spell a ++ more → 0 < length more → ⊥

@@ -17,7 +17,7 @@ module _ (form : Form) (generation : ℕ) (body : List ℕ) (records : List (Lis
       → IsSettled form generation body (records ++ ds ∷ []) end v
   settled_with_one end v s = subst (λ more. IsSettled form generation body (records ++ more) end v) (one_record ds s.more s.are some few) s.settled
 
--- They are too much for a bank where their record is.
+-- They are too much for a bank exactly if their record is.
 module _ (form : Form) (ds : List Deed) (end limit : ℕ) (some : 1 ≤ length ds) (few : length ds ≤ MAX_DEEDS) where
   pub past_one : IsUnspelled form ds ⊎ (limit ≤ end + bytes_for (length ds) (length (payload form ds)))
       → IsUnspelled form ds ⊎ (limit ≤ end + length (spell_record form ds))

@@ -1,4 +1,4 @@
--- A record behind the gate of a bank: from gates and bodies to banks.
+-- A record after the gate of a bank: from gates and bodies to banks.
 use Rattle.std.proofs.Common.{◌≡◌, ℕ, suc, ◌+◌, ◌^◌, ◌<◌, ◌≤◌, inl, inr, List, [], ◌∷◌, ◌++◌, All, length, refl, sym}
 use Rattle.std.proofs.Common.{ap, subst, ◌∙◌, append_assoc, length-append, arith}
 use Rattle.std.specs.Prelude.{Result}
@@ -17,7 +17,7 @@ use Rattle.linda_journal.specs.Records.{IsRecord, spell_record, spell_records, A
 use Rattle.linda_journal.specs.Gate.{ClosesAfter, IsShut, IsClosedOrOpened, IsLaid}
 use Rattle.linda_journal.specs.Bank.{IsCandidate, behind_gate, head, IsBank, IsSettled, IsSettledWithAll, IsOldOrAll, IsNoneOrNew}
 
--- What stands before the closed gate at the end.
+-- What comes before the closed gate at the end.
 abbrev pub whole : Form → ℕ → List ℕ → List (List Deed) → List ℕ
 whole form generation body records = head form generation body ++ spell_records form records
 
@@ -30,7 +30,7 @@ module _ (form : Form) (generation : ℕ) (body : List ℕ) (records : List (Lis
       ∙ ap (λ l. head form generation body ++ (spell_records form records ++ l)) (sym starts)
       ∙ ap (λ l. head form generation body ++ l) (sym (flat_map-append (spell_record form) records more))
 
-  -- A bank's file closes behind its records,
+  -- A bank's file has a closed gate after its records,
   pub shut_of : (end : ℕ) (v : View) → IsSettled form generation body records end v → IsShut (whole form generation body records) end v
   shut_of end v settled =
       let journal = settled.file.journal in
@@ -58,7 +58,7 @@ module _ (form : Form) (generation : ℕ) (body : List ℕ) (records : List (Lis
     journal = record { gate = closes.gate; rest = closes.rest; parts = refl; closed = closes.closed; good = good };
   }
 
--- Records of these deeds, the first behind an open gate, on a settled bank.
+-- Records of these deeds, the first after an open gate, on a settled bank.
 module _ (form : Form) (generation : ℕ) (body : List ℕ) (records : List (List Deed)) (ds : List Deed)
     (more : List (List Deed)) (are : AreIn ds more) (behind : List ℕ) (starts : spell_records form more ≡ OPEN ∷ behind)
     (end : ℕ) (old : View) (settled : IsSettled form generation body records end old) (are_good : All (IsRecord form) more) where
@@ -146,7 +146,7 @@ made form generation body end new low fits short end_is shut = record {
 
 -- ---- a bank that is opened
 
--- A run behind a sync leaves what could be left before it.
+-- A run after a sync leaves what could be left before the sync.
 pub after_sync : {T : Type 0} (result : Result T DiskFault) (old mid new : View) → IsTimed old
     → Syncs result old mid → LeavesOnly mid new mid.may_leave → LeavesOnly old new old.may_leave
 after_sync result old mid new timed syncs second =

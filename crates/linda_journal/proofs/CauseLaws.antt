@@ -8,7 +8,7 @@ use Rattle.linda_journal.specs.declared.fault.BankFault.TheVariants as banks
 use Rattle.linda_journal.specs.Faults.{fault_of_disk}
 use Rattle.linda_journal.specs.Image.{IsFaultOfBank}
 
--- A device's fault that was counted tells of the count, as it is and as a bank returns it.
+-- A disk's fault that was counted as such satisfies `TellsFailures`, as it is and as a bank returns it.
 pub fault_told : {T : Type 0} (fault : DiskFault) (old mid new : ℕ) → mid ≡ old → CountsFailure {T = T} (Err fault) mid new → TellsFailures Device fault old new
 fault_told Device old mid new same counts = record {
   cause = λ _. let up = counts.device refl in omega (arith, up, same);
@@ -24,7 +24,7 @@ device_told Device old mid new same counts = record {
 }
 device_told Memory old mid new same counts = record { cause = λ is. cc; others = λ _. counts.memory refl ∙ same }
 
--- A fault of no device tells that the count stayed.
+-- A fault that is not the device's satisfies it, if the count is unchanged.
 pub none_told : (told : BankFault) (old new : ℕ) → told ≢ banks.Disk → new ≡ old → TellsFailures banks.Disk told old new
 none_told told old new not same = record { cause = λ is. absurd (not is); others = λ _. same }
 
@@ -43,7 +43,7 @@ device_fills_none r Memory same is = cc
 pub no_memory_fills_none : {T : Type 0} (r : Result T BankFault) → r ≡ Err banks.Memory → r ≡ Err banks.Full → ⊥
 no_memory_fills_none r same is = cc
 
--- What has what it needs, and room, is not without the one or past the other.
+-- With P, and within the limit, it is not so that P fails or the limit is passed.
 pub is_admitted : (P : Type 0) (limit end told long : ℕ) → P → told ≡ long → end + told < limit → (P → ⊥) ⊎ (limit ≤ end + long) → ⊥
 is_admitted P limit end told long fits same room (inl none) = none fits
 is_admitted P limit end told long fits same room (inr past) = omega (arith, same, room, past)

@@ -25,13 +25,13 @@ filled_closes front at v filled = record { gate = filled.gate; rest = front ++ f
 pub step_within : (front : List ℕ) (at : ℕ) (v : View) → IsFilled front at v → at ≤ length v.seen
 step_within front at v filled = omega (arith, filled.place, ap length filled.parts, length-append front filled.rest)
 
--- Behind a closed first gate there is nothing yet.
+-- After a closed first gate there is nothing yet.
 pub none_filled : (v : View) → IsClosed v.seen → IsDurable v → IsFilled [] 1 v
 none_filled v closed durable =
     let closes = closes_of v.seen closed in
     record { gate = closes.gate; rest = closes.rest; parts = closes.parts; closed = closes.closed; place = refl; durable = durable }
 
--- At no moment of the write a crash leaves a bank.
+-- A crash at any moment of the write leaves no bank.
 pub step_run : (front : List ℕ) (at n : ℕ) (old new : View) → IsFilled front at old → LeavesOnly old new (TornWrite at n old.seen) → LeavesOnly old new IsNoBank
 step_run front at n old new filled run =
     weaker old new (TornWrite at n old.seen) IsNoBank run
@@ -53,7 +53,7 @@ step_filled front at bytes old new filled written durable =
       durable = durable;
     }
 
--- With a closed gate at its end the body is ready behind the first gate.
+-- With a closed gate at its end the body is ready after the first gate.
 pub filled_ready : (body : List ℕ) (at : ℕ) (v : View) → IsFilled (body ++ CLOSED ∷ []) at v → IsReady [] 0 body v
 filled_ready body at v filled = record {
   place = refl;
@@ -98,7 +98,7 @@ module _ (form : Form) (generation : ℕ) (body : List ℕ) (rs : List (List Dee
 
 -- ---- the last bytes
 
--- With them the new bank has so many bytes behind its first gate.
+-- With them the new bank has so many bytes after its first gate.
 pub last_long : (generation : ℕ) (body : List ℕ) (rs : List (List Deed)) (front bytes : List ℕ)
     → IsLast generation body rs front bytes → length front + length bytes ≡ MIN_BYTES + length body + length (spell_records written rs)
 last_long generation body rs front bytes last =
@@ -109,7 +109,7 @@ last_long generation body rs front bytes last =
     let joined : length all ≡ length behind + length (spell_records written rs) = length-append behind (spell_records written rs) in
     omega (arith, long, head, joined, length-append front bytes)
 
--- Behind its closed first gate the new bank is whole then.
+-- After its closed first gate the new bank is then whole.
 pub last_whole : (generation : ℕ) (body : List ℕ) (rs : List (List Deed)) (front bytes : List ℕ) (at end : ℕ) (v : View)
     → IsLast generation body rs front bytes → IsFilled (front ++ bytes) at v → end + 1 ≡ at → IsWholeWith written generation body rs end v
 last_whole generation body rs front bytes at end v last filled end_is =

@@ -1,4 +1,4 @@
--- What one write behind a gate, and one of its byte, make of a file, and what a crash may make of them.
+-- What one write after a gate, and one write of its byte, make of a file, and what a crash may make of them.
 use Rattle.std.proofs.Common.{◌≡◌, ◌≢◌, ℕ, zero, suc, ◌+◌, ◌≤◌, inl, inr, List, [], ◌∷◌, ◌++◌, length, take, drop, refl}
 use Rattle.std.proofs.Common.{sym, ap, subst, ◌∙◌, append_assoc, length-append, arith}
 use Rattle.std.specs.Prelude.{max}
@@ -16,13 +16,13 @@ split_at : (front : List ℕ) (gate : ℕ) (rest file : List ℕ) (place : ℕ) 
 split_at front gate rest file place there e = sym (take-append-drop (place + 1) file)
     ∙ ap (λ l. l ++ drop (place + 1) file) e ∙ append_assoc front (gate ∷ []) (drop (place + 1) file)
 
--- What stands up to the gate, and the gate.
+-- What is before the gate, and the gate.
 up_to : (front : List ℕ) (gate : ℕ) (rest : List ℕ) (place : ℕ) → length front ≡ place → take (place + 1) (front ++ gate ∷ rest) ≡ front ++ gate ∷ []
 up_to front gate rest place there =
     let n : length (front ++ gate ∷ []) ≡ place + 1 = omega (arith, there, length-append front (gate ∷ [])) in
     ap (take (place + 1)) (sym (append_assoc front (gate ∷ []) rest)) ∙ take_at (front ++ gate ∷ []) rest (place + 1) n
 
--- A write behind a gate that a crash cuts short leaves the gate.
+-- A write after a gate that a crash cuts short leaves the gate.
 pub torn_behind : (front : List ℕ) (place n : ℕ) (old image : List ℕ) → length front ≡ place
     → ClosesAfter front old → TornWrite (place + 1) n old image → ClosesAfter front image
 torn_behind front place n old image there closes torn =
@@ -30,7 +30,7 @@ torn_behind front place n old image there closes torn =
     ∙ up_to front closes.gate closes.rest place there in
     record { gate = closes.gate; rest = drop (place + 1) image; parts = split_at front closes.gate closes.rest image place there same; closed = closes.closed }
 
--- The body and the closed gate behind it, once they are written.
+-- The body and the closed gate after it, once they are written.
 pub put_behind : (front body : List ℕ) (gate : ℕ) (rest : List ℕ) (place : ℕ) → length front ≡ place
     → overlay (place + 1) (body ++ CLOSED ∷ []) (front ++ gate ∷ rest) ≡ front ++ gate
     ∷ (body ++ CLOSED ∷ drop (place + 1 + length (body ++ CLOSED ∷ [])) (front ++ gate ∷ rest))
@@ -61,18 +61,18 @@ put_open front value tail place there =
     ∙ ap (λ l. front ++ (OPEN ∷ []) ++ l) after
     ∙ append_assoc front (OPEN ∷ []) tail
 
--- Behind an open gate the body's own closed gate ends the file.
+-- After an open gate the body's own closed gate ends the file.
 opened_file : (front body rest : List ℕ) → ClosesAfter (front ++ OPEN ∷ body) (front ++ OPEN ∷ (body ++ CLOSED ∷ rest))
 opened_file front body rest = record { gate = CLOSED; rest = rest; parts = sym (append_assoc front (OPEN ∷ body) (CLOSED ∷ rest)); closed = not_open }
 
--- Whatever byte stands at the gate, it is closed or open.
+-- With any byte at the gate, it is closed or open.
 either_byte : (front body rest : List ℕ) (value : ℕ) → IsClosedOrOpened front body (front ++ value ∷ (body ++ CLOSED ∷ rest))
 either_byte front body rest zero = inl record { gate = 0; rest = body ++ CLOSED ∷ rest; parts = refl; closed = λ e. absurd (omega (arith, e)) }
 either_byte front body rest (suc zero) = inr (opened_file front body rest)
 either_byte front body rest (suc (suc n)) =
     inl record { gate = suc (suc n); rest = body ++ CLOSED ∷ rest; parts = refl; closed = λ e. absurd (omega (arith, e)) }
 
--- A write of the gate's byte that a crash cuts short leaves what stands around it.
+-- A write of the gate's byte that a crash cuts short leaves what is around it.
 pub torn_open : (front body rest : List ℕ) (value place : ℕ) (image : List ℕ) → length front ≡ place
     → TornWrite place 1 (front ++ value ∷ (body ++ CLOSED ∷ rest)) image → IsClosedOrOpened front body image
 torn_open front body rest value place image there torn = by (drop place image) refl
@@ -102,7 +102,7 @@ torn_open front body rest value place image there torn = by (drop place image) r
 
 -- ---- runs
 
--- The write behind a gate.
+-- The write after a gate.
 pub write_behind : (front : List ℕ) (place n : ℕ) (old new : View) → IsShut front place old
     → LeavesOnly old new (TornWrite (place + 1) n old.seen) → LeavesOnly old new (ClosesAfter front)
 write_behind front place n old new shut run = weaker old new (TornWrite (place + 1) n old.seen)
@@ -122,7 +122,7 @@ putting front body old mid new first second =
     joined old mid new (ClosesAfter front) (IsClosedOrOpened front body) (IsClosedOrOpened front body) first second
     (λ image closes. inl closes) (λ image is. is)
 
--- ---- what stands there at the end
+-- ---- what is there at the end
 
 pub ready_now : (front body : List ℕ) (place : ℕ) (bytes : List ℕ) (old new : View) → IsShut front place old
     → bytes ≡ body ++ CLOSED ∷ [] → new.seen ≡ overlay (place + 1) bytes old.seen → IsDurable new → IsReady front place body new
@@ -165,7 +165,7 @@ write_first old new empty run =
     short : (n m : ℕ) → n ≡ 0 → m ≤ max n 1 → m ≤ 1
     short n m none le = omega (arith, none, le)
 
--- ---- a body behind it
+-- ---- a body after it
 
 pub laid_first : (body : List ℕ) (old mid : View) → LeavesOnly old mid (λ file. length file ≤ 1) → LeavesOnly old mid (IsLaid body)
 laid_first body old mid run = weaker old mid (λ file. length file ≤ 1) (IsLaid body) run (λ file is. inl is)

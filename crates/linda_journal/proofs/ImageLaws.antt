@@ -24,11 +24,11 @@ use Rattle.linda_journal.specs.Image.{IsBroken, IsFaultOfBank}
 use Rattle.linda_journal.proofs.ApartLaws.{format_apart}
 use Rattle.linda_journal.proofs.RecordLaws.{one_journal, not_both}
 
--- The offset of the generation: a gate and the letters stand before it.
+-- The offset of the generation: a gate and the letters are before it.
 abbrev generation_place : ℕ
 generation_place = 5
 
--- A generation that was read behind the letters.
+-- A generation that was read after the letters.
 pub bank_heading : (form : Form) (file behind rest : List ℕ) (g : ℕ) (after : List ℕ) → IsBytes file → file ≡ OPEN ∷ behind
     → behind ≡ magic form ++ rest → number.read rest ≡ Ok (g, after) → MIN_BYTES ≤ length file → (g ≡ 0 → ⊥) → IsHeading file (headings.Bank form g)
 bank_heading form file behind rest g after fits one letters told long some =
@@ -37,7 +37,7 @@ bank_heading form file behind rest g after fits one letters told long some =
     let t = number_is.takes rest (g, after) (subst IsBytes back (IsBytes-drop generation_place file fits)) told in
     (omega (arith, some), t.1, long, (after, whole ∙ ap (λ (l : List ℕ). OPEN ∷ magic form ++ l) t.0.parts))
 
--- The parts of a bank whose body is there, with bytes behind it.
+-- The parts of a bank whose body is there, with bytes after it.
 pub record AreParts (form : Form) (file : List ℕ) (g len : ℕ) : Type 0 where
   pub body : List ℕ
   pub rest : List ℕ
@@ -110,7 +110,7 @@ broken_there form file rest g len behind offset place fits low high heading told
 firsts_same : (a b : ℕ) (x y : List ℕ) → a ∷ x ≡ b ∷ y → a ≡ b
 firsts_same a b x y e = cc
 
--- The letters of two banks tell one form where they are alike.
+-- If the letters of two banks are the same, so are their forms.
 pub digits_apart : (f k : Form) (x y : List ℕ) → digit f ∷ x ≡ digit k ∷ y → f ≡ k
 digits_apart One One x y e = refl
 digits_apart Two Two x y e = refl
@@ -133,7 +133,7 @@ heads_apart f k g h b c x y fits_g fits_h fits_b fits_c e =
       sym (drop_at b x (length b) refl) ∙ ap (drop (length b)) lengths.1 ∙ drop_at c y (length b) (sym n),
     )
 
--- The same journal, behind a head that is the same.
+-- The same journal, after a head that is the same.
 same_journal : (f k : Form) (x y : List ℕ) (rs : List (List Deed)) → f ≡ k → x ≡ y → IsJournal f x rs → IsJournal k y rs
 same_journal f k x y rs forms same journal = subst (λ z. IsJournal z y rs) forms (subst (λ l. IsJournal f l rs) same journal)
 
@@ -156,7 +156,7 @@ is_candidate form file g b rs bank =
     let n : length file ≡ length (head form g b ++ bank.rest) = ap length bank.parts in
     (omega (arith, n), (_, bank.parts))
 
--- What may be told of a bank that stands there: that the device failed, or that memory ran out.
+-- The only faults that are reported of a bank that is there: the device failed, or memory ran out.
 pub only_faults : (form : Form) (file : List ℕ) (g : ℕ) (b : List ℕ) (rs : List (List Deed)) (f : BankFault)
     → IsBank form file g b rs → (f ≢ faults.Disk → IsFaultOfBank file f) → (f ≡ faults.Disk) ⊎ (f ≡ faults.Memory)
 only_faults form file g b rs faults.Disk bank told = inl refl

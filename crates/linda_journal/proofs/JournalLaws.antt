@@ -91,7 +91,7 @@ ends_here form bytes at rs rest so_far closed = by rest so_far.parts so_far.some
     by (gate ∷ more) parts some closed =
         record { gate = gate; rest = more; parts = parts; closed = λ e. closed more (ap (λ g. g ∷ more) e); good = so_far.good }
 
--- What is left begins with an open gate, and no record stands behind it.
+-- What is left begins with an open gate, and no record comes after it.
 pub damaged_here : (form : Form) (bytes : List ℕ) (at : ℕ) (rs : List Record) (rest behind : List ℕ) → IsReadUpTo form bytes at rs rest
     → rest ≡ OPEN ∷ behind → IsNoRecord form behind → IsDamaged form bytes (length (spell_records form (deeds_of rs)))
 damaged_here form bytes at rs rest behind so_far starts bad =

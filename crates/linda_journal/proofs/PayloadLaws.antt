@@ -26,13 +26,13 @@ all_with P xs x so_far one = All-append P xs (x ∷ []) so_far (All-cons P x [] 
 
 -- ---- while deeds are counted
 
--- These deeds stand at the front of the bytes, and that is left.
+-- These deeds are at the front of the bytes, and this is left after them.
 pub record IsReadTo (form : Form) (bytes : List ℕ) (ds : List Deed) (rest : List ℕ) : Type 0 where
   pub parts : bytes ≡ payload form ds ++ rest
   pub fits : All (FitsDeed form) ds
   pub few : length ds ≤ MAX_DEEDS
 
--- So many deeds do.
+-- So many deeds are at the front of the bytes, and this is left after them.
 pub record IsCountedTo (form : Form) (bytes : List ℕ) (count : ℕ) (rest : List ℕ) : Type 0 where
   pub deeds : List Deed
   pub read : IsReadTo form bytes deeds rest
@@ -57,7 +57,7 @@ one_deed_more form bytes ds rest d after so_far fits lt e =
 same_bytes : (xs ys : List ℕ) → (let a : Result (List ℕ) ReadFault = Ok xs in a) ≡ Ok ys → xs ≡ ys
 same_bytes xs ys e = cc
 
--- What was read where these bytes are left.
+-- What was read if these bytes are left.
 read_before : {A : Type 0} (read : Read A) (after : List ℕ) → left_by read ≡ Ok after → (a : A) × (read ≡ Ok (a, after))
 read_before {A = A} (Ok x) after e = (x.0, ap (λ (r : List ℕ). let a : Read A = Ok (x.0, r) in a) (same_bytes x.1 after e))
 read_before (Err fault) after e = absurd cc
@@ -103,7 +103,7 @@ reads_on form (d ∷ tail) rest fault fits e some bad =
     let again : (deed form).read rest ≡ Ok (d, payload form tail) = ap (deed form).read e ∙ (deed_is form).again d (payload form tail) fits.0 in
     absurd cc
 
--- No deed stands at the front of what is left.
+-- No deed is at the front of what is left.
 pub no_deed_there : (form : Form) (bytes : List ℕ) (count : ℕ) (rest : List ℕ) (fault : ReadFault)
     → IsCountedTo form bytes count rest → 0 < length rest → left_by ((deed form).read rest) ≡ Err fault → IsNoPayload form bytes
 no_deed_there form bytes count rest fault so_far some bad es is e =
@@ -116,7 +116,7 @@ some_deeds : (form : Form) (tail : List Deed) (rest : List ℕ) → rest ≡ pay
 some_deeds form [] rest e some = absurd (let n : length rest ≡ 0 = ap length e in omega (arith, n, some))
 some_deeds form (d ∷ tail) rest e some = omega arith
 
--- Behind as many deeds as a record may have there is more.
+-- After as many deeds as a record may have there is more.
 pub too_many : (form : Form) (bytes : List ℕ) (count : ℕ) (rest : List ℕ) → IsCountedTo form bytes count rest
     → 0 < length rest → MAX_DEEDS ≤ count → IsNoPayload form bytes
 too_many form bytes count rest so_far some many es is e =

@@ -1,4 +1,4 @@
--- Records: what stands behind an open gate, and one reading of a journal.
+-- Records: what comes after an open gate, and one reading of a journal.
 use Rattle.std.proofs.Common.{◌≡◌, ◌≢◌, ℕ, ◌+◌, ◌<◌, ◌≤◌, List, [], ◌∷◌, ◌++◌, All, length, take, drop, Ok, Err, refl}
 use Rattle.std.proofs.Common.{sym, ap, ◌∙◌, append_assoc, length-append, arith}
 use Rattle.std.proofs.lemmas.List.Elements.{recursion_from_All}
@@ -20,7 +20,7 @@ use Rattle.linda_journal.proofs.PayloadLaws.{deeds_apart}
 
 -- ---- a record that is read
 
--- Its length is told, and deeds that are the payload of that length were read.
+-- Its length was read, and so were deeds that are the payload of that length.
 pub record_there : (form : Form) (bytes : List ℕ) (len : ℕ) (rest : List ℕ) (ds : List Deed) → IsBytes bytes
     → short_number.read bytes ≡ Ok (len, rest) → len < length rest → take len rest ≡ payload form ds
     → (bytes ≡ record_body form ds ++ drop len rest) × (0 < length (drop len rest))
@@ -34,7 +34,7 @@ record_there form bytes len rest ds fits told room is =
     in
     (whole ∙ sym (append_assoc (short_number.spell (length (payload form ds))) (payload form ds) (drop len rest)), omega (arith, length-drop len rest, room))
 
--- What the length tells of a record that stands there.
+-- The length that is read of a record that is there.
 told_of : (form : Form) (ds : List Deed) (more : List ℕ) → IsRecord form ds
     → short_number.read (record_body form ds ++ more) ≡ Ok (length (payload form ds), payload form ds ++ more)
 told_of form ds more is =

@@ -45,7 +45,7 @@ write_closed old mid new before same opens run =
     joined old mid new (λ image. image ≡ old.seen) (TornWrite 0 1 mid.seen) (IsSameOrNone old.seen) before run
     (λ image is. inl is) (λ image torn. torn_first old.seen image opens (subst (λ l. TornWrite 0 1 l image) same torn))
 
--- ---- writing behind a closed gate
+-- ---- writing after a closed gate
 
 pub closes_of : (file : List ℕ) → IsClosed file → ClosesAfter [] file
 closes_of [] closed = absurd (omega (arith, closed.0))
@@ -81,7 +81,7 @@ none_written bytes old timed durable closed = record {
   run = started old (ClosesAfter []) timed (λ image left. subst (ClosesAfter []) (sym (durable image left)) (closes_of old.seen closed));
 }
 
--- One piece behind the other is as both at once.
+-- Writing one piece after the other is the same as writing both at once.
 overlay_more : (front piece file : List ℕ) → 0 < length file → overlay (1 + length front) piece (overlay 1 front file) ≡ overlay 1 (front ++ piece) file
 overlay_more front piece file some =
     let start : List ℕ = take 1 file in
@@ -148,7 +148,7 @@ pub pieces_counted : (bytes old now new at rest : ℕ) → at + rest ≡ 1 + byt
 pieces_counted bytes old now new at rest all whole (inl first) last next = omega (arith, all, whole, first, last, next)
 pieces_counted bytes old now new at rest all whole (inr some) last next = omega (arith, all, whole, some, last, next)
 
--- The bytes of a new bank behind its first gate.
+-- The number of bytes of a new bank after its first gate.
 pub front_length : (form : Form) (generation : ℕ) (body : List ℕ) → length (behind_gate form generation body ++ CLOSED ∷ []) ≡ MIN_BYTES + length body
 front_length form generation body = omega (arith, length-append body (CLOSED ∷ []))
 

@@ -101,7 +101,7 @@ each_spelled form ds out rest so_far none =
     same [] none parts = parts ∙ append-nil (deeds_in so_far.records)
     same (d ∷ rest) none parts = absurd (omega (arith, none))
 
--- With a closed gate behind them they are what is appended.
+-- With a closed gate after them they are what is appended.
 pub all_spelled : (form : Form) (ds : List Deed) (out bytes : List ℕ) → AreRecords form ds out
     → 1 ≤ length ds → bytes ≡ out ++ CLOSED ∷ [] → AreSpelled form ds bytes
 all_spelled form ds out bytes is some bytes_are = by is.records is.are is.good is.bytes_are
@@ -137,7 +137,7 @@ records_long form ds rs are =
     spelled_long form rs ∙ ap (λ n. RECORD_HEAD * n + length (payload form (deeds_in rs))) are.count
     ∙ ap (λ l. RECORD_HEAD * records_for (length ds) + length (payload form l)) are.all
 
--- What is written behind the gate is as long as the records.
+-- What is written after the gate is as long as the records.
 pub bytes_long : (form : Form) (ds : List Deed) (bytes written : List ℕ) (s : AreSpelled form ds bytes)
     → written ≡ drop 1 bytes → length written ≡ bytes_for (length ds) (length (payload form ds))
 bytes_long form ds bytes written s is =

@@ -15,7 +15,7 @@ abbrev pub digit : Form → ℕ
 digit One = 49
 digit Two = 50
 
--- What tells the form of all values of a bank: LND1 or LND2.
+-- The letters that give the form of all values of a bank: LND1 or LND2.
 abbrev pub magic : Form → List ℕ
 magic form = 76 ∷ 78 ∷ 68 ∷ digit form ∷ []
 
@@ -32,7 +32,7 @@ abbrev pub behind_gate : Form → ℕ → List ℕ → List ℕ
 behind_gate form generation body =
     magic form ++ (number.spell generation ++ (short_number.spell (length body) ++ body))
 
--- What stands before the journal: an open gate, the magic, the generation, and a body after its
+-- What comes before the journal: an open gate, the magic, the generation, and a body after its
 -- length.
 abbrev pub head : Form → ℕ → List ℕ → List ℕ
 head form generation body = headed form generation (short_number.spell (length body) ++ body)
@@ -65,15 +65,15 @@ IsOldOrMore form generation body records deeds file =
     IsBank form file generation body records
     ⊎ IsBank form file generation body (records ++ deeds ∷ [])
 
--- The bytes are the bank with the old records, or with those of these deeds behind them: with all
--- of these, or none.
+-- The bytes are the bank with the old records, or with those of these deeds after them: with all of
+-- these, or none.
 abbrev pub IsOldOrAll : Form → ℕ → List ℕ → List (List Deed) → List Deed → List ℕ → Type 0
 IsOldOrAll form generation body records deeds file =
     IsBank form file generation body records
     ⊎ ((more : List (List Deed)) × AreIn deeds more
     × IsBank form file generation body (records ++ more))
 
--- The disk holds the bank with the records of these deeds behind the old ones, and a crash now
+-- The disk holds the bank with the records of these deeds after the old ones, and a crash now
 -- leaves it so.
 pub record IsSettledWithAll (form : Form) (generation : ℕ) (body : List ℕ)
     (records : List (List Deed)) (deeds : List Deed) (end : ℕ) (v : View) : Type 0 where

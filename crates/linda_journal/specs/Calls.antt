@@ -35,19 +35,19 @@ module _ {D : Type 0} {g : Ghosts D} where
     -- A fault is one of those bytes.
     pub fault : g.honest disk
         → IfErr result (λ e. e.0 ≢ faults.Disk → IsFaultOfBank (g.view disk).seen e.0)
-    -- At no moment a crash leaves what it could not leave at entry.
+    -- A crash at any moment leaves only what it could leave at entry.
     pub any_moment : g.honest disk
         → IfOk result (λ o. LeavesOnly (g.view disk) (g.view o.0.disk) (g.view disk).may_leave)
         × IfErr result (λ e. LeavesOnly (g.view disk) (g.view e.1) (g.view disk).may_leave)
     pub honest : IfOk result (λ o. g.honest disk ↔ g.honest o.0.disk)
         × IfErr result (λ e. g.honest disk ↔ g.honest e.1)
-    -- A bank that stands there is opened, or the device failed, or memory ran out.
+    -- A bank that is there is opened, or the device failed, or memory ran out.
     pub only : (form : Form) (generation : ℕ) (body : List ℕ) (records : List (List Deed))
         → g.honest disk → IsBank form (g.view disk).seen generation body records
         → IfOk result (λ o. (o.0.form ≡ form) × (o.0.generation ≡ generation) × (o.1.items ≡ body)
         × (deeds_of o.2.items ≡ records))
         × IfErr result (λ e. (e.0 ≡ faults.Disk) ⊎ (e.0 ≡ faults.Memory))
-    -- The count of failures rises where the device is reported to have failed, and there alone.
+    -- The count of failures rises if the device is reported to have failed, and only then.
     pub cause : IfErr result (λ e. TellsFailures faults.Disk e.0 (g.failures disk) (g.failures e.1))
     pub steady : IfOk result (λ o. g.failures o.0.disk ≡ g.failures disk)
     pub clock : g.honest disk → IfOk result (λ o. (g.view o.0.disk).moment ≡ moment)
@@ -55,7 +55,7 @@ module _ {D : Type 0} {g : Ghosts D} where
   -- A record of these deeds was added to the bank's journal, or it was not (`append`).
   pub record Appends (old : Bank D g) (deeds : List Deed) (result : Result (Unit {0}) BankFault)
       (new : Bank D g) : Type 0 where
-    -- At no moment a crash leaves anything but the old records, or these and the new one;
+    -- A crash at any moment leaves the old records, or these and the new one;
     pub any_moment : (body : List ℕ) (records : List (List Deed)) → g.honest old.disk
         → IsSettled old.form old.generation body records old.end (g.view old.disk)
         → LeavesOnly (g.view old.disk) (g.view new.disk)
@@ -68,8 +68,8 @@ module _ {D : Type 0} {g : Ghosts D} where
     pub place : OnOk result (new.end ≡ old.end + length (spell_record old.form deeds))
     pub count : OnOk result (new.records ≡ old.records + 1)
     pub ready : OnOk result (new.is_spent ≡ false)
-    -- It is Full exactly where one of the deeds has no spelling in the bank's form, or the closed
-    -- gate after the new record would pass the limit; nothing changed then.
+    -- It is Full exactly if one of the deeds has no spelling in the bank's form, or the closed gate
+    -- after the new record would pass the limit; nothing changed then.
     pub fits : OnOk result (All (SuitsForm old.form) deeds)
     pub room : OnOk result (new.end < new.limit)
     pub full : IsErrOf result faults.Full ↔ (old.is_spent ≡ false)
@@ -78,7 +78,7 @@ module _ {D : Type 0} {g : Ghosts D} where
     pub unfilled : IsErrOf result faults.Full → new ≡ old
     pub spent : IsErrOf result faults.Spent ↔ (old.is_spent ≡ true)
     pub unspent : old.is_spent ≡ true → new ≡ old
-    -- The count of failures rises where the device is reported to have failed, and there alone.
+    -- The count of failures rises if the device is reported to have failed, and only then.
     pub cause : IfErr result
         (λ fault. TellsFailures faults.Disk fault (g.failures old.disk) (g.failures new.disk))
     pub steady : OnOk result (g.failures new.disk ≡ g.failures old.disk)
@@ -86,7 +86,8 @@ module _ {D : Type 0} {g : Ghosts D} where
     pub clock : g.honest old.disk
         → OnOk result ((g.view new.disk).moment ≡ (g.view old.disk).moment + 4)
     pub off : IsErrOf result faults.Disk → new.is_spent ≡ true
-    -- Want of memory before the first device call changes nothing; after it the bank is spent.
+    -- If memory runs out before the first device call, nothing changes; if after it, the bank is
+    -- spent.
     pub memory : IsErrOf result faults.Memory → (new ≡ old) ⊎ (new.is_spent ≡ true)
     pub known : (IsErrOf result faults.NoBank → ⊥)
         × ((offset : ℕ) → IsErrOf result (faults.Damaged offset) → ⊥)
@@ -96,7 +97,7 @@ module _ {D : Type 0} {g : Ghosts D} where
   -- The records of these deeds were added to the bank's journal, or none of them (`append_all`).
   pub record AppendsAll (old : Bank D g) (deeds : List Deed) (result : Result (Unit {0}) BankFault)
       (new : Bank D g) : Type 0 where
-    -- At no moment a crash leaves anything but the old records, or these and all of the new ones;
+    -- A crash at any moment leaves the old records, or these and all of the new ones;
     pub any_moment : (body : List ℕ) (records : List (List Deed)) → g.honest old.disk
         → IsSettled old.form old.generation body records old.end (g.view old.disk)
         → LeavesOnly (g.view old.disk) (g.view new.disk)
@@ -110,8 +111,8 @@ module _ {D : Type 0} {g : Ghosts D} where
         (new.end ≡ old.end + bytes_for (length deeds) (length (payload old.form deeds)))
     pub count : OnOk result (new.records ≡ old.records + records_for (length deeds))
     pub ready : OnOk result (new.is_spent ≡ false)
-    -- It is Full exactly where one of the deeds has no spelling in the bank's form, or the closed
-    -- gate after the new records would pass the limit; nothing changed then.
+    -- It is Full exactly if one of the deeds has no spelling in the bank's form, or the closed gate
+    -- after the new records would pass the limit; nothing changed then.
     pub fits : OnOk result (All (SuitsForm old.form) deeds)
     pub room : OnOk result (new.end < new.limit)
     pub full : IsErrOf result faults.Full ↔ (old.is_spent ≡ false)
@@ -120,7 +121,7 @@ module _ {D : Type 0} {g : Ghosts D} where
     pub unfilled : IsErrOf result faults.Full → new ≡ old
     pub spent : IsErrOf result faults.Spent ↔ (old.is_spent ≡ true)
     pub unspent : old.is_spent ≡ true → new ≡ old
-    -- The count of failures rises where the device is reported to have failed, and there alone.
+    -- The count of failures rises if the device is reported to have failed, and only then.
     pub cause : IfErr result
         (λ fault. TellsFailures faults.Disk fault (g.failures old.disk) (g.failures new.disk))
     pub steady : OnOk result (g.failures new.disk ≡ g.failures old.disk)
@@ -128,7 +129,8 @@ module _ {D : Type 0} {g : Ghosts D} where
     pub clock : g.honest old.disk
         → OnOk result ((g.view new.disk).moment ≡ (g.view old.disk).moment + 4)
     pub off : IsErrOf result faults.Disk → new.is_spent ≡ true
-    -- Want of memory before the first device call changes nothing; after it the bank is spent.
+    -- If memory runs out before the first device call, nothing changes; if after it, the bank is
+    -- spent.
     pub memory : IsErrOf result faults.Memory → (new ≡ old) ⊎ (new.is_spent ≡ true)
     pub known : (IsErrOf result faults.NoBank → ⊥)
         × ((offset : ℕ) → IsErrOf result (faults.Damaged offset) → ⊥)

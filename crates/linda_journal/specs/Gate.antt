@@ -18,8 +18,8 @@ pub record IsShut (front : List ℕ) (gate : ℕ) (v : View) : Type 0 where
   pub file : ClosesAfter front v.seen
   pub durable : IsDurable v
 
--- After the gate, which is still closed, stands this body with a closed gate at its end; and a
--- crash now leaves it so.
+-- After the gate, which is still closed, comes this body with a closed gate at its end; and a crash
+-- now leaves it so.
 pub record IsReady (front : List ℕ) (gate : ℕ) (body : List ℕ) (v : View) : Type 0 where
   pub place : length front ≡ gate
   pub value : ℕ
@@ -28,13 +28,13 @@ pub record IsReady (front : List ℕ) (gate : ℕ) (body : List ℕ) (v : View) 
   pub closed : value ≢ OPEN
   pub durable : IsDurable v
 
--- The gate is closed still, or it is open and the body stands after it, with a closed gate at its
+-- The gate is closed still, or it is open and the body comes after it, with a closed gate at its
 -- end.
 abbrev pub IsClosedOrOpened : List ℕ → List ℕ → List ℕ → Type 0
 IsClosedOrOpened front body file = ClosesAfter front file ⊎ ClosesAfter (front ++ OPEN ∷ body) file
 
 -- Of a file that begins with a gate and this body after it: no more than the gate is there, or it
--- is closed still, or it is open and the body stands after it.
+-- is closed still, or it is open and the body comes after it.
 abbrev pub IsLaid : List ℕ → List ℕ → Type 0
 IsLaid body file = (length file ≤ 1) ⊎ IsClosedOrOpened [] body file
 

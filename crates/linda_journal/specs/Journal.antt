@@ -16,7 +16,7 @@ pub record IsJournal (form : Form) (bytes : List ℕ) (records : List (List Deed
   pub closed : gate ≢ OPEN
   pub good : All (IsRecord form) records
 
--- What stands after a gate is no record with the byte of a gate after it.
+-- What comes after a gate is no record with the byte of a gate after it.
 abbrev pub IsNoRecord : Form → List ℕ → Type 0
 IsNoRecord form behind =
     (ds : List Deed) (gate : ℕ) (rest : List ℕ) → IsRecord form ds
@@ -37,12 +37,12 @@ pub record IsDamaged (form : Form) (bytes : List ℕ) (place : ℕ) : Type 0 whe
 abbrev pub deeds_of : List Record → List (List Deed)
 deeds_of rs = map (λ (r : Record). r.deeds.items) rs
 
--- The places of the gates of records that stand one after the other from here on.
+-- The places of the gates of records that follow one another from here on.
 abbrev pub places : Form → ℕ → List (List Deed) → List ℕ
 places form at [] = []
 places form at (ds ∷ rs) = at ∷ places form (at + length (spell_record form ds)) rs
 
--- Each record gives the offset of its gate, where the first one stands here.
+-- Each record gives the offset of its gate, if the first one begins at this offset.
 abbrev pub AreAt : Form → ℕ → List Record → Type 0
 AreAt form at rs = map (λ (r : Record). r.gate) rs ≡ places form at (deeds_of rs)
 

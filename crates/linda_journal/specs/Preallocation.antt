@@ -1,4 +1,4 @@
--- Room of a bank that is written ahead of its use, behind the closed gate at its end.
+-- Room of a bank that is written ahead of its use, after the closed gate at its end.
 use Rattle.std.specs.Prelude.{◌≡◌, ◌≤◌, ◌↔◌, ℕ, Bool, true, List, length, replicate, min, max}
 use Rattle.std.specs.Prelude.{Result, IfOk, IfErr, OnOk}
 use Rattle.linda_store_state.specs.declared.deed.Deed.{Deed}
@@ -13,7 +13,7 @@ use Rattle.linda_journal.specs.declared.bank.Bank.{Bank}
 use Rattle.linda_journal.specs.declared.kinds.TheConstants.{CLOSED}
 use Rattle.linda_journal.specs.Bank.{IsBank, IsSettled}
 
--- The file of a durable disk has so many bytes at least: closed gates came behind what it had; or,
+-- The file of a durable disk has so many bytes at least: closed gates came after what it had; or,
 -- at false, it is as it was (`reach`).
 pub record Reaches {D : Type 0} (g : Ghosts D) (to : ℕ) (old : D) (result : Result Bool DiskFault)
     (new : D) : Type 0 where
@@ -29,7 +29,7 @@ pub record Reaches {D : Type 0} (g : Ghosts D) (to : ℕ) (old : D) (result : Re
   pub cause : IfErr result (λ fault. TellsFailures Device fault (g.failures old) (g.failures new))
 
 module _ {D : Type 0} {g : Ghosts D} where
-  -- The two are one bank, but for what is behind its end on the disk.
+  -- The two are one bank, except for what is after its end on the disk.
   pub record IsSameBank (old new : Bank D g) : Type 0 where
     pub form : new.form ≡ old.form
     pub generation : new.generation ≡ old.generation
@@ -42,7 +42,7 @@ module _ {D : Type 0} {g : Ghosts D} where
   -- (`preallocate`).
   pub record Preallocates (to : ℕ) (old : Bank D g) (result : Result Bool DiskFault)
       (new : Bank D g) : Type 0 where
-    -- At no moment a crash leaves another bank,
+    -- A crash at any moment leaves the same bank,
     pub any_moment : (body : List ℕ) (records : List (List Deed)) → g.honest old.disk
         → IsSettled old.form old.generation body records old.end (g.view old.disk)
         → LeavesOnly (g.view old.disk) (g.view new.disk)

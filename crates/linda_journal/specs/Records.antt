@@ -38,11 +38,11 @@ IsNoPayload form bytes = (ds : List Deed) → IsRecord form ds → bytes ≡ pay
 abbrev pub measured : List ℕ → List ℕ
 measured bytes = short_number.spell (length bytes) ++ bytes
 
--- What stands after a record's gate: the length of the payload, and the payload.
+-- What comes after a record's gate: the length of the payload, and the payload.
 abbrev pub record_body : Form → List Deed → List ℕ
 record_body form ds = measured (payload form ds)
 
--- A record: an open gate, and what stands after it.
+-- A record: an open gate, and what comes after it.
 abbrev pub spell_record : Form → List Deed → List ℕ
 spell_record form ds = kind.OPEN ∷ record_body form ds
 
@@ -76,8 +76,8 @@ pub record AreRecords (form : Form) (ds : List Deed) (bytes : List ℕ) : Type 0
   pub good : All (IsRecord form) records
   pub bytes_are : bytes ≡ spell_records form records
 
--- The bytes are an open gate and what stands behind it of records of these deeds, and a closed
--- gate.
+-- The bytes are records of these deeds, which begin with an open gate, and a closed gate after
+-- them.
 pub record AreSpelled (form : Form) (ds : List Deed) (bytes : List ℕ) : Type 0 where
   pub records : List (List Deed)
   pub are : AreIn ds records

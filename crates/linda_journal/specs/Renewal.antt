@@ -18,7 +18,8 @@ use Rattle.linda_journal.specs.Bank.{IsCandidate, IsBank, IsNoneOrNew, behind_ga
 abbrev pub IsNoBank : List ℕ → Type 0
 IsNoBank file = IsCandidate file → ⊥
 
--- There is a first gate, and it is closed: whatever is written after it, the bytes are no bank.
+-- There is a first gate, and it is closed: the bytes are no bank, no matter what is written after
+-- it.
 abbrev pub IsClosed : List ℕ → Type 0
 IsClosed file = (0 < length file) × ((rest : List ℕ) → file ≡ OPEN ∷ rest → ⊥)
 
@@ -30,7 +31,7 @@ IsOpenOrShort file = (length file < MIN_BYTES) ⊎ ((rest : List ℕ) × (file �
 abbrev pub IsSameOrNone : List ℕ → List ℕ → Type 0
 IsSameOrNone old file = (file ≡ old) ⊎ IsNoBank file
 
--- After a first gate that is still closed stands all of the new bank in this form, of this
+-- After a first gate that is still closed comes all of the new bank in this form, of this
 -- generation and with this body, up to the closed gate of its journal at this offset; and a crash
 -- now leaves it so.
 pub record IsWhole (form : Form) (generation : ℕ) (body : List ℕ) (end : ℕ) (v : View)
@@ -41,7 +42,7 @@ pub record IsWhole (form : Form) (generation : ℕ) (body : List ℕ) (end : ℕ
   pub place : end ≡ MIN_BYTES + length body
   pub ready : IsReady [] 0 (behind_gate form generation body) v
 
--- After a first gate that is closed stand these bytes of a new bank, up to this offset; and a crash
+-- After a first gate that is closed come these bytes of a new bank, up to this offset; and a crash
 -- now leaves it so.
 pub record IsFilled (front : List ℕ) (at : ℕ) (v : View) : Type 0 where
   pub gate : ℕ
@@ -51,7 +52,7 @@ pub record IsFilled (front : List ℕ) (at : ℕ) (v : View) : Type 0 where
   pub place : at ≡ 1 + length front
   pub durable : IsDurable v
 
--- The same with records: after a first gate that is still closed stands all of the new bank, with
+-- The same with records: after a first gate that is still closed comes all of the new bank, with
 -- these records in its journal, up to the closed gate at this offset.
 pub record IsWholeWith (form : Form) (generation : ℕ) (body : List ℕ) (records : List (List Deed))
     (end : ℕ) (v : View) : Type 0 where
@@ -62,7 +63,7 @@ pub record IsWholeWith (form : Form) (generation : ℕ) (body : List ℕ) (recor
   pub place : end ≡ MIN_BYTES + length body + length (spell_records form records)
   pub ready : IsReady [] 0 (behind_gate form generation body ++ spell_records form records) v
 
--- With these last bytes behind what is written all of the new bank is there: its body, these
+-- With these last bytes after what is written, all of the new bank is there: its body, these
 -- records and the closed gate.
 pub record IsLast (generation : ℕ) (body : List ℕ) (records : List (List Deed))
     (front bytes : List ℕ) : Type 0 where
@@ -78,13 +79,13 @@ abbrev pub IsNoneOrNewWith : Form → ℕ → List ℕ → List (List Deed) → 
 IsNoneOrNewWith form generation body records file =
     IsNoBank file ⊎ IsBank form file generation body records
 
--- In how many pieces so many bytes are written: all are whole but the last one, which has a byte
--- where there is any.
+-- In how many pieces so many bytes are written: all are full but the last one, which has at least
+-- one byte if there are any.
 abbrev pub pieces : ℕ → ℕ
 pieces bytes = (bytes - 1) / PIECE + 1
 
--- So many calls changed or synced a disk, and before them two more, a write and a sync, closed its
--- first gate, where that was not closed already on a disk of as many bytes as a bank has.
+-- So many calls changed or synced a disk. Before them two more, a write and a sync, closed its
+-- first gate, unless it was closed already on a disk of as many bytes as a bank has.
 abbrev pub TakesCalls : ℕ → View → View → Type 0
 TakesCalls calls old new =
     (IsOpenOrShort old.seen × (new.moment ≡ old.moment + (2 + calls)))

@@ -46,7 +46,7 @@ pub struct Bank<D: Disk> {
 impl<D: Disk> Bank<D> {
     ghost use Rattle.linda_journal.specs.Calls.{Opens, Appends, AppendsAll};
 
-    /// The form in which the bank spells values, which its first letters tell.
+    /// The form in which the bank spells values, which its first letters give.
     pub fn form(&self) -> Form
         ensures { result ≡ self.now.form }
     {
@@ -101,13 +101,13 @@ impl<D: Disk> Bank<D> {
     }
 
     /// Makes a bank of this generation with this body, whose journal has no record, on an empty
-    /// disk: a closed gate and a sync, all that stands after it and a sync, the gate opened and a
+    /// disk: a closed gate and a sync, all that comes after it and a sync, the gate opened and a
     /// sync. It is in `BANK_FORM`.
     ///
     /// # Errors
     ///
-    /// `Full` and `Memory` before the disk is touched; `Disk` where the device failed, and `Memory`
-    /// where the disk found none. Each hands the disk back.
+    /// `Full` and `Memory` before the disk is touched; `Disk` if the device failed, and `Memory` if
+    /// the disk found none. Each hands the disk back.
     pub fn create(
         alloc: Global,
         disk: D,
@@ -122,13 +122,12 @@ impl<D: Disk> Bank<D> {
         ensures new { IfOk result (λ b. (b.form ≡ written) × (b.generation ≡ generation)
             × (b.limit ≡ limit)
             × (b.records ≡ 0) × (b.is_spent ≡ false)) }
-        // It is Full exactly where the bank is longer than its limit, and then the disk is as it
-        // was.
+        // It is Full exactly if the bank is longer than its limit, and then the disk is as it was.
         ensures room { IfOk result (λ b. b.end < limit) }
         ensures full { IfErr result (λ e.
             (e.0 ≡ BankFault.Full ↔ limit < MIN_BYTES + 1 + length body.now)
             × (e.0 ≡ BankFault.Full → e.1 ≡ disk)) }
-        // At no moment a crash leaves another bank than the whole one.
+        // A crash at any moment leaves no bank, or the whole one.
         ensures runs { RunsTo D.Disk (λ b. b.disk) (creates generation body.now) (takes 6)
             BankFault.Disk disk result }
     {
@@ -154,12 +153,12 @@ impl<D: Disk> Bank<D> {
     }
 
     /// Opens the bank that the disk holds, and gives its body and the records of its journal, which
-    /// is read in the form that the bank's letters tell. The disk is synced first; nothing is
+    /// is read in the form that the bank's letters give. The disk is synced first; nothing is
     /// written.
     ///
     /// # Errors
     ///
-    /// `NoBank`, `Damaged`, `Disk` where the device failed, `Memory`; each hands the disk back.
+    /// `NoBank`, `Damaged`, `Disk` if the device failed, `Memory`; each hands the disk back.
     pub fn open(
         alloc: Global,
         disk: D,
@@ -211,10 +210,10 @@ impl<D: Disk> Bank<D> {
     ///
     /// # Errors
     ///
-    /// `Spent` before all others, then `Full` where one of the deeds has no spelling in the bank's
+    /// `Spent` before all others, then `Full` if one of the deeds has no spelling in the bank's
     /// form or the record would pass the limit, which is judged before the record is spelled, and
-    /// then `Memory`: all is as before. `Disk` where the device failed, and `Memory` where the disk
-    /// found none: the record is there or it is not, and the bank is spent.
+    /// then `Memory`: all is as before. `Disk` if the device failed, and `Memory` if the disk found
+    /// none: the record is there or it is not, and the bank is spent.
     pub fn append(&mut self, alloc: Global, deeds: &[Deed]) -> Result<(), BankFault>
         requires some { 1 ≤ length deeds.now }
         requires few { length deeds.now ≤ MAX_DEEDS }
@@ -229,8 +228,8 @@ impl<D: Disk> Bank<D> {
     ///
     /// # Errors
     ///
-    /// As those of `append`; after `Disk`, and `Memory` where the disk found none, all of the
-    /// records are there or none is.
+    /// As those of `append`; after `Disk`, and `Memory` if the disk found none, all of the records
+    /// are there or none is.
     pub fn append_all(&mut self, alloc: Global, deeds: &[Deed]) -> Result<(), BankFault>
         requires some { 1 ≤ length deeds.now }
         requires few { length deeds.now ≤ MAX_DEEDS * MAX_RECORDS }
@@ -275,13 +274,13 @@ impl Bank<MemDisk> {
     }
 }
 
-/// Opens the first gate of a disk on which all of a new bank stands, in `BANK_FORM`: a write of
-/// that gate and a sync.
+/// Opens the first gate of a disk that holds all of a new bank, in `BANK_FORM`: a write of that
+/// gate and a sync.
 ///
 /// # Errors
 ///
-/// `Device` where the device failed, `Memory` where the disk found none; each hands the disk back,
-/// on which the gate may be open.
+/// `Device` if the device failed, `Memory` if the disk found none; each hands the disk back, on
+/// which the gate may be open.
 pub fn unlock<D: Disk>(whole: Whole<D>, limit: usize) -> Result<Bank<D>, (DiskFault, D)>
     ensures done { (body : List ℕ) → D.honest whole.disk
         → IsWhole written whole.generation body whole.end (D.view whole.disk)
@@ -289,7 +288,7 @@ pub fn unlock<D: Disk>(whole: Whole<D>, limit: usize) -> Result<Bank<D>, (DiskFa
     ensures new { IfOk result (λ b. (b.form ≡ written) × (b.generation ≡ whole.generation)
         × (b.limit ≡ limit)
         × (b.end ≡ whole.end) × (b.records ≡ 0) × (b.is_spent ≡ false)) }
-    // At no moment a crash leaves another bank than the whole new one. It is a write and a sync.
+    // A crash at any moment leaves no bank, or the whole new one. It is a write and a sync.
     ensures runs { RunsTo D.Disk (λ b. b.disk) (unlocks_empty whole.generation whole.end) (takes 2)
         DiskFault.Device whole.disk result }
 {
@@ -333,7 +332,7 @@ pub(crate) fn unlock_with<D: Disk>(
     ensures new { IfOk result (λ b. (b.form ≡ written) × (b.generation ≡ generation)
         × (b.limit ≡ limit)
         × (b.end ≡ end) × (b.records ≡ records) × (b.is_spent ≡ false)) }
-    // At no moment a crash leaves another bank than the whole new one. It is a write and a sync.
+    // A crash at any moment leaves no bank, or the whole new one. It is a write and a sync.
     ensures runs { RunsTo D.Disk (λ b. b.disk) (unlocks generation end) (takes 2)
         DiskFault.Device disk result }
 {

@@ -12,7 +12,7 @@ use crate::kinds::{CLOSED, OPEN};
 use crate::limits::MIN_BYTES;
 use linda_disk::{Disk, DiskFault, write_synced};
 
-/// A disk whose first gate is closed, and a crash leaves it so: it holds no bank, whatever is
+/// A disk whose first gate is closed, and a crash leaves it so: it holds no bank, no matter what is
 /// written after the gate.
 #[derive(Drop)]
 pub struct Closed<D: Disk> {
@@ -33,22 +33,22 @@ impl<D: Disk> Closed<D> {
     }
 }
 
-/// Closes the first gate of a disk that is not in use: a write of that gate and a sync. Where the
-/// disk has as many bytes as a bank and its first gate is closed already, nothing is written: to
-/// write over it might open it.
+/// Closes the first gate of a disk that is not in use: a write of that gate and a sync. If the disk
+/// has as many bytes as a bank and its first gate is closed already, nothing is written: to write
+/// over it might open it.
 ///
 /// # Errors
 ///
-/// `Device` where the device failed, `Memory` where the disk found none; each hands the disk back.
+/// `Device` if the device failed, `Memory` if the disk found none; each hands the disk back.
 pub fn shut<D: Disk>(disk: D) -> Result<Closed<D>, (DiskFault, D)>
     requires { D.honest disk → IsDurable (D.view disk) }
-    // Where it was closed already, at no moment it leaves anything but what was there.
+    // If it was closed already, a crash at any moment leaves only what was there.
     ensures still { D.honest disk → MIN_BYTES ≤ length (D.view disk).seen
         → IsNoBank (D.view disk).seen
         → IfOk result (λ c. LeavesOnly (D.view disk) (D.view c.disk)
         (λ image. image ≡ (D.view disk).seen)) }
-    // At no moment a crash leaves anything but what was there, or no bank. It is a write and a
-    // sync, or no call at all.
+    // A crash at any moment leaves only what was there, or no bank. It is a write and a sync, or no
+    // call at all.
     ensures runs { RunsTo D.Disk (λ c. c.disk) shuts (TakesCalls 0) DiskFault.Device disk result }
 {
     let mut disk = disk;
@@ -58,7 +58,7 @@ pub fn shut<D: Disk>(disk: D) -> Result<Closed<D>, (DiskFault, D)>
     }
 }
 
-// Closes the first gate, where it is not closed already.
+// Closes the first gate, if it is not closed already.
 fn close<D: Disk>(disk: &mut D) -> Result<(), DiskFault>
     requires { D.honest disk.old → IsDurable (D.view disk.old) }
     ensures closed { D.honest disk.old → OnOk result (IsClosed (D.view disk.new).seen) }

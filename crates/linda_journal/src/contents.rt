@@ -27,11 +27,11 @@ pub(crate) struct Contents {
     pub journal: Journal,
 }
 
-/// Reads the bank that a disk holds of which a crash leaves what a read gives.
+/// Reads the bank on a disk of which a crash leaves what a read gives.
 ///
 /// # Errors
 ///
-/// `NoBank`, `Damaged`, `Disk` where the device failed, `Memory`.
+/// `NoBank`, `Damaged`, `Disk` if the device failed, `Memory`.
 pub(crate) fn load<D: Disk>(alloc: Global, disk: &mut D) -> Result<Contents, BankFault>
     requires { D.honest disk.old → IsDurable (D.view disk.old) }
     ensures found { D.honest disk.old → IfOk result (λ o. IsSettled o.form o.generation o.body.items

@@ -9,7 +9,7 @@ use linda_disk::DiskFault;
 use std::alloc::{AllocError, AllocFailed};
 use thiserror::Error;
 
-/// What a call of a bank returns where it was not done.
+/// What a call of a bank returns if it was not done.
 #[derive(Clone, Copy, Debug, PartialEq, Eq, Error)]
 pub enum BankFault {
     /// An earlier `append` was cut off by its disk, and the bank is to be opened again.
@@ -22,8 +22,8 @@ pub enum BankFault {
     /// The disk holds no bank: fewer bytes than a bank has, or a first gate that is closed.
     #[error("no bank")]
     NoBank,
-    /// The bank is damaged at this offset: 1 where it begins otherwise or has no generation, 17
-    /// where its body is cut short, else the offset of the first open gate with no record after it.
+    /// The bank is damaged at this offset: 1 if it begins otherwise or has no generation, 17 if its
+    /// body is cut short, else the offset of the first open gate with no record after it.
     #[error("damaged at {0}")]
     Damaged(usize),
     /// The device failed, which it counts.

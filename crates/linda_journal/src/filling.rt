@@ -1,5 +1,5 @@
 //! A new bank that is written in steps, after a first gate that is closed. Each step ends synced,
-//! and whatever a crash leaves in between is no bank. Once all is there, the gate is opened.
+//! and what a crash leaves in between is no bank. Once all is there, the gate is opened.
 
 ghost use Rattle.std.specs.Prelude.{◌≡◌, [], ◌++◌, ◌<◌, ◌≤◌, ◌+◌, ◌-◌, ℕ, List, length, min};
 ghost use Rattle.std.specs.Prelude.{false, IfOk, OnOk};
@@ -14,7 +14,7 @@ use crate::bank::{Bank, unlock_with};
 use crate::closed::Closed;
 use linda_disk::{Disk, DiskFault, write_synced};
 
-/// A disk that is not in use, on which a new bank is written in steps behind a first gate that is
+/// A disk that is not in use, on which a new bank is written in steps after a first gate that is
 /// closed.
 #[derive(Drop)]
 pub struct Filling<D: Disk> {
@@ -45,7 +45,7 @@ impl<D: Disk> Filling<D> {
         Filling { disk, at }
     }
 
-    /// The offset behind what is written.
+    /// The offset after what is written.
     pub fn at(&self) -> usize
         ensures { result ≡ self.now.at }
     {
@@ -60,8 +60,8 @@ impl<D: Disk> Filling<D> {
         disk
     }
 
-    /// Writes these bytes behind those before, and then sees to it that they are on the disk: a
-    /// write and a sync.
+    /// Writes these bytes after those written before, and then sees to it that they are on the
+    /// disk: a write and a sync.
     ///
     /// # Errors
     ///
@@ -72,7 +72,7 @@ impl<D: Disk> Filling<D> {
             → IsFilled front self.at (D.view self.disk)
             → IfOk result (λ f. IsFilled (front ++ bytes.now) f.at (D.view f.disk)) }
         ensures place { IfOk result (λ f. f.at ≡ self.at + length bytes.now) }
-        // At no moment a crash leaves a bank.
+        // A crash at any moment leaves no bank.
         ensures runs { RunsTo D.Disk (λ f. f.disk) (fills self.at) (takes 2) DiskFault.Device
             self.disk result }
     {
@@ -104,7 +104,7 @@ impl<D: Disk> Filling<D> {
         ensures new { IfOk result (λ b. (b.form ≡ written) × (b.generation ≡ generation)
             × (b.limit ≡ limit) × (b.end ≡ self.at - 1) × (b.is_spent ≡ false)) }
         ensures records { IfOk result (λ b. b.records ≡ min records (self.at - 1)) }
-        // At no moment a crash leaves another bank than the whole new one.
+        // A crash at any moment leaves no bank, or the whole new one.
         ensures runs { RunsTo D.Disk (λ b. b.disk) (unlocks generation (self.at - 1)) (takes 2)
             DiskFault.Device self.disk result }
     {
@@ -114,8 +114,8 @@ impl<D: Disk> Filling<D> {
         unlock_with(disk, generation, limit, end, records.min(end))
     }
 
-    /// Writes the last bytes of the new bank behind those before, and then opens its first gate, as
-    /// `add` and `unlock` do.
+    /// Writes the last bytes of the new bank after those written before, and then opens its first
+    /// gate, as `add` and `unlock` do.
     ///
     /// # Errors
     ///
@@ -137,7 +137,7 @@ impl<D: Disk> Filling<D> {
         // The gate at its end is the last byte, and the bank counts so many records.
         ensures place { IfOk result (λ b. b.end + 1 ≡ self.at + length bytes.now) }
         ensures records { IfOk result (λ b. b.records ≡ min records b.end) }
-        // At no moment a crash leaves another bank than the whole new one.
+        // A crash at any moment leaves no bank, or the whole new one.
         ensures runs { RunsTo D.Disk (λ b. b.disk) (finishes generation self.at bytes.now)
             (takes 4) DiskFault.Device self.disk result }
     {
@@ -151,7 +151,7 @@ impl<D: Disk> Filling<D> {
     }
 }
 
-// Writes these bytes behind those that end at this offset.
+// Writes these bytes after those that end at this offset.
 fn fill_more<D: Disk>(disk: &mut D, at: usize, bytes: &[u8]) -> Result<(), DiskFault>
     requires within { D.honest disk.old → at ≤ length (D.view disk.old).seen }
     ensures filled { (front : List ℕ) → D.honest disk.old → IsFilled front at (D.view disk.old)

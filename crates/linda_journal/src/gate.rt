@@ -47,11 +47,11 @@ fn stage<D: Disk>(disk: &mut D, gate: usize, bytes: &[u8]) -> Result<(), DiskFau
     write_synced(disk, gate + 1, bytes)
 }
 
-/// Opens the gate at this offset, after which a body stands.
+/// Opens the gate at this offset, which has a body after it.
 ///
 /// # Errors
 ///
-/// `Device` where the device failed, `Memory`. The gate may be open.
+/// `Device` if the device failed, `Memory`. The gate may be open.
 pub(crate) fn open_gate<D: Disk>(disk: &mut D, gate: usize) -> Result<(), DiskFault>
     requires { D.honest disk.old → gate < length (D.view disk.old).seen }
     ensures opened { (front body : List ℕ) → D.honest disk.old
@@ -68,7 +68,7 @@ pub(crate) fn open_gate<D: Disk>(disk: &mut D, gate: usize) -> Result<(), DiskFa
 ///
 /// # Errors
 ///
-/// `Device` where the device failed, `Memory`.
+/// `Device` if the device failed, `Memory`.
 pub fn lay_gate<D: Disk>(disk: &mut D) -> Result<(), DiskFault>
     ensures shut { D.honest disk.old → OnOk result (IsShut [] 0 (D.view disk.new)) }
     ensures long { D.honest disk.old → OnOk result (0 < length (D.view disk.new).seen) }

@@ -51,7 +51,7 @@ pub fn read_heading(bytes: &[u8]) -> Heading
     }
 }
 
-// The form that the letters tell, and what stands after them; None where others stand there.
+// The form that the letters give, and what comes after them; `None` if other letters are there.
 fn behind_magic(bytes: &[u8]) -> Option<(Form, &[u8])>
     ensures found { IfSome result (λ o. bytes.now ≡ magic o.0 ++ o.1.now) }
     ensures none { IfNone result ((form : forms.Form) (rest : List ℕ)

@@ -63,19 +63,19 @@ pub fn read_journal(
     at: usize,
 ) -> Result<Journal, JournalFault>
     requires { at < length bytes.now }
-    // What is read stands there,
+    // What is read is there,
     ensures found { IfOk result (λ j.
         IsJournal form (drop at bytes.now) (deeds_of j.records.items)) }
     // each record at its offset.
     ensures places { IfOk result (λ j. AreAt form at j.records.items
         × (j.end ≡ at + length (spell_records form (deeds_of j.records.items)))) }
-    // It is damaged where it says so.
+    // It is damaged at the offset that is reported.
     ensures fault { IfErr result (IsFaultOf form (drop at bytes.now) at) }
-    // Records that stand there are read, all of them, or memory runs out.
+    // Records that are there are read, all of them, or memory runs out.
     ensures only { (rs : List (List deed.Deed)) → IsJournal form (drop at bytes.now) rs
         → IfOk result (λ j. deeds_of j.records.items ≡ rs)
         × IfErr result (λ f. f ≡ JournalFault.Memory) }
-    // Where it is damaged, that offset is reported, or memory runs out.
+    // If it is damaged, that offset is reported, or memory runs out.
     ensures damaged { (place : ℕ) → IsDamaged form (drop at bytes.now) place
         → IfOk result (λ j. ⊥)
         × IfErr result (λ f. f ≢ JournalFault.Memory → f ≡ JournalFault.Damaged (at + place)) }
@@ -108,7 +108,7 @@ fn collect(alloc: Global, form: Form, bytes: &[u8], at: usize) -> Result<Journal
     Ok(Journal { records, end })
 }
 
-/// What stands after a gate that is open; None where it is closed, or is not there.
+/// What comes after a gate that is open; `None` if it is closed, or is not there.
 pub(crate) fn behind_open(bytes: &[u8]) -> Option<&[u8]>
     ensures opened { IfSome result (λ behind. bytes.now ≡ OPEN ∷ behind.now) }
     ensures shut { IfNone result ((behind : List ℕ) → bytes.now ≡ OPEN ∷ behind → ⊥) }

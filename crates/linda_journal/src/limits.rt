@@ -11,7 +11,7 @@ pub const MAX_RECORDS: usize = 64;
 /// The bytes of a gate.
 pub const GATE_BYTES: usize = 1;
 
-// The bytes of the letters that tell the form of a bank.
+// The bytes of the letters that give the form of a bank.
 const LETTER_BYTES: usize = 4;
 
 /// The offset of the length of a bank's body: its first gate, the letters and the generation come

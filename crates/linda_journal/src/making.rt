@@ -18,7 +18,7 @@ use linda_store_state::BANK_FORM;
 use linda_tuple::Form;
 use std::alloc::{AllocError, Global};
 
-/// What is to stand after the first gate of a new bank, which is in `BANK_FORM`, with the closed
+/// What is to come after the first gate of a new bank, which is in `BANK_FORM`, with the closed
 /// gate of its journal at its end.
 pub fn spell_front(alloc: Global, generation: u64, body: &[u8]) -> Result<Vec<u8>, AllocError>
     requires { length body.now < 2 ^ 32 }
@@ -31,7 +31,7 @@ pub fn spell_front(alloc: Global, generation: u64, body: &[u8]) -> Result<Vec<u8
 }
 
 /// What a new bank, which is in `BANK_FORM`, has between its first gate and a body of so many
-/// bytes. There is room for the body and the closed gate behind it, so a body that is spelled there
+/// bytes. There is room for the body and the closed gate after it, so a body that is spelled there
 /// is in memory once.
 ///
 /// # Errors
@@ -48,7 +48,7 @@ pub fn spell_heading(alloc: Global, generation: u64, len: usize) -> Result<Vec<u
 }
 
 /// Appends what a new bank, which is in `BANK_FORM`, has between its first gate and a body of so
-/// many bytes. If memory runs out, a part of it may stand behind the old bytes.
+/// many bytes. If memory runs out, a part of it may be there after the old bytes.
 ///
 /// # Errors
 ///
@@ -78,7 +78,7 @@ fn letters(form: Form) -> [u8; 4]
 ///
 /// # Errors
 ///
-/// `Disk` where the device failed, `Memory`.
+/// `Disk` if the device failed, `Memory`.
 pub(crate) fn inscribe<D: Disk>(disk: &mut D, bytes: &[u8]) -> Result<(), BankFault>
     ensures done { (body : List ℕ) → bytes.now ≡ body ++ CLOSED ∷ [] → D.honest disk.old
         → OnOk result (IsShut (OPEN ∷ body) (1 + length body) (D.view disk.new)) }

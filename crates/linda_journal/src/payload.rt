@@ -14,8 +14,8 @@ use linda_store_state::Deed;
 use linda_tuple::Form;
 use std::alloc::{AllocError, Global};
 
-/// The deeds that all of the payload spells; None where it spells no record's. They are counted
-/// first, without memory.
+/// The deeds that all of the payload spells; `None` if it does not spell the deeds of a record.
+/// They are counted first, without memory.
 pub(crate) fn read_payload(
     alloc: Global,
     form: Form,
@@ -24,7 +24,7 @@ pub(crate) fn read_payload(
     ensures found { IfOk result (λ o. IfSome o (λ ds. IsRecord form ds.items
         × (payload.now ≡ format.payload form ds.items))) }
     ensures none { IfOk result (λ o. IfNone o (IsNoPayload form payload.now)) }
-    // Memory runs out only where a record's deeds stand.
+    // Memory runs out only if the payload spells the deeds of a record.
     ensures memory { OnErr result (IsNoPayload form payload.now → ⊥) }
 {
     match count_deeds(form, payload) {
@@ -33,7 +33,7 @@ pub(crate) fn read_payload(
     }
 }
 
-// How many deeds all of the payload spells; None where it spells no record's.
+// How many deeds all of the payload spells; `None` if it does not spell the deeds of a record.
 fn count_deeds(form: Form, payload: &[u8]) -> Option<usize>
     ensures some { IfSome result (IsPayloadOf form payload.now) }
     ensures none { IfNone result (IsNoPayload form payload.now) }
@@ -73,7 +73,7 @@ fn read_deeds(
     }
 }
 
-/// How many bytes the deeds spell in the form; None if one of them has no spelling there.
+/// How many bytes the deeds spell in the form; `None` if one of them has no spelling there.
 pub(crate) fn payload_len(form: Form, deeds: &[Deed]) -> Option<usize>
     requires { length deeds.now ≤ MAX_DEEDS * MAX_RECORDS }
     ensures exact { IfSome result (λ len. len ≡ length (format.payload form deeds.now)) }

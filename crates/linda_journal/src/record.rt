@@ -26,8 +26,8 @@ pub struct Record {
     pub deeds: Vec<Deed>,
 }
 
-/// The deeds of the record after an open gate, and the bytes from the next gate on. None where no
-/// record stands there with the byte of a gate after it.
+/// The deeds of the record after an open gate, and the bytes from the next gate on. `None` if no
+/// record is there with the byte of a gate after it.
 pub(crate) fn read_record(
     alloc: Global,
     form: Form,
@@ -54,8 +54,8 @@ pub(crate) fn read_record(
 }
 
 /// The records of these deeds, each but the last of as many as a record may have, and a closed gate
-/// after them. Their first gate is open, and stands first. The bytes of the records are counted
-/// before, so that memory is taken once.
+/// after them. The first byte is the gate of the first record, which is open. The bytes of the
+/// records are counted before, so that memory is taken once.
 pub(crate) fn spell_all(
     alloc: Global,
     form: Form,
@@ -105,7 +105,7 @@ fn spell_each(alloc: Global, form: Form, deeds: &[Deed], len: usize) -> Result<V
     Ok(out)
 }
 
-/// What stands behind the gate with which the bytes begin.
+/// What comes after the gate with which the bytes begin.
 pub(crate) fn behind_gate(bytes: &[u8]) -> &[u8]
     ensures { result.now ≡ drop 1 bytes.now }
 {

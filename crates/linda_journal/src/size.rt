@@ -18,7 +18,7 @@ pub fn records_for(deeds: usize) -> usize
     (deeds + (MAX_DEEDS - 1)) / MAX_DEEDS
 }
 
-/// How many bytes the records of these deeds spell, their gates among them; None if one of the
+/// How many bytes the records of these deeds spell, their gates among them; `None` if one of the
 /// deeds has no spelling in the form.
 pub(crate) fn records_len(form: Form, deeds: &[Deed]) -> Option<usize>
     requires { length deeds.now ≤ MAX_DEEDS * MAX_RECORDS }

@@ -15,7 +15,7 @@ use crate::closed::Closed;
 use crate::limits::PIECE;
 use linda_disk::{Disk, DiskFault};
 
-/// A disk on which all of a new bank stands, after a first gate that is still closed.
+/// A disk that holds all of a new bank, after a first gate that is still closed.
 #[derive(Drop)]
 pub struct Whole<D: Disk> {
     pub(crate) disk: D,
@@ -24,12 +24,12 @@ pub struct Whole<D: Disk> {
     ghost inside: { D.honest disk → end < length (D.view disk).seen },
 }
 
-/// Writes these bytes, what stands after the first gate of a new bank of this generation, in order
+/// Writes these bytes, which come after the first gate of a new bank of this generation, in order
 /// and in pieces; and then sees to it that they are on the disk.
 ///
 /// # Errors
 ///
-/// `Device` where the device failed, `Memory` where the disk found none; each hands the disk back.
+/// `Device` if the device failed, `Memory` if the disk found none; each hands the disk back.
 pub fn write_body<D: Disk>(
     closed: Closed<D>,
     generation: u64,
@@ -40,7 +40,7 @@ pub fn write_body<D: Disk>(
         → bytes.now ≡ behind_gate written generation body ++ CLOSED ∷ [] → D.honest closed.disk
         → IfOk result (λ w. IsWhole written generation body w.end (D.view w.disk)) }
     ensures new { IfOk result (λ w. (w.generation ≡ generation) × (w.end ≡ length bytes.now)) }
-    // At no moment a crash leaves a bank. It is one write for each piece, and a sync.
+    // A crash at any moment leaves no bank. It is one write for each piece, and a sync.
     ensures runs { RunsTo D.Disk (λ w. w.disk) (leaves IsNoBank)
         (takes (pieces (length bytes.now) + 1)) DiskFault.Device closed.disk result }
 {

@@ -1,4 +1,4 @@
--- What was sent of a deed is kept while more is done, and is sent again where its number comes again.
+-- What was sent of a deed is kept while more is done, and is sent again when its number comes again.
 use Rattle.std.proofs.Common.{◌≡◌, ℕ, ◌<◌, ◌≤◌, ◌+◌, Bool, true, false, inl, inr, List, [], ◌∷◌, ◌++◌, option_to_list}
 use Rattle.std.proofs.Common.{option_map, Option, Some, None, IfSome, IsSome, All, refl, sym, ap, ◌∙◌, subst}
 use Rattle.std.proofs.Common.{append_assoc, append-nil, arith}

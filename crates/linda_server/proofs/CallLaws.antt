@@ -1,4 +1,4 @@
--- What crashes leave within a call of a server, where only that some bank is in use is known.
+-- What crashes leave within a call of a server, if it is known only that some bank is in use.
 use Rattle.std.proofs.Common.{◌≡◌, ℕ, Bool, true, false, sym, subst, ◌<◌, ◌≤◌, ◌⊎◌, inl, inr, List, [], ◌∷◌, length}
 use Rattle.std.proofs.Common.{Option, Some, None, All, is_some, IfSome, ◌+◌, option_to_list, ap, length-append}
 use Rattle.std.proofs.Common.{append-nil, refl, ◌++◌, ◌∙◌, true≢false, Result, Ok, Err, IfOk, OnOk, OnErr, arith}
@@ -69,7 +69,7 @@ each_share st soft ms told new then served =
     let counted = told.counts.ok.0 in
     omega (arith, all, counted)
 
--- What is so of what was served is so of what is returned in the end, where that is the same.
+-- What holds of what was served holds of what is returned in the end, if that is the same.
 pub told_so : (r : Result Served ServeFault) (served : Served) (P : Served → Type 0) → IfOk r (λ s. s ≡ served) → P served → IfOk r P
 told_so (Ok s) served P same p = subst P (sym same) p
 told_so (Err fault) served P same p = tt
@@ -167,7 +167,7 @@ pub all_remains_up : (before : State) (store : Store) (down : Bool) (lost : List
 all_remains_up before store down lost ms told new then ds is_up served same =
     subst (λ b. MayRemain (shown before store b lost) (comings ms) ds) (sym is_up) (all_remains (shown before store false lost) ms told new then ds served same)
 
--- What holds where a call ended with a fault, given by what holds where it did not.
+-- What holds after a fault, if the flag is set, which it is not at Ok.
 pub at_fault : {A E : Type 0} (r : Result A E) (b : Bool) (P : Type 0) → OnOk r (b ≡ false) → OnErr r P → b ≡ true → P
 at_fault (Ok x) b P good bad is = absurd (true≢false (sym is ∙ good))
 at_fault (Err e) b P good bad is = bad
@@ -199,13 +199,13 @@ sides_now false old used other P Q timed_used timed since goes left right l r =
     goes left right (since.each left right (timed_used.counts_now old.left.moment left since.left_later l)
     (timed.counts_now old.right.moment right since.right_later r))
 
--- Of either state, where deeds lead from the one to the other.
+-- Either of two states is one with or without the deeds, if these lead from the one to the other.
 pub with_or_without : (st now : State) (deeds : List Deed) → IsState st → LeadTo st deeds now
     → (left right : List ℕ) → IsEither st now left right → IsWithOrWithout st deeds left right
 with_or_without st now deeds is leads left right some =
     ∥∥₁_map some (λ x. record { new = now; ranges = is; done = led st now deeds is leads; stands = x })
 
--- Of either state, where what came happened.
+-- Either of two states is the one before or after the messages, if these lead from the one to the other.
 pub before_or_after : (old new : Store) (ms : List (ℕ × Message)) (told : Served)
     → IsServed old.state old.soft ms told new.state new.soft → (left right : List ℕ)
     → IsEither old.state new.state left right → IsBeforeOrAfter old (comings ms) left right
@@ -233,7 +233,7 @@ module _ {D : Type 0} {g : Ghosts D} (timed : (d : D) → g.honest d → IsTimed
   pub up_for : (disks : Disks (Bank D g) D) (st : State) → BothHonest disks → ∥ IsKeptFor disks st ∥₁ → ∥ IsUpFor disks st ∥₁
   up_for disks st are kept = ∥∥₁_map kept (λ k. up_of timed disks st k are)
 
-  -- No disk was touched: the state stands as before.
+  -- No disk was touched: the disks represent the state as before.
   pub still_so : (disks : Disks (Bank D g) D) (st : State) → BothHonest disks → ∥ IsKeptFor disks st ∥₁
       → PairsSince (both_of disks) (both_of disks) (StandsFor st)
   still_so disks st are kept =
@@ -270,7 +270,7 @@ module _ {D : Type 0} {g : Ghosts D} (timed : (d : D) → g.honest d → IsTimed
       ((timed right are.1).counts_now (both_of old).right.moment r since.right_later ra))
   now_since old Away P Q are since goes = absurd are
 
-  -- The state stands now.
+  -- The disks represent the state now.
   pub stands_so : (disks : Disks (Bank D g) D) (st : State) → BothHonest disks → ∥ IsKeptFor disks st ∥₁
       → PairsNow (both_of disks) (StandsFor st)
   stands_so disks st are kept left right l r =

@@ -9,7 +9,7 @@ use Rattle.linda_server.specs.declared.fault.OpenFault.{OpenFault}
 use Rattle.linda_server.specs.declared.fault.OpenFault.TheVariants as faults
 use Rattle.linda_server.specs.Opening.{fault_of_choice}
 
--- A fault that is Device exactly where the disk's fault is tells of the count.
+-- A fault that is the device's exactly if the disk's fault is satisfies `TellsFailures`.
 pub counted : {T F : Type 0} (device told : F) (fault : DiskFault) (r : Result T DiskFault) (old new : ℕ)
     → r ≡ Err fault → (told ≡ device) ↔ (fault ≡ Device) → CountsFailure r old new
     → TellsFailures device told old new
@@ -22,7 +22,7 @@ counted device told Memory r old new is same counts = record {
   others = λ _. counts.memory is;
 }
 
--- What it tells of one disk's count, it tells of the sum with another count that stayed.
+-- If a fault satisfies it for one disk's count, so it does for the sum with another count that is unchanged.
 pub beside_told : {F : Type 0} (device told : F) (used used_new other other_new : ℕ) → used_new ≡ used
     → TellsFailures device told other other_new → TellsFailures device told (used + other) (used_new + other_new)
 beside_told device told used used_new other other_new same tells = record {
@@ -30,7 +30,7 @@ beside_told device told used used_new other other_new same tells = record {
   others = λ not. let stays = tells.others not in omega (arith, stays, same);
 }
 
--- What one disk's fault tells is told of two, where the other one's count stayed.
+-- If a fault satisfies it for one disk, it satisfies `TellsFailuresOfTwo`, if the other one's count is unchanged.
 pub left_told : {F : Type 0} (device told : F) (left mid left_new right right_new : ℕ) → mid ≡ left → TellsFailures device told mid left_new → right_new ≡ right
     → TellsFailuresOfTwo device told left right left_new right_new
 left_told device told left mid left_new right right_new same tells other = record {
@@ -46,7 +46,7 @@ right_told device told left left_new right mid right_new other same tells = reco
   others = λ not. (other, tells.others not ∙ same);
 }
 
--- A fault of no device tells that both counts stayed.
+-- A fault that is not the device's satisfies `TellsFailuresOfTwo`, if both counts are unchanged.
 pub none_told : {F : Type 0} (device told : F) (left left_new right right_new : ℕ) → told ≢ device
     → left_new ≡ left → right_new ≡ right → TellsFailuresOfTwo device told left right left_new right_new
 none_told device told left left_new right right_new not same other = record { cause = λ is. absurd (not is); others = λ _. (same, other) }
@@ -57,7 +57,7 @@ memory_fails_none is = cc
 pub range_fails_none : faults.LimitRange ≢ faults.Disk
 range_fails_none is = cc
 
--- What a fault of two disks tells, another one tells that is the device's exactly where that one is.
+-- If a fault satisfies it, so does another one that is the device's exactly if that one is.
 pub two_renamed : {F G : Type 0} (device told : F) (failed fault : G) (left right left_new right_new : ℕ)
     → (told ≡ device) ↔ (fault ≡ failed) → TellsFailuresOfTwo failed fault left right left_new right_new
     → TellsFailuresOfTwo device told left right left_new right_new
@@ -66,7 +66,7 @@ two_renamed device told failed fault left right left_new right_new same tells = 
   others = λ not. tells.others (λ is. not (same.1 is));
 }
 
--- A server's fault is the device's exactly where that of the choice is.
+-- A server's fault is the device's exactly if that of the choice is.
 pub choice_failed : (told : OpenFault) (fault : ChoiceFault) → told ≡ fault_of_choice fault → (told ≡ faults.Disk) ↔ (fault ≡ choices.Disk)
 choice_failed told choices.NoStore same = ((λ is. cc), (λ is. cc))
 choice_failed told (choices.Damaged right offset) same = ((λ is. cc), (λ is. cc))

@@ -64,7 +64,7 @@ gate_made left left_new right right_new l r = record {
   each = λ a b x y. inl (void_none a (l.each a x), few_none b (r.each b y));
 }
 
--- A whole new bank represents the empty state, where the other disk has none.
+-- A whole new bank represents the empty state, if the other disk has none.
 new_stands : (left right : List ℕ) → FitsState written empty_state → IsNoBank right
     → IsNoneOrNew written 1 (spell_state written empty_state) left → IsNothingOr empty_state left right
 new_stands left right fits none (inl no_bank) = inl (no_bank, none)

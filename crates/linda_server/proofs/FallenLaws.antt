@@ -28,7 +28,7 @@ pub fewer : (left right left_new right_new : View) (P : List ℕ → List ℕ �
     → PairsNow (two left_new right_new) P
 fewer left right left_new right_new P now fewer_left fewer_right a b la lb = now a b (fewer_left a la) (fewer_right b lb)
 
--- At no moment it left what it could not leave at first, so now it does not.
+-- A crash at any moment left only what it could leave at first, so that is so now.
 pub no_more : (old new : View) → IsTimed new → LeavesOnly old new old.may_leave → LeavesNoMore old new
 no_more old new timed run image left = run.each image (timed.counts_now old.moment image run.later left)
 
@@ -36,7 +36,7 @@ no_more old new timed run image left = run.each image (timed.counts_now old.mome
 pub as_read : (left right : View) (P : List ℕ → List ℕ → Type 0) → IsTimed left → IsTimed right → PairsNow (two left right) P → P left.seen right.seen
 as_read left right P timed_left timed_right now = now left.seen right.seen timed_left.stays timed_right.stays
 
--- The state after the deeds stands.
+-- The files represent the state after the deeds.
 pub stands_after : (before base now : State) (deeds ds : List Deed) (left right : List ℕ) → before ≡ base
     → ds ≡ deeds → IsState base → AreDone base deeds now → StandsFor now left right
     → IsWithOrWithout before ds left right

@@ -19,7 +19,7 @@ use Rattle.linda_server.proofs.CallLaws.{handled}
 use Rattle.linda_server.proofs.GoingLaws.{how_of, other}
 use Rattle.linda_server.proofs.LivesLaws.{cut_at_work, goes_on_well, goes_on_still}
 
--- What a node answers for a fault: `Full` for that one alone.
+-- What a node answers for a fault: `Full` only for the fault `Full`.
 pub record IsToldAs (fault : ServeFault) (told : NodeFault) : Type 0 where
   pub full : (told ≡ nodes.Full) ↔ (fault ≡ faults.Full)
   pub down : (told ≡ nodes.Down) ↔ (fault ≢ faults.Full)
@@ -28,7 +28,7 @@ pub same_fault : {A E : Type 0} (e f : E) → IsErrOf {T = A} (Err e) f → e �
 same_fault e f is = search (rules, is)
 
 module _ {D : Type 0} {g : Ghosts D} (old new : Durable D g) (fault : ServeFault) (told : NodeFault) (told_as : IsToldAs fault told) where
-  -- It is down where it is said to be.
+  -- It is down after each fault but `Full`.
   went_down : {A : Type 0} → (IsErrOf {T = A} (Err fault) faults.Down ↔ (old.down ≡ true)) → (old.down ≡ true → new ≡ old)
       → (IsErrOf {T = A} (Err fault) faults.Disk → new.down ≡ true) × (IsErrOf {T = A} (Err fault) faults.Memory → new.down ≡ true)
       → fault ≢ faults.Full → new.down ≡ true
@@ -41,7 +41,7 @@ module _ {D : Type 0} {g : Ghosts D} (old new : Durable D g) (fault : ServeFault
       by faults.Disk not_full was_down goes_down = goes_down.0 refl
       by faults.Memory not_full was_down goes_down = goes_down.1 refl
 
-  -- Where it was down, that is what is returned.
+  -- If it was down, `Down` is returned.
   still_down : {A B : Type 0} → (IsErrOf {T = A} (Err fault) faults.Down ↔ (old.down ≡ true)) → old.down ≡ true → IsErrOf {T = B} (Err told) nodes.Down
   still_down was_down down =
       let is : fault ≡ faults.Down = same_fault fault faults.Down (was_down.1 down) in

@@ -16,7 +16,7 @@ pub found_proper : (ds hand : List Deed) (b : Bool) → IsProper empty_state ds 
 found_proper ds hand true proper goes_on = goes_on
 found_proper ds hand false proper goes_on = subst (IsProper empty_state) (sym (append-nil ds)) proper
 
--- What is known of two disks: what stands there, and the deeds go on with those that were in hand.
+-- What is known of two disks: the state that they represent, and that the deeds go on with those that were in hand.
 pub record AreKnown {D : Type 0} (g : Ghosts D) (ds hand : List Deed) (all : List (ℕ × Reply)) (left right : D) : Type 0 where
   pub before : State
   pub done : AreDone empty_state ds before

@@ -1,4 +1,4 @@
--- What stands on two disks after a crash.
+-- The state that two disks represent after a crash.
 use Rattle.std.proofs.Common.{◌≡◌, ℕ, Bool, true, false, ◌⊎◌, inl, inr, List, subst}
 use Rattle.std.proofs.Math.Logic.{∥∥₁_map}
 use Rattle.linda_store_state.specs.State.{State, empty_state}
@@ -22,19 +22,19 @@ use Rattle.linda_server.specs.Server.{both_of, BothHonest}
 use Rattle.linda_server.specs.Calls.{StandsAround, IsWithOrWithout, StandsAfter, IsBeforeOrAfter, IsNothingOr}
 use Rattle.linda_server.specs.Lives.{AreLeft}
 
--- What stands is no bank's lack.
+-- If two files represent a state, not both are without a bank.
 not_none : (left right : List ℕ) (st : State) → Stands left right st → IsNoBank left × IsNoBank right → ⊥
 not_none left right st (inl first) none =
     none.0 (is_candidate first.stands.form left first.generation (spell_state first.stands.form first.stands.opening) first.stands.records first.stands.bank)
 not_none left right st (inr first) none =
     none.1 (is_candidate first.stands.form right first.generation (spell_state first.stands.form first.stands.opening) first.stands.records first.stands.bank)
 
--- Where there is nothing or the empty state, what stands is that one.
+-- If there is nothing or the empty state, the state that is represented is the empty one.
 pub empty_stands : (left right : List ℕ) (st : State) → Stands left right st → IsNothingOr empty_state left right → st ≡ empty_state
 empty_stands left right st stands (inl none) = absurd (not_none left right st stands none)
 empty_stands left right st stands (inr empty) = one_stands left right st empty_state stands empty
 
--- The state of before stands, or the one after what came.
+-- The files represent the state before what came, or the one after it.
 pub at_work_there : (old : Store) (xs : List Coming) (all : History) (left right : List ℕ) → IsOrderly old.state old.soft → Happens old.state old.soft xs all
     → IsBeforeOrAfter old xs left right → IsWithOrWithout old.state all.deeds left right
 at_work_there old xs all left right orderly happens some = ∥∥₁_map some around

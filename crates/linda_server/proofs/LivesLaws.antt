@@ -59,7 +59,7 @@ module _ {D : Type 0} {g : Ghosts D} (timed : (d : D) → g.honest d → IsTimed
   abbrev node : Durable D g → Node
   node s = shown s.before.value s.store s.down s.lost.items
 
-  -- Of a server: its deeds are sound, and what was sent reports them alone.
+  -- Of a server: its deeds are sound, and what was sent reports only them.
   record IsKnown (ds : List Deed) (all : List (ℕ × Reply)) (s : Durable D g) : Type 0 where
     sound : IsSound ds (node s)
     backed : AreBacked ds all
@@ -228,7 +228,7 @@ module _ {D : Type 0} {g : Ghosts D} (timed : (d : D) → g.honest d → IsTimed
               (order_up ds s known.sound up).state_is honest (s.kept up))
         ]
 
-  -- What stands as the disks read.
+  -- The state that the disks represent as they read.
   module _ (ds hand : List Deed) (all : List (ℕ × Reply)) (left right : D) (known : AreKnown g ds hand all left right) where
     seen : IsWithOrWithout known.before hand (g.view left).seen (g.view right).seen
     seen = known.there (g.view left).seen (g.view right).seen (timed left known.honest_left).stays (timed right known.honest_right).stays

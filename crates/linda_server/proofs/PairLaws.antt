@@ -1,4 +1,4 @@
--- What crashes leave of two disks, where deeds go onto the one that holds the bank in use, or nothing does.
+-- What crashes leave of two disks, if deeds go onto the one that holds the bank in use, or nothing does.
 use Rattle.std.proofs.Common.{◌≡◌, ℕ, ◌≤◌, ◌⊎◌, inl, inr, Bool, true, false, ◌==◌, length, List, [], ◌∷◌, ◌++◌, refl, sym, ap, subst, ◌∙◌, append-nil, arith}
 use Rattle.std.proofs.lemmas.Grind.{flat_map-append}
 use Rattle.linda_tuple.specs.declared.form.Form.{Form}
@@ -39,7 +39,7 @@ on_sides false used new other P Q later each same turned = record {
   each = λ left right l r. same left right (each left right l r);
 }
 
--- One of two states stands.
+-- The files represent one of two states.
 abbrev IsUsedFor : State → State → List ℕ → List ℕ → Type 0
 IsUsedFor st now image beside = IsInUse image beside st ⊎ IsInUse image beside now
 
@@ -138,7 +138,7 @@ stored_more form generation end used st now deeds stored leads new_form new_gene
           (leads stored.opening (deeds_in stored.records) stored.ranges stored.done);
     })
 
--- What stands now.
+-- The state that is represented now.
 pub left_for : (form : Form) (generation end : ℕ) (used other : View) (st : State) → IsUp form generation end used other st
     → (image beside : List ℕ) → used.may_leave image → other.may_leave beside → IsInUse image beside st
 left_for form generation end used other st up image beside l o = record {
@@ -156,7 +156,7 @@ left_for form generation end used other st up image beside l o = record {
   lesser = subst (IsLesser generation) (sym (up.durable beside o)) up.lesser;
 }
 
--- What stands, where no disk is touched.
+-- The state that is represented if no disk is touched.
 stands_for : (form : Form) (generation end : ℕ) (used other : View) (st : State) → IsUp form generation end used other st → IsTimed used → IsTimed other
     → (image beside : List ℕ) → used.left_since used.moment image → other.left_since other.moment beside → IsInUse image beside st
 stands_for form generation end used other st up timed_used timed image beside l o =
@@ -171,7 +171,7 @@ now_on_sides false used other st each left right l r = inl (each left right l r)
 -- ---- the two disks of a server
 
 module _ {D : Type 0} {g : Ghosts D} (timed : (d : D) → g.honest d → IsTimed (g.view d)) where
-  -- Where no disk is touched, the same state stands.
+  -- If no disk is touched, the same state is represented.
   pub still : (disks : Disks (Bank D g) D) (st : State) → BothHonest disks → IsUpFor disks st
       → PairsSince (both_of disks) (both_of disks) (λ left right. Stands left right st)
   still (InUse pair) st are up =
@@ -183,7 +183,7 @@ module _ {D : Type 0} {g : Ghosts D} (timed : (d : D) → g.honest d → IsTimed
   still (Shut left right) st are up = absurd up
   still Away st are up = absurd up
 
-  -- Now it stands.
+  -- It is represented now.
   pub stands_now : (disks : Disks (Bank D g) D) (st : State) → IsUpFor disks st → PairsNow (both_of disks) (λ left right. Stands left right st)
   stands_now (InUse pair) st up =
       now_on_sides pair.is_right (g.view pair.bank.disk) (g.view pair.other) st

@@ -1,4 +1,4 @@
--- The bank in use with more behind its end, for a state that stays as it is.
+-- The bank in use with more after its end, for a state that stays as it is.
 use Rattle.std.proofs.Common.{◌≡◌, ℕ, inl, inr, List, [], refl, sym, subst, append-nil}
 use Rattle.std.proofs.Math.Logic.{∥∥₁_elim}
 use Rattle.std.proofs.lemmas.Grind.{not_there}

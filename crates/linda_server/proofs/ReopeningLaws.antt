@@ -122,7 +122,7 @@ done_then st new d ds is all =
     let e = ends d ds in
     ap (is_done new) e.there ∙ done_here new e.last (number_of e.last) (kept st new e.front e.last is (subst (λ l. AreDone st l new) e.parts all)) (omega arith)
 
--- The test says which of the two states stands.
+-- The test says which of the two states is there.
 by_test : (before new st : State) (lost : List Deed) (b : Bool) → has_done st lost ≡ b → IsState before → AreDone before lost new → (before ≡ st) ⊎ (new ≡ st)
     → IsAfter before (if b then lost else []) st
 by_test before new st lost true e is all (inl same) = absurd (true≢false (sym e ∙ subst (λ s. has_done s lost ≡ false) same (not_yet before new lost is all)))
@@ -132,7 +132,7 @@ by_test before new st [] false e is all (inr same) = subst (λ s. IsAfter before
 by_test before new st (d ∷ ds) false e is all (inr same) =
     absurd (true≢false (sym (subst (λ s. has_done s (d ∷ ds) ≡ true) same (done_then before new d ds is all)) ∙ e))
 
--- It is so of two disks that represent one of the two.
+-- The same of two disks that represent one of the two.
 pub reopened : (before st : State) (lost : List Deed) (left right : List ℕ) (b : Bool) → has_done st lost ≡ b
     → IsWithOrWithout before lost left right → Stands left right st
     → IsAfter before (if b then lost else []) st

@@ -30,7 +30,7 @@ use Rattle.linda_server.specs.Server.{both_of, generation_in_use, limit_in_use, 
 use Rattle.linda_server.proofs.CallLaws.{at_most}
 use Rattle.linda_server.proofs.SwitchLaws.{changed, emptied_beside}
 
--- A disk without a bank stands beside the bank in use.
+-- Beside the bank in use, a disk without a bank leaves the state represented.
 pub filled_beside : (form : Form) (generation end : ℕ) (used other new : View) (st : State)
     → IsUp form generation end used other st → LeavesOnly other new IsNoBank → LeavesOnly other new (StandsBeside used.seen st)
 filled_beside form generation end used other new st up run =
@@ -80,7 +80,7 @@ module _ {D : Type 0} {g : Ghosts D} where
   begun_of next (Shut left right) st front follows place filled generation limit = absurd filled
   begun_of next Away st front follows place filled generation limit = absurd filled
 
-  -- Where only that there is one is known:
+  -- If it is known only that there is one:
   pub low_of : (next : NextBank) (disks : Disks (Bank D g) D) (st : State) → ∥ IsBegunOn next disks st ∥₁ → 1 ≤ next.at
   low_of next disks st begun = at_most 1 next.at (∥∥₁_map begun (λ b. omega (arith, (parts_of next disks st b).place)))
 

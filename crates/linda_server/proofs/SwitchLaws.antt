@@ -54,7 +54,7 @@ module _ (form : Form) (generation end : ℕ) (used other : View) (st : State) (
     each = λ left right l r. stands_with new run left right l r;
   }
 
--- Where the two change places, each stays on its side.
+-- If the other disk comes into use, each disk is still on its side.
 turned : (is_right : Bool) (used other new : View) (st : State) → PairsSince (sides is_right used other) (sides is_right used new) (For st)
     → PairsSince (sides is_right used other) (sides (not is_right) new used) (For st)
 turned true used other new st since = since
@@ -62,13 +62,13 @@ turned false used other new st since = since
 
 module _ {D : Type 0} {g : Ghosts D} (timed : (d : D) → g.honest d → IsTimed (g.view d))
     (disks : Disks (Bank D g) D) (pair : Pair (Bank D g) D) (is : disks ≡ InUse pair) (st : State) where
-  -- Of the other disk a run leaves what stands beside the bank in use.
+  -- Of the other disk a run leaves what represents the state beside the bank in use.
   abbrev LeavesBeside : View → Type 0
   LeavesBeside new = g.honest pair.bank.disk → g.honest pair.other
       → IsUp pair.bank.form pair.bank.generation pair.bank.end (g.view pair.bank.disk) (g.view pair.other) st
       → LeavesOnly (g.view pair.other) new (StandsBeside (g.view pair.bank.disk).seen st)
 
-  -- It is written, and is not in use still;
+  -- The other disk is written, and is still not in use;
   pub changed : (new : View) → LeavesBeside new → BothHonest disks → IsUpFor disks st
       → PairsSince (both_of disks) (sides pair.is_right (g.view pair.bank.disk) new) (For st)
   changed new run are up =
@@ -102,7 +102,7 @@ module _ {D : Type 0} {g : Ghosts D} (timed : (d : D) → g.honest d → IsTimed
         lesser = λ h used. (up_next used (was h) record { stored = so.stored used; lesser = so.lesser used (was h); durable = so.durable (was h) }).lesser;
       }
 
--- A disk that is emptied stands beside the bank in use, at each moment.
+-- Beside the bank in use, a disk that is emptied leaves the state represented, at each moment.
 pub emptied_beside : (form : Form) (generation end : ℕ) (used other new : View) (st : State) → IsUp form generation end used other st
     → LeavesOnly other new (IsSameOrNone other.seen) → LeavesOnly other new (StandsBeside used.seen st)
 emptied_beside form generation end used other new st up run = weaker other new (IsSameOrNone other.seen) (StandsBeside used.seen st) run by
@@ -111,7 +111,7 @@ emptied_beside form generation end used other new st up run = weaker other new (
     by image (inl same) = subst (StandsBeside used.seen st) (sym same) (stands_now form generation end used other st up)
     by image (inr none) = inl record { generation = generation; stands = stands_on form generation end used st up.stored; lesser = inl none }
 
--- So it is written, and is not in use still.
+-- So the other disk is written, and is still not in use.
 pub changed_by : {D : Type 0} {g : Ghosts D} (timed : (d : D) → g.honest d → IsTimed (g.view d)) (disks : Disks (Bank D g) D) (pair : Pair (Bank D g) D)
     → disks ≡ InUse pair → (st : State) (new : D)
     → (g.honest pair.other → LeavesOnly (g.view pair.other) (g.view new) (IsSameOrNone (g.view pair.other).seen)) → BothHonest disks → IsUpFor disks st
@@ -121,7 +121,7 @@ changed_by {g = g} timed disks pair is st new run =
     (λ used other was. emptied_beside pair.bank.form pair.bank.generation pair.bank.end (g.view pair.bank.disk)
     (g.view pair.other) (g.view new) st was (run other))
 
--- ---- where only that some bank is in use is known
+-- ---- if it is known only that some bank is in use
 
 module _ {D : Type 0} {g : Ghosts D} (timed : (d : D) → g.honest d → IsTimed (g.view d)) where
   pub other_durable : (disks : Disks (Bank D g) D) (st : State) → ∥ IsKeptFor disks st ∥₁ → IsOtherDurable disks

@@ -15,8 +15,8 @@ use Rattle.linda_journal.specs.declared.limits.TheConstants.{GATE_BYTES}
 use Rattle.linda_journal.specs.Records.{bytes_for}
 use Rattle.linda_server.specs.declared.limits.TheConstants.{MIN_LIMIT, MAX_LIMIT}
 
--- These deeds lead from the one state to the other: whatever proper list led to the one, leads with
--- them to the other.
+-- These deeds lead from the one state to the other: each proper list that leads to the one leads,
+-- with these deeds after it, to the other.
 abbrev pub LeadTo : State → List Deed → State → Type 0
 LeadTo st deeds new = (opening : State) (before : List Deed) → IsState opening
     → AreDone opening before st → AreDone opening (before ++ deeds) new
@@ -29,7 +29,7 @@ IsOldOrNew old new left right = Stands left right old ⊎ Stands left right new
 abbrev pub IsEither : State → State → List ℕ → List ℕ → Type 0
 IsEither old new left right = ∥ IsOldOrNew old new left right ∥₁
 
--- These deeds may be done in the state of before, and they represent that state, or the one after
+-- These deeds may be done in the old state, and the images represent that state, or the one after
 -- them.
 pub record StandsAround (before : State) (deeds : List Deed) (left right : List ℕ) : Type 0 where
   pub new : State
@@ -46,8 +46,8 @@ pub record StandsAfter (old : Store) (xs : List Coming) (left right : List ℕ) 
   pub happens : Happens old.state old.soft xs all
   pub stands : Stands left right all.state
 
--- They represent the state of before, or the one after all that came: all deeds of a call are
--- there, or none.
+-- They represent the old state, or the one after all that came: all deeds of a call are there, or
+-- none.
 abbrev pub IsBeforeOrAfter : Store → List Coming → List ℕ → List ℕ → Type 0
 IsBeforeOrAfter old xs left right = ∥ Stands left right old.state ⊎ StandsAfter old xs left right ∥₁
 

@@ -59,20 +59,20 @@ is_ready spent (InUse pair) = not (spent pair.bank)
 is_ready spent (Shut left right) = false
 is_ready spent Away = false
 
--- On which side the bank in use is, and its generation; nothing where none is.
+-- On which side the bank in use is, and its generation; none if no bank is in use.
 abbrev pub used_of : {B D : Type 0} → (B → ℕ) → Disks B D → Option Used
 used_of generation (InUse pair) =
     Some record { is_right = pair.is_right; generation = generation pair.bank }
 used_of generation (Shut left right) = None
 used_of generation Away = None
 
--- A number of the bank in use, and 0 where none is.
+-- A number of the bank in use, and 0 if none is.
 abbrev pub number_of : {B D : Type 0} → (B → ℕ) → Disks B D → ℕ
 number_of number (InUse pair) = number pair.bank
 number_of number (Shut left right) = 0
 number_of number Away = 0
 
--- The form of the bank in use; where none is, that of new banks.
+-- The form of the bank in use; if none is, that of new banks.
 abbrev pub form_of : {B D : Type 0} → (B → Form) → Disks B D → Form
 form_of form (InUse pair) = form pair.bank
 form_of form (Shut left right) = written

@@ -53,7 +53,7 @@ module _ {D : Type 0} {g : Ghosts D} where
       (new : Durable D g) : Type 0 where
     -- The server was in order, as each is.
     pub orderly : IsOrderly old.store.state old.store.soft
-    -- At no moment crashes leave anything but the state of before, or the one after all deeds;
+    -- Crashes at any moment leave the old state, or the one after all deeds;
     pub any_moment : old.down ≡ false
         → AlwaysLeave old.disks new.disks (IsBeforeOrAfter old.store (comings ms))
     -- at Ok it did what they ask, each has its counts, and crashes now leave the state after that.
@@ -62,17 +62,19 @@ module _ {D : Type 0} {g : Ghosts D} where
     pub each : IfOk result (λ served. vec_len served.counts ≡ length ms)
     pub now : OnOk result (StandNow new.disks new.store.state)
     pub up : OnOk result ((old.down ≡ false) × (new.down ≡ false))
-    -- It is Full exactly where the deeds have no room on the bank in use; nothing changed then.
+    -- It is Full only if the deeds have no room on the bank in use, and nothing changed then; at Ok
+    -- they have room.
     pub full : IsErrOf result faults.Full → (new ≡ old) × HasNoRoomFor old ms
     pub room : OnOk result (HasNoRoomFor old ms → ⊥)
-    -- It is down exactly where it was, and goes down only where a device failed or memory ran out.
+    -- It is Down exactly if the server was down, and nothing changed then; after Disk and Memory
+    -- the server is down.
     pub was_down : IsErrOf result faults.Down ↔ (old.down ≡ true)
     pub stays_down : old.down ≡ true → new ≡ old
     pub goes_down : (IsErrOf result faults.Disk → new.down ≡ true)
         × (IsErrOf result faults.Memory → new.down ≡ true)
     pub cause : IfErr result
         (λ fault. TellsFailures faults.Disk fault (failures_of old.disks) (failures_of new.disks))
-    -- Where it did no deed, it made no device call; else four of them changed or synced the disk of
+    -- If it did no deed, it made no device call; else four of them changed or synced the disk of
     -- the bank in use, and the other disk was not touched.
     pub idle : IfOk result (λ served. served.deeds.items ≡ [] → new.disks ≡ old.disks)
     pub clock : IfOk result (λ served. 0 < length served.deeds.items → IsPutOn old.disks new.disks)
@@ -108,7 +110,7 @@ module _ {D : Type 0} {g : Ghosts D} where
   -- `trim`, `begin_snapshot`, `continue_snapshot`, `lengthen`, `preallocate`).
   pub record Rewrites {T E : Type 0} (old : Durable D g) (result : Result T E)
       (new : Durable D g) : Type 0 where
-    -- At no moment crashes leave anything but the state.
+    -- Crashes at any moment leave the state.
     pub any_moment : old.down ≡ false → AlwaysLeave old.disks new.disks (StandsFor old.store.state)
     pub now : OnOk result (StandNow new.disks new.store.state)
     pub same : (new.store ≡ old.store) × (new.limit ≡ old.limit)
@@ -118,8 +120,8 @@ module _ {D : Type 0} {g : Ghosts D} where
         → (new.before.value ≡ old.store.state) × (new.lost.items ≡ [])
     pub honest : BothHonest old.disks ↔ BothHonest new.disks
 
-  -- It is down exactly where it was, and goes down only where a device failed or memory ran out
-  -- (`renew`, `clear`, `start`, `advance`, `lengthen`).
+  -- It is Down exactly if the server was down, and nothing changed then; after Disk and Memory the
+  -- server is down (`renew`, `clear`, `start`, `advance`, `lengthen`).
   pub record Fails {T : Type 0} (old : Durable D g) (result : Result T ServeFault)
       (new : Durable D g) : Type 0 where
     pub was_down : IsErrOf result faults.Down ↔ (old.down ≡ true)
@@ -151,8 +153,9 @@ module _ {D : Type 0} {g : Ghosts D} where
   CameTo most old new Going = HasGrown most old.next new.next × IsBankStill old.disks new.disks
   CameTo most old new Done = HasEnded most old new
 
-  -- It is down where it says so, and says so where it was, as a node does; and every life goes on
-  -- by it (`snapshot`, `trim`, `begin_snapshot`, `continue_snapshot`, `preallocate`).
+  -- As a node says it: after Down the server is down, and it is Down if the server was down, with
+  -- nothing changed; and every life goes on by it (`snapshot`, `trim`, `begin_snapshot`,
+  -- `continue_snapshot`, `preallocate`).
   pub record Falls {T : Type 0} (old : Durable D g) (result : Result T NodeFault)
       (new : Durable D g) : Type 0 where
     pub down : IsErrOf result nodes.Down → new.down ≡ true

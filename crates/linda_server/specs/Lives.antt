@@ -21,18 +21,18 @@ use Rattle.linda_store_step.specs.Served.{IsServed}
 use Rattle.linda_server.specs.Node.{shown}
 use Rattle.linda_server.specs.Reopening.{has_done}
 
--- Of the deeds in hand those that an opening finds done: all where the last of them is in the book,
+-- Of the deeds in hand those that an opening finds done: all if the last of them is in the book,
 -- and else none.
 abbrev pub found_of : State → List Deed → List Deed
 found_of st hand = if has_done st hand then hand else []
 
--- this is sent, and holds and waits stand so
+-- this is sent, and the holds and waits are these
 abbrev pub sent : List (ℕ × Reply) → Soft → Sends
 sent sends soft = record { sends = sends; soft = soft }
 
 module _ {D : Type 0} (g : Ghosts D) where
-  -- Two disks after a crash at some moment from the one to the other: whatever may be left of each
-  -- of them, that crash may have left. They are honest.
+  -- Two honest disks after a crash at some moment from the old to the new: all that may be left of
+  -- each of them, that crash may have left.
   pub record AreLeft (old new : Both) (left right : D) : Type 0 where
     pub honest_left : g.honest left
     pub honest_right : g.honest right
@@ -154,7 +154,7 @@ module _ {D : Type 0} {g : Ghosts D} where
       → Life ds all (Serving new)
 
   -- Every life goes on by a call: at Ok by deeds and by what was sent, with a fault by nothing; and
-  -- where the call was cut off at some moment, on whatever is left of the two disks.
+  -- if the call was cut off at some moment, on what is left of the two disks.
   pub record GoesOn {T E : Type 0} (sends_of : T → List (ℕ × Reply)) (old : Durable D g)
       (result : Result T E)
       (new : Durable D g) : Type 0 where

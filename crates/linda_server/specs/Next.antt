@@ -21,7 +21,7 @@ use Rattle.linda_server.specs.Switch.{IsTakenOver}
 
 -- ---- what is on the disk
 
--- On that disk `front` stands behind a first gate that is closed, and the bank follows the state.
+-- On that disk `front` comes after a first gate that is closed, and the bank follows the state.
 pub record IsBegun (next : NextBank) (is_honest : Type 0) (other : View) (st : State) : Type 0 where
   pub front : List ℕ
   pub follows : Follows next.writer front st
@@ -42,7 +42,7 @@ module _ {D : Type 0} {g : Ghosts D} where
   abbrev pub IsNextFor : Option NextBank → Disks (Bank D g) D → State → Type 0
   IsNextFor next disks st = IfSome next (λ n. IsBegunOn n disks st)
 
-  -- On the disk that is not in use these bytes stand behind a closed first gate, if it is honest.
+  -- On the disk that is not in use these bytes come after a closed first gate, if it is honest.
   abbrev pub IsFilledOn : List ℕ → ℕ → Disks (Bank D g) D → Type 0
   IsFilledOn front at (InUse pair) = g.honest pair.other → IsFilled front at (g.view pair.other)
   IsFilledOn front at (Shut left right) = ⊥
@@ -98,8 +98,8 @@ IsSpared s now (Leave n) = Unit {0}
 abbrev pub AreSpared : BankWriter → Tuples → List (ℕ × Message) → Type 0
 AreSpared s now ms = All (λ m. IsSpared s now m.1) ms
 
--- It is the bank of before, of the same generation and limit and at the same place, and what
--- followed the one state follows the other.
+-- It is the old bank, of the same generation and limit and at the same place, and what followed the
+-- one state follows the other.
 pub record KeepsUp (old : Option NextBank) (st : State) (next : NextBank) (now : State)
     : Type 0 where
   pub was : NextBank

@@ -8,7 +8,7 @@ use Rattle.linda_server.specs.declared.fault.OpenFault.TheVariants.{NotEmpty, Li
 use Rattle.linda_server.specs.declared.fault.OpenFault.TheVariants.{Damaged, Disk, Memory}
 use Rattle.linda_server.specs.Calls.{IsLimit}
 
--- What is returned where no bank was chosen.
+-- What is returned if no bank was chosen.
 abbrev pub fault_of_choice : ChoiceFault → OpenFault
 fault_of_choice choices.NoStore = NoStore
 fault_of_choice (choices.Damaged right offset) = Damaged right offset

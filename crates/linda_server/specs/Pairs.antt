@@ -3,7 +3,7 @@ use Rattle.std.specs.Prelude.{◌≡◌, ℕ, ◌+◌, ◌≤◌, List, []}
 use Rattle.linda_disk.specs.View.{View}
 use Rattle.linda_disk.specs.Run.{LeavesOnly}
 
--- The left disk and the right one, as clauses speak of them.
+-- The left disk and the right one, as contracts see them.
 pub record Both : Type 1 where
   pub left : View
   pub right : View
@@ -34,7 +34,7 @@ TookCalls left right old new =
 abbrev pub IsVoid : View → Type 0
 IsVoid v = (image : List ℕ) → v.may_leave image → image ≡ []
 
--- At no moment since old a crash leaves of either disk what it could not leave then.
+-- A crash at any moment since old leaves of either disk only what it could leave then.
 pub record LeavesNoOther (old new : Both) : Type 0 where
   pub left : LeavesOnly old.left new.left old.left.may_leave
   pub right : LeavesOnly old.right new.right old.right.may_leave

@@ -26,8 +26,8 @@ module _ {D : Type 0} {g : Ghosts D} where
   abbrev pub state_of : Durable D g → State
   state_of s = if s.down then s.before.value else s.store.state
 
-  -- A message that bears the number of what is kept for its client gets the kept reply, whatever
-  -- else it says; no deed is done, nothing else is sent, and nothing changes.
+  -- A message that bears the number of what is kept for its client gets the kept reply, no matter
+  -- what else it says; no deed is done, nothing else is sent, and nothing changes.
   abbrev pub RepeatsWhatIsKept : Durable D g → Type 0
   RepeatsWhatIsKept s =
       (c n : ℕ) (kept : KeptReply) (m : Message) (all : History)
@@ -37,7 +37,7 @@ module _ {D : Type 0} {g : Ghosts D} where
 
   -- What holds of a server with these deeds and sends.
   pub record KeepsItsWord (ds : List Deed) (all : List (ℕ × Reply)) (s : Durable D g) : Type 0 where
-    -- its deeds, each allowed where it was done, lead from nothing to its state
+    -- its deeds, each allowed when it was done, lead from nothing to its state
     pub done : AreDone empty_state ds (state_of s)
     pub ranges : IsState (state_of s)
     pub once : IsTakenOnce ds
@@ -47,7 +47,7 @@ module _ {D : Type 0} {g : Ghosts D} where
     pub covered : All (IsCovered (state_of s)) all
     pub again : s.down ≡ false → RepeatsWhatIsKept s
 
-  -- What holds of a server that was opened where these deeds were in hand: nothing is held and
+  -- What holds of a server that was opened when these deeds were in hand: nothing is held and
   -- nobody waits, and each tuple that was held before is there as it was, unless a deed that was in
   -- hand took it.
   pub record IsFreed (ds hand : List Deed) (all : List (ℕ × Reply)) (s : Durable D g) : Type 0 where
@@ -57,7 +57,7 @@ module _ {D : Type 0} {g : Ghosts D} where
         → IsSome (get s.store.state.bag id)
         × (get s.store.state.bag id ≡ get old.store.state.bag id)
 
--- On these two files stands the state after the deeds so far and those that were in hand, or none
+-- These two files represent the state after the deeds so far and those that were in hand, or none
 -- of the latter.
 pub record IsReady (ds hand : List Deed) (left right : List ℕ) : Type 0 where
   pub state : State
@@ -65,9 +65,8 @@ pub record IsReady (ds hand : List Deed) (left right : List ℕ) : Type 0 where
   pub done : AreDone empty_state (ds ++ found_of state hand) state
 
 module _ {D : Type 0} (g : Ghosts D) where
-  -- What holds of two disks without a server, where these deeds were in hand: a state stands there
-  -- as they read, which
-  -- `open` finds (`only`).
+  -- What holds of two disks without a server, when these deeds were in hand: as they read, they
+  -- represent a state, which `open` finds (`only`).
   pub record AreReady (ds hand : List Deed) (all : List (ℕ × Reply)) (left right : D) : Type 0 where
     pub backed : AreBacked ds all
     pub ready : ∥ IsReady ds hand (g.view left).seen (g.view right).seen ∥₁

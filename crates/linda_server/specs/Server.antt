@@ -1,4 +1,4 @@
--- The two disks of a server, and what its calls keep to, as clauses speak of them.
+-- The two disks of a server, and what its calls keep to, as contracts see them.
 use Rattle.std.specs.Prelude.{◌≡◌, ◌↔◌, ℕ, ◌+◌, Bool, true, List, Option, Result, IfErr, OnOk}
 use Rattle.linda_tuple.specs.declared.form.Form.{Form}
 use Rattle.linda_store_state.specs.State.{State}
@@ -28,12 +28,12 @@ module _ {D : Type 0} {g : Ghosts D} where
   abbrev pub bank_in_use : Disks (Bank D g) D → Option InUse
   bank_in_use disks = used_of (λ b. b.generation) disks
 
-  -- The form of the bank in use; where none is, that of new banks.
+  -- The form of the bank in use; if none is, that of new banks.
   abbrev pub form_in_use : Disks (Bank D g) D → Form
   form_in_use disks = form_of (λ b. b.form) disks
 
   -- Its generation, the offset at which its journal ends, how many records that has, and the most
-  -- bytes that the bank may take; each 0 where none is in use.
+  -- bytes that the bank may take; each 0 if none is in use.
   abbrev pub generation_in_use : Disks (Bank D g) D → ℕ
   generation_in_use disks = number_of (λ b. b.generation) disks
 
@@ -82,8 +82,8 @@ module _ {D : Type 0} {g : Ghosts D} where
   abbrev pub IsBankStill : Disks (Bank D g) D → Disks (Bank D g) D → Type 0
   IsBankStill old new = AreRelated (λ b c. c ≡ b) (λ d e. Unit {0}) old new
 
-  -- So many calls changed or synced the disk that was not in use, if it is honest, and two more
-  -- where it was to be closed first; it is in use now, and the other one is as it was.
+  -- So many calls changed or synced the disk that was not in use, if it is honest, and two more if
+  -- it was to be closed first; it is in use now, and the other one is as it was.
   abbrev pub IsRenewedBy : ℕ → Disks (Bank D g) D → Disks (Bank D g) D → Type 0
   IsRenewedBy calls old new =
       AreSwapped (λ b d. d ≡ b.disk)
@@ -95,7 +95,7 @@ module _ {D : Type 0} {g : Ghosts D} where
   IsClearedBy old new =
       AreRelated (λ b c. c ≡ b) (λ d e. g.honest d → TakesCalls 2 (g.view d) (g.view e)) old new
 
-  -- At no moment of a call crashes leave two images without P.
+  -- Crashes at any moment of a call leave two images that have P.
   abbrev pub AlwaysLeave : Disks (Bank D g) D → Disks (Bank D g) D → (List ℕ → List ℕ → Type 0)
       → Type 0
   AlwaysLeave old new P = BothHonest old → PairsSince (both_of old) (both_of new) P
@@ -108,7 +108,7 @@ module _ {D : Type 0} {g : Ghosts D} where
   -- on, `begun` is what is known of it.
   pub record RunsOnBoth {T F : Type 0} (begun : Type 0) (st : State) (device : F)
       (old : Disks (Bank D g) D) (result : Result T F) (new : Disks (Bank D g) D) : Type 0 where
-    -- At no moment crashes leave anything but the state;
+    -- Crashes at any moment leave the state;
     pub any_moment : begun → BothHonest old → IsUpFor old st
         → PairsSince (both_of old) (both_of new) (λ left right. Stands left right st)
     -- at Ok the bank in use represents it, whichever it is.

@@ -17,12 +17,11 @@ use linda_journal::{Bank, shut};
 ///
 /// # Errors
 ///
-/// `Device` where the device failed, and `Memory` where the disk found none: neither disk is to be
-/// used.
+/// `Device` if the device failed, and `Memory` if the disk found none: neither disk is to be used.
 pub(crate) fn clear<D: Disk>(disks: &mut Disks<Bank<D>, D>) -> Result<(), DiskFault>
     requires ready { is_usable disks.old ≡ true }
     requires durable { IsOtherDurable disks.old }
-    // At no moment crashes leave anything but the state, whichever it is.
+    // Crashes at any moment leave the state, whichever it is.
     ensures runs { (st : State) → RunsOnBoth (Unit {0}) st DiskFault.Device disks.old result
         disks.new }
     ensures trimmed { OnOk result (IsTrimmed disks.old disks.new) }
@@ -60,7 +59,7 @@ fn emptied<D: Disk>(disk: D) -> (Result<(), DiskFault>, D)
     }
 }
 
-// Cuts off all that stands after a first gate that is closed.
+// Cuts off all that comes after a first gate that is closed.
 fn cut_behind_gate<D: Disk>(disk: &mut D) -> Result<(), DiskFault>
     requires closed { D.honest disk.old → IsClosed (D.view disk.old).seen }
     requires durable { D.honest disk.old → IsDurable (D.view disk.old) }

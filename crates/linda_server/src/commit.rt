@@ -26,8 +26,8 @@ use std::alloc::Global;
 ///
 /// # Errors
 ///
-/// `Disk` where the device failed, and `Memory`: all records are there or none is, and the bank is
-/// not to be used.
+/// `Disk` if the device failed, and `Memory`: all records are there or none is, and the bank is not
+/// to be used.
 pub(crate) fn commit<D: Disk>(
     disks: &mut Disks<Bank<D>, D>,
     alloc: Global,
@@ -40,7 +40,7 @@ pub(crate) fn commit<D: Disk>(
         → end_in_use disks.old
         + room_for (length deeds.now) (length (payload (form_in_use disks.old) deeds.now))
         ≤ limit_in_use disks.old }
-    // At no moment crashes leave anything but the old state, or the one after all of these deeds;
+    // Crashes at any moment leave the old state, or the one after all of these deeds;
     ensures any_moment { (st new : state.State)
         → BothHonest disks.old
         → IsUpFor disks.old st
@@ -54,7 +54,7 @@ pub(crate) fn commit<D: Disk>(
     ensures there { is_there disks.old ≡ true → is_there disks.new ≡ true }
     ensures ready { OnOk result (is_usable disks.new ≡ true) }
     ensures limit { limit_in_use disks.new ≡ limit_in_use disks.old }
-    // Where there are none, no device call is made.
+    // If there are none, no device call is made.
     ensures idle { deeds.now ≡ [] → disks.new ≡ disks.old }
     // Else four calls change or sync the disk of the bank in use, and the other disk is not
     // touched.

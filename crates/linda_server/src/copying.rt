@@ -14,7 +14,7 @@ use linda_store_state::{Deed, State};
 use std::alloc::Global;
 
 /// The copy with the next clients of the state, so many at most; one is begun if there is none.
-/// Returns nothing if memory runs out.
+/// Returns `None` if memory runs out.
 pub(crate) fn with_more(
     copy: Option<BookCopy>,
     alloc: Global,
@@ -37,7 +37,7 @@ fn begun(copy: Option<BookCopy>, alloc: Global) -> BookCopy
 }
 
 /// The copy of what there is after these deeds, if it was one of what there was before. Returns
-/// nothing if there is none, or if memory runs out.
+/// `None` if there is none, or if memory runs out.
 pub(crate) fn renewed(
     copy: Option<BookCopy>,
     alloc: Global,

@@ -61,7 +61,7 @@ impl<D: Disk> Disks<Bank<D>, D> {
     ghost use Rattle.linda_server.specs.Server.{bank_in_use, form_in_use, end_in_use};
     ghost use Rattle.linda_server.specs.Server.{records_in_use, is_usable};
 
-    /// The form of the bank in use; where none is in use, that of new banks.
+    /// The form of the bank in use; if none is in use, that of new banks.
     pub(crate) fn form(&self) -> Form
         ensures { result ≡ form_in_use self.now }
     {
@@ -71,8 +71,8 @@ impl<D: Disk> Disks<Bank<D>, D> {
         }
     }
 
-    /// The offset of the closed gate at which the journal of the bank in use ends; 0 where none is
-    /// in use.
+    /// The offset of the closed gate at which the journal of the bank in use ends; 0 if none is in
+    /// use.
     pub(crate) fn end(&self) -> usize
         ensures { result ≡ end_in_use self.now }
     {
@@ -82,7 +82,7 @@ impl<D: Disk> Disks<Bank<D>, D> {
         }
     }
 
-    /// How many records the journal of the bank in use has; 0 where none is in use.
+    /// How many records the journal of the bank in use has; 0 if none is in use.
     pub(crate) fn records(&self) -> usize
         ensures { result ≡ records_in_use self.now }
     {
@@ -92,7 +92,7 @@ impl<D: Disk> Disks<Bank<D>, D> {
         }
     }
 
-    /// Which bank is in use; nothing where none is.
+    /// Which bank is in use; `None` if none is.
     pub(crate) fn in_use(&self) -> Option<InUse>
         ensures { result ≡ bank_in_use self.now }
     {

@@ -39,12 +39,12 @@ use std::hash::RandomState;
 /// A server on two disks, of which one holds the bank in use. What it answers for is on that bank
 /// before it answers.
 ///
-/// While it is up its store is not spent, its bank has room to be used, and the state stands on the
-/// two disks. While it is down, what stands on them is the state before the call in which it went
-/// down, or the one after the deeds of that call.
+/// While it is up its store is not spent, its bank has room to be used, and the two disks represent
+/// the state. While it is down, they represent the state before the call in which it went down, or
+/// the one after the deeds of that call.
 ///
 /// A snapshot may be written in steps, while the server goes on: then the other disk has a part of
-/// the next bank behind a first gate that is closed, and that bank follows the state. Before it
+/// the next bank after a first gate that is closed, and that bank follows the state. Before it
 /// begins its clients may be copied in pieces, and that copy follows the state too.
 #[derive(Drop)]
 pub struct Durable<D: Disk> {
@@ -52,7 +52,7 @@ pub struct Durable<D: Disk> {
     disks: Disks<Bank<D>, D>,
     limit: usize,
     down: bool,
-    // The state before the call in which it went down, which contracts alone see.
+    // The state before the call in which it went down, which only contracts see.
     before: Moment<State<IndexBag>>,
     // The deeds of that call, which may be on the disks.
     lost: Vec<Deed>,
@@ -100,8 +100,9 @@ impl<D: Disk> Durable<D> {
         self.store.waits()
     }
 
-    /// What waits is kept by random keys from now on, which no client knows, if nobody waits yet.
-    /// For a program that serves strangers, at its start. Nothing changes that a call answers.
+    /// From now on what waits is kept by random keys that no client knows, if nobody waits yet. A
+    /// program that serves strangers calls this at its start. What other calls answer does not
+    /// change.
     pub fn choose_keys(&mut self, keys: RandomState)
         ensures store { self.new.store ≡ self.old.store }
         ensures disks { (self.new.disks ≡ self.old.disks) × (self.new.limit ≡ self.old.limit) }
@@ -113,8 +114,8 @@ impl<D: Disk> Durable<D> {
     }
 
     /// Sets the present second, from which on `Holds` and `Waits` count how long a tuple is held
-    /// and a request waits. Seconds never fall; until one is set nothing is noted. Nothing changes
-    /// that a call answers.
+    /// and a request waits. Seconds never fall; until one is set nothing is noted. What other calls
+    /// answer does not change.
     pub fn set_second(&mut self, second: u64)
         ensures store { self.new.store ≡ self.old.store }
         ensures disks { (self.new.disks ≡ self.old.disks) × (self.new.limit ≡ self.old.limit) }
@@ -152,7 +153,7 @@ impl<D: Disk> Durable<D> {
         is_old(self.disks.form())
     }
 
-    /// Which bank is in use: of two, that of the greater generation; nothing only while none is, as
+    /// Which bank is in use: of two, that of the greater generation; `None` only while none is, as
     /// the server may be down.
     pub fn in_use(&self) -> Option<InUse>
         ensures { result ≡ bank_in_use self.now.disks }

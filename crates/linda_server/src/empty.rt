@@ -24,7 +24,7 @@ use std::alloc::{AllocError, Global};
 ///
 /// # Errors
 ///
-/// `NotEmpty`, `LimitRange`; `Disk` where a device failed, `Memory`.
+/// `NotEmpty`, `LimitRange`; `Disk` if a device failed, `Memory`.
 pub(crate) fn expect_empty<D: Disk>(
     left: &mut D,
     right: &mut D,
@@ -112,7 +112,7 @@ pub(crate) fn of_device(fault: DiskFault) -> OpenFault
 ///
 /// # Errors
 ///
-/// `AllocError` where memory runs out.
+/// `AllocError` if memory runs out.
 pub(crate) fn spell_empty(alloc: Global) -> Result<Vec<u8>, AllocError>
     ensures bytes { IfOk result (λ v. v.items ≡ spell_state written empty_state) }
     ensures fits { OnOk result (FitsState written empty_state) }

@@ -23,7 +23,7 @@ pub enum OpenFault {
     Damaged {
         /// Whether it is the right one.
         right: bool,
-        /// Where.
+        /// The offset of the damage.
         offset: usize,
     },
     /// A device failed, which it counts.

@@ -14,8 +14,8 @@ use linda_disk::Disk;
 /// at any moment of a call, and openings. Every answered out and accept is there, in a list of
 /// deeds that leads to its state and takes no tuple twice; the reply to it is kept until its client
 /// does a later one, and a message that repeats the number gets that reply and does nothing else,
-/// whatever else it says. After a crash the deeds that were in hand are all there or none, and the
-/// server can be opened again; every tuple that was held is free then.
+/// no matter what else it says. After a crash the deeds that were in hand are all there or none,
+/// and the server can be opened again; every tuple that was held is free then.
 pub fn servers_keep_their_word<D: Disk>()
     ensures word { (s : Durable D D.Disk) (ds : List Deed) (all : List (ℕ × Reply))
         → Life ds all (Serving s) → KeepsItsWord ds all s }

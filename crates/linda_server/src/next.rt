@@ -24,7 +24,7 @@ use linda_store_state::{Deed, State};
 use linda_wire::Message;
 use std::alloc::{AllocError, Global};
 
-/// The next bank, and the offset behind what is written of it.
+/// The next bank, and the offset after what is written of it.
 #[derive(Drop)]
 pub(crate) struct NextBank {
     pub(crate) writer: BankWriter,

@@ -24,7 +24,7 @@ pub(crate) fn preallocate<D: Disk>(
 ) -> Result<bool, DiskFault>
     requires ready { is_usable disks.old ≡ true }
     requires durable { IsUsedDurable disks.old }
-    // At no moment crashes leave anything but the state, whichever it is.
+    // Crashes at any moment leave the state, whichever it is.
     ensures runs { (st : State) → RunsOnBoth (Unit {0}) st DiskFault.Device disks.old result
         disks.new }
     ensures ahead { IfOk result (λ b. IsAhead to b disks.old disks.new) }

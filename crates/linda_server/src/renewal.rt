@@ -20,8 +20,8 @@ use std::alloc::Global;
 ///
 /// # Errors
 ///
-/// `Full` where the new bank would pass its limit or no generation is left: nothing changed. `Disk`
-/// where the device failed, and `Memory`: neither bank is to be used.
+/// `Full` if the new bank would pass its limit or no generation is left: nothing changed. `Disk` if
+/// the device failed, and `Memory`: neither bank is to be used.
 pub(crate) fn renew<B: Bag, D: Disk>(
     disks: &mut Disks<Bank<D>, D>,
     alloc: Global,
@@ -31,14 +31,15 @@ pub(crate) fn renew<B: Bag, D: Disk>(
     requires ready { is_usable disks.old ≡ true }
     requires short { limit_in_use disks.old < 2 ^ 32 }
     requires durable { IsOtherDurable disks.old }
-    // At no moment crashes leave anything but the state.
+    // Crashes at any moment leave the state.
     ensures runs { RunsOnBoth (Unit {0}) state.now ServeFault.Disk disks.old result disks.new }
     // At Ok the new bank is in use.
     ensures switched { OnOk result (IsSwitched disks.old disks.new) }
     // It is a write for each piece of the new bank, a sync, a write and a sync; and first a write
-    // and a sync, where the disk's first gate is to be closed.
+    // and a sync, if the disk's first gate is to be closed.
     ensures clock { OnOk result (IsRenewedBy (snapshot_calls state.now) disks.old disks.new) }
-    // It is Full exactly where there is no next bank for the state; nothing changed then.
+    // It is Full only if there is no next bank for the state, and nothing changed then; at Ok there
+    // is one.
     ensures full { IsErrOf result ServeFault.Full → (disks.new ≡ disks.old)
         × HasNoNext state.now (limit_in_use disks.old)
         (generation_in_use disks.old) }

@@ -22,7 +22,7 @@ pub(crate) enum Messages<'a> {
 ///
 /// # Errors
 ///
-/// `AllocError` where memory runs out.
+/// `AllocError` if memory runs out.
 pub(crate) fn serve(
     store: &mut Store<IndexBag>,
     alloc: Global,

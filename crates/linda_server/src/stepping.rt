@@ -27,7 +27,7 @@ use linda_store_state::State;
 use std::alloc::Global;
 
 /// Begins the next bank, with a snapshot of the state, on the disk that is not in use: its first
-/// gate is closed, and the first bytes are written behind it. If it is given a whole copy of the
+/// gate is closed, and the first bytes are written after it. If it is given a whole copy of the
 /// clients, it takes that.
 ///
 /// # Errors
@@ -45,7 +45,7 @@ pub(crate) fn start<B: Bag, D: Disk>(
     requires ready { is_usable disks.old ≡ true }
     requires short { limit_in_use disks.old < 2 ^ 32 }
     requires durable { IsOtherDurable disks.old }
-    // At no moment crashes leave anything but the state.
+    // Crashes at any moment leave the state.
     ensures runs { RunsOnBoth (Unit {0}) state.now ServeFault.Disk disks.old result disks.new }
     ensures begun { IfOk result (λ next. IsBegunOn next disks.new state.now) }
     ensures still { IsBankStill disks.old disks.new }
@@ -109,7 +109,7 @@ fn start_on<B: Bag, D: Disk>(
     }
 }
 
-// Closes the first gate of the disk, and writes the bytes behind it. Gives the offset behind them.
+// Closes the first gate of the disk, and writes the bytes after it. Gives the offset after them.
 fn lay<D: Disk>(disk: D, bytes: &[u8]) -> (Result<usize, DiskFault>, D)
     requires { D.honest disk → IsDurable (D.view disk) }
     ensures filled { D.honest disk
@@ -141,7 +141,7 @@ pub(crate) fn advance<B: Bag, D: Disk>(
 ) -> Result<Option<NextBank>, ServeFault>
     requires ready { is_usable disks.old ≡ true }
     requires begun { ∥ IsBegunOn next disks.old state.now ∥₁ }
-    // At no moment crashes leave anything but the state.
+    // Crashes at any moment leave the state.
     ensures runs { RunsOnBoth (IsBegunOn next disks.old state.now) state.now ServeFault.Disk
         disks.old result disks.new }
     // The next bank, if more of it is to come, follows it.
@@ -165,7 +165,7 @@ pub(crate) fn advance<B: Bag, D: Disk>(
     }
 }
 
-// Writes the bytes at this offset of the disk that is not in use. Gives the offset behind them.
+// Writes the bytes at this offset of the disk that is not in use. Gives the offset after them.
 fn write_on<D: Disk>(
     disks: &mut Disks<Bank<D>, D>,
     at: usize,

@@ -1,4 +1,4 @@
--- The loop of a conversation: what holds before each read, and what follows where it ends.
+-- The loop of a conversation: what holds before each read, and what follows when it ends.
 use Rattle.std.proofs.Common.{◌≡◌, ℕ, ◌+◌, ◌<◌, ◌≤◌, arith, Bool, true, false, List, [], ◌++◌, length, take, refl, sym, ap, subst}
 use Rattle.std.specs.Prelude.{Option, Ok, Err}
 use Rattle.std.specs.Io.KnownBytes.{Keeps, Consumes, Appends}
@@ -56,11 +56,11 @@ read_failed reads node input left after output now talker new talking kept = (
   },
 )
 
--- where the session stood before a piece
+-- the point of an open session before a piece
 open_point : (talker : Session) (new : Node) → talker.stage ≡ stages.Open → point_of talker new ≡ point_at new talker.greeted true
 open_point talker new opens = ap (λ stage. point_at new talker.greeted (is_up stage)) opens
 
--- a piece was answered, and the connection stands so
+-- a piece was answered, and this is the state of the connection
 pub piece_answered : (reads : ℕ) (node : Node) (input left after output now later : Option (List ℕ))
     (talker : Session) (was : Node) (piece : List ℕ) (stage : ConnectionState) (next : Session) (new : Node)
     → IsTalking node input left output now talker was reads → Consumes left after piece

@@ -1,4 +1,4 @@
--- What a call has said that puts one answer after the replies of before.
+-- What a call has said that puts one answer after the earlier replies.
 use Rattle.std.proofs.Common.{◌≡◌, ℕ, Bool, true, List, [], ◌∷◌, ◌++◌, refl, ◌∙◌, ap}
 use Rattle.std.specs.Prelude.{Option, Result, Ok, Err, OnOk, IfOk}
 use Rattle.linda_wire.specs.declared.message.Message.{Message}

@@ -27,7 +27,7 @@ use Rattle.linda_store.specs.Node.{Node, NodeAnswer, Sent, IsFull, IsDown, MayRe
 use Rattle.linda_store.specs.Sound.{IsSound, AreBacked, added}
 use Rattle.linda_store_step.proofs.ReplyLaws.{step_backed, close_backed, book_reports}
 
--- A reply to a deed is one whatever is done later.
+-- A reply to a deed still is one after later deeds.
 pub reply_later : (ds es : List Deed) (c : ℕ) (r : Reply) → ReportsOne ds c r → ReportsOne (ds ++ es) c r
 reply_later ds es c r told = record {
   before = told.before;

@@ -42,7 +42,7 @@ talk_turns from mid to bytes old rest turns said m talk frame turn =
       run = runs_then from talk.messages (m ∷ []) turns said mid to talk.run (run_one mid m said to turn);
     }
 
--- the talk so far, with what was said after the replies of before
+-- the talk so far, with what was said after the earlier replies
 abbrev pub HasTold : Point → List ℕ → List Reply → List ℕ → List Reply → Point → Type 0
 HasTold from bytes old rest new to = (turns : List Reply) × (IsTalk from bytes turns rest to × (new ≡ old ++ turns))
 

@@ -1,4 +1,4 @@
--- What a volatile node shows where its store did what came, ran out of memory, or was stopped.
+-- What a volatile node shows if its store did what came, ran out of memory, or was stopped.
 use Rattle.std.proofs.Common.{◌≡◌, ℕ, true, false, true≢false, List, [], refl, sym, ap, ◌∙◌, subst, append-nil}
 use Rattle.std.proofs.lemmas.Bool.{cond-true, cond-false}
 use Rattle.linda_wire.specs.declared.reply.Reply.{Reply}

@@ -1,4 +1,4 @@
--- Whole conversations: the bytes that came in, all that was said, and where that leads.
+-- Whole conversations: the bytes that came in, all that was said, and the point that this leads to.
 use Rattle.std.specs.Prelude.{◌≡◌, ℕ, Bool, true, false, List, [], ◌∷◌, ◌++◌, All, Option, Result}
 use Rattle.std.specs.Prelude.{Ok, Err, unwrap_or}
 use Rattle.std.specs.List.{flat_map}
@@ -37,13 +37,13 @@ abbrev pub IsMalformed : List ℕ → ℕ → Type 0
 IsMalformed bytes detail =
     (fault : FrameFault) × ((message_front bytes ≡ Broken fault) × (detail ≡ detail_of fault))
 
--- what is said last on a connection that stands so
+-- what is said last on a connection in this state
 abbrev pub last_words : ConnectionState → List Reply
 last_words stages.Open = []
 last_words (stages.Malformed detail) = (refused (refusals.Malformed detail)) ∷ []
 last_words stages.Down = []
 
--- How the bytes after the last message stand: no whole frame and no fault, or a fault; or the node
+-- What the bytes after the last message are: no whole frame and no fault, or a fault; or the node
 -- is down and nobody looks at them.
 abbrev pub StandsAs : ConnectionState → List ℕ → Type 0
 StandsAs stages.Open rest = message_front rest ≡ Partial
@@ -59,8 +59,8 @@ pub record IsTalk (from : Point) (bytes : List ℕ) (turns : List Reply) (rest :
   pub spelled : bytes ≡ flat_map message_frame messages ++ rest
   pub run : Runs from messages turns to
 
--- All messages in the bytes were taken, up to a rest that stands so, and these replies are all that
--- is said.
+-- All messages in the bytes were taken, up to a rest as this state of the connection has it, and
+-- these replies are all that is said.
 pub record IsConversation (from : Point) (bytes : List ℕ) (said : List Reply)
     (stage : ConnectionState)
     (rest : List ℕ)
@@ -77,8 +77,8 @@ IsGivenUp from bytes node greeted =
     (turns : List Reply) × ((rest : List ℕ) × ((is_open : Bool)
     × IsTalk from bytes turns rest (point_at node greeted is_open)))
 
--- What a call that takes all messages in the bytes did: it says how the connection stands, and puts
--- what is said after the replies of before. If memory ran out, what is said may be lost.
+-- What a call that takes all messages in the bytes did: it returns the state of the connection, and
+-- puts what is said after the earlier replies. If memory ran out, what is said may be lost.
 abbrev pub HasAnswered :
     {E : Type 0} → Point → List ℕ → List Reply → Result ConnectionState E → List ℕ → List Reply
     → Node

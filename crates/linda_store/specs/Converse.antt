@@ -42,8 +42,8 @@ pub record IsBrokenOff (from : Point) (read written : List ℕ) (to : Point) : T
   pub talk : IsTalk from read said rest to
   pub spelled : written ≡ take count (flat_map reply_frame said)
 
--- What was done with bytes that were there, if nothing but the writer or memory may fail: all is
--- answered and written, up to a rest, and the connection stands so; or some of it.
+-- What was done with bytes that were there, if only the writer or memory may fail: all is answered
+-- and written, up to a rest, and the connection is in this state; or some of it is.
 abbrev pub AnswersSo : Result ConnectionState ConverseFault → Point → List ℕ → List ℕ → List ℕ
     → Point
     → Type 0
@@ -66,8 +66,8 @@ pub record HasReplied (old : Session) (was : Node) (piece : List ℕ) (output no
   pub stage : IfOk result (λ stage. new.stage ≡ stage)
   pub not_spent : IfOk result (λ _. new.is_spent ≡ false)
 
--- How a conversation ended: what came and what was written, what the reader has left, and where it
--- stood then.
+-- How a conversation ended: what came and what was written, what the reader has left, and the point
+-- of the conversation then.
 abbrev pub EndsSo : Result End ConverseFault → Point → List ℕ → List ℕ → Option (List ℕ) → Point
     → Type 0
 EndsSo (Ok (ends.Ended n)) from read written left to =
@@ -106,7 +106,7 @@ abbrev pub HasEndedAt :
 HasEndedAt node input left output now result new greeted =
     (is_open : Bool) × HasEnded node input left output now result (point_at new greeted is_open)
 
--- The greeted client, if there is one, is closed; that leaves the node so.
+-- The greeted client, if there is one, is closed; this is the node after it.
 abbrev pub IsLeft : Option ℕ → Node → Node → Type 0
 IsLeft None old new = new ≡ old
 IsLeft (Some c) old new = (answer : NodeAnswer) × Closes old c answer new

@@ -73,29 +73,29 @@ pub record WentDown (old : Node) (xs : List Coming) (new : Node) : Type 0 where
   pub from_up : old.is_down ≡ false → MayRemain old xs new.lost
   pub from_down : old.is_down ≡ true → new ≡ old
 
--- What a node may answer to what came, with the deeds that it did, and where that leaves it.
+-- What a node may answer to what came, with the deeds that it did, and the node after it.
 abbrev pub Works : Node → List Coming → NodeAnswer → List Deed → Node → Type 0
 Works old xs (Sent sends) ds new = IsDone old xs ds sends new
 Works old xs IsFull ds new = HadNoRoom old xs new × (ds ≡ [])
 Works old xs IsDown ds new = WentDown old xs new × (ds ≡ [])
 
--- What a node may answer to a message of a client, and where that leaves it.
+-- What a node may answer to a message of a client, and the node after it.
 abbrev pub Handles : Node → ℕ → Message → NodeAnswer → Node → Type 0
 Handles old c m answer new = (ds : List Deed) × Works old (says c m ∷ []) answer ds new
 
--- What a node may answer to several messages, one after another, and where that leaves it.
+-- What a node may answer to several messages, one after another, and the node after them.
 abbrev pub HandlesAll : Node → List (ℕ × Message) → NodeAnswer → Node → Type 0
 HandlesAll old ms answer new = (ds : List Deed) × Works old (comings ms) answer ds new
 
--- What a node may answer to the closing of a client, which makes no deed, and where that leaves it;
--- it is never full.
+-- What a node may answer to the closing of a client, which makes no deed, and the node after it; it
+-- is never full.
 abbrev pub Closes : Node → ℕ → NodeAnswer → Node → Type 0
 Closes old c (Sent sends) new = IsDone old (hangs_up c ∷ []) [] sends new
 Closes old c IsFull new = ⊥
 Closes old c IsDown new = WentDown old (hangs_up c ∷ []) new
 
--- What a node may answer if it is to write a snapshot, and where that leaves it: unless it goes
--- down nothing changes.
+-- What a node may answer if it is to write a snapshot, and the node after it: unless it goes down
+-- nothing changes.
 abbrev pub Snaps : {A : Type 0} → Node → Result A NodeFault → Node → Type 0
 Snaps old (Ok done) new = (old.is_down ≡ false) × (new ≡ old)
 Snaps old (Err faults.Full) new = (old.is_down ≡ false) × ((old.may_fill ≡ true) × (new ≡ old))
@@ -112,7 +112,7 @@ pub record IsOpened (old : Node) (xs : List Coming) (ds : List Deed) (new : Node
   pub from_down : old.is_down ≡ true → IsFront ds old.lost
   pub state_is : IsAfter old.state ds new.state
 
--- What a node may answer to a stop, and where that leaves it; it is never full.
+-- What a node may answer to a stop, and the node after it; it is never full.
 abbrev pub Stops : Node → List Coming → Result (Vec Deed) NodeFault → Node → Type 0
 Stops old xs (Ok deeds) new = IsOpened old xs deeds.items new
 Stops old xs (Err faults.Full) new = ⊥

@@ -8,8 +8,8 @@ use Rattle.linda_store.specs.Node.{Node}
 use Rattle.linda_store.specs.Turn.{Point, point_at}
 use Rattle.linda_store.specs.Conversation.{is_up, stays_open, IsConversation, IsGivenUp}
 
--- What contracts see of a session: who is greeted, the bytes that make no whole frame yet, how it
--- stands, and whether memory ran out in it.
+-- What contracts see of a session: the client that was greeted, the bytes that make no whole frame
+-- yet, the state of the connection, and whether memory ran out in it.
 pub record Session : Type 0 where
   pub greeted : Option ℕ
   pub unread : List ℕ
@@ -20,7 +20,7 @@ pub record Session : Type 0 where
 abbrev pub beginner : Session
 beginner = record { greeted = None; unread = []; stage = stages.Open; is_spent = false }
 
--- where the conversation of a session with a node stands
+-- the point of the conversation of a session with a node
 abbrev pub point_of : Session → Node → Point
 point_of talker node = point_at node talker.greeted (is_up talker.stage)
 

@@ -1,4 +1,4 @@
--- Soundness of a server, whatever comes to it.
+-- Soundness of a server, after all that comes to it.
 use Rattle.std.specs.Prelude.{◌≡◌, ℕ, true, false, List, [], ◌++◌, All, Result, Ok, Err}
 use Rattle.std.specs.Global.{Vec}
 use Rattle.linda_wire.specs.declared.reply.Reply.{Reply}

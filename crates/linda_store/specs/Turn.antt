@@ -11,14 +11,14 @@ use Rattle.linda_wire.specs.declared.reply.Reply.{Reply}
 use Rattle.linda_wire.specs.declared.reply.Reply.TheVariants as replies
 use Rattle.linda_store.specs.Node.{Node, NodeAnswer, Sent, IsFull, IsDown, Handles}
 
--- Where a conversation stands: the node, the client that was greeted, if one was, and whether it
--- goes on.
+-- A point of a conversation: the node, the client that was greeted, if one was, and whether it goes
+-- on.
 pub record Point : Type 0 where
   pub node : Node
   pub greeted : Option ℕ
   pub is_open : Bool
 
--- where a conversation stands, from its parts
+-- a point of a conversation, from its parts
 abbrev pub point_at : Node → Option ℕ → Bool → Point
 point_at node greeted is_open = record { node = node; greeted = greeted; is_open = is_open }
 
@@ -93,19 +93,19 @@ TreatsAs (Some c) None m = IsAsked c m (λ _. Some c)
 abbrev pub Treats : Option ℕ → Message → Point → List Reply → Point → Type 0
 Treats greeted m = TreatsAs greeted (hello_of m) m
 
--- One message of an open conversation: what is said to it, and where the conversation stands then.
+-- One message of an open conversation: what is said to it, and the point of the conversation then.
 abbrev pub Turns : Point → Message → List Reply → Point → Type 0
 Turns from m said to = (from.is_open ≡ true) × Treats from.greeted m from said to
 
 -- What a call that answers one message did, given what is done with the message: it says whether
--- the conversation goes on, and puts what is said after the replies of before. If memory ran out,
+-- the conversation goes on, and puts what is said after the earlier replies. If memory ran out,
 -- what is said may be lost.
 abbrev pub HasSaid : {E : Type 0} → (Bool → List Reply → Type 0) → List Reply → Result Bool E
     → List Reply → Type 0
 HasSaid does old (Ok is_open) new = (said : List Reply) × (does is_open said × (new ≡ old ++ said))
 HasSaid does old (Err fault) new = (said : List Reply) × ((is_open : Bool) × does is_open said)
 
--- Messages one after another: all that is said to them, in order, and where the conversation stands
+-- Messages one after another: all that is said to them, in order, and the point of the conversation
 -- then.
 abbrev pub Runs : Point → List Message → List Reply → Point → Type 0
 Runs from [] said to = (said ≡ []) × (to ≡ from)

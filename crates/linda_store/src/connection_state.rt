@@ -5,7 +5,7 @@ ghost use Rattle.linda_store.specs.Conversation.{stays_open};
 
 use linda_wire::Reply;
 
-/// How a connection stands. All but `Open` end it.
+/// The state of a connection. All but `Open` end it.
 #[derive(Clone, Copy, Debug, PartialEq, Eq)]
 pub enum ConnectionState {
     /// It goes on.

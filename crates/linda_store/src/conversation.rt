@@ -89,7 +89,7 @@ fn read_piece<R: Read>(reader: &mut R, buffer: &mut [u8; PIECE]) -> Result<usize
     }
 }
 
-// Answers a piece and writes the replies; says how the connection stands then.
+// Answers a piece and writes the replies; returns the state of the connection then.
 fn answer<N: Node, W: Write>(
     alloc: Global,
     session: &mut Session,

@@ -10,8 +10,9 @@ ghost use Rattle.linda_store.specs.declared.node.NodeFault.{NodeFault};
 ghost use Rattle.linda_store.specs.Node.{Node, NodeAnswer, Sent, Works, Closes, Snaps, Stops};
 ghost use Rattle.linda_store.specs.Sound.{IsSound, AreBacked, added};
 
-/// A server whose deeds are a proper list stays so, whatever comes to its node, stops and going
-/// down too: its state is the one after all of its deeds, and what it sends reports only them.
+/// A server whose deeds are a proper list stays so after all that comes to its node, after stops
+/// and after going down: its state is the one after all of its deeds, and what it sends reports
+/// only them.
 pub fn a_server_stays_sound()
     ensures works { (ds es : List Deed) (old new : Node) (xs : List Coming) (answer : NodeAnswer)
         → IsSound ds old → Works old xs answer es new → IsSound (ds ++ es) new }

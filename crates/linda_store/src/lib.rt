@@ -1,12 +1,12 @@
 //! A server of a connection, and what a connection says.
 //!
-//! - A `Node` is a server, of whatever kind; `Volatile` is one in memory only. What contracts see
-//!   of it is in `specs/Node`.
+//! - A `Node` is a server of any kind; `Volatile` is one in memory only. What contracts see of it
+//!   is in `specs/Node`.
 //! - A `Session` takes one client's stream in pieces and answers it, and `converse` does so over a
 //!   reader and a writer: what is written are the replies to what was read, as `specs/Conversation`
 //!   says, for every node.
 //! - The state of a server, its deeds and the step are those of linda_store_state and
-//!   linda_store_step, which stand here again.
+//!   linda_store_step, which this crate exports again.
 //!
 //! A call that may take memory has a fault for that; no other call takes any.
 #![tactic(auto)]

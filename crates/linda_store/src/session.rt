@@ -71,7 +71,7 @@ impl Session {
         self.greeted
     }
 
-    /// How the connection stands.
+    /// The state of the connection.
     pub fn stage(&self) -> ConnectionState
         ensures { result ≡ self.now.stage }
     {

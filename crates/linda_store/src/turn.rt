@@ -38,7 +38,7 @@ pub(crate) fn turn<N: Node>(
     }
 }
 
-// The client that a Hello names; none if the message is no Hello.
+// The client that a Hello names; `None` if the message is no Hello.
 fn hello_of(message: &Message) -> Option<u32>
     ensures { result ≡ hello_of message.now }
 {

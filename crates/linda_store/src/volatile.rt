@@ -22,7 +22,7 @@ use std::snapshot::Snapshot;
 /// down for good, to a stop too.
 pub struct Volatile {
     store: Store<IndexBag>,
-    // The state before the last call, which contracts alone see.
+    // The state before the last call, which only contracts see.
     before: Snapshot<State<IndexBag>>,
 }
 

@@ -24,7 +24,7 @@ none_if_not (Some x) P some never = absurd (never some)
 pub none_from_next : (st : State) → IsState st → (id : ℕ) → st.next ≤ id → get st.bag id ≡ None
 none_from_next st is id from = none_if_not (get st.bag id) ((1 ≤ id) × (id < st.next)) (is.ids id) (λ within. omega (arith, within.1))
 
--- The bag at an id below the next one, and from it on, where it is not taken.
+-- The bag at an id below the next one, and from it on, if it is not taken.
 pub old_id : (st : State) (ds : List Deed) (id : ℕ) → is_taken id ds ≡ false → id < st.next → bag_after st ds id ≡ get st.bag id
 old_id st ds id free below = cond-false (is_taken id ds) _ _ free ∙ cond-true (nat_lt id st.next) _ _ (lt-ltb id st.next below)
 

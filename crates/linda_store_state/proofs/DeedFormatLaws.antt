@@ -66,7 +66,7 @@ deed_short form (Take client n id) fits = omega arith
 deed_short form (Pass client n id) fits = omega arith
 deed_short form (Leave client n) fits = omega arith
 
--- ---- a deed stands there
+-- ---- a deed is there
 
 -- What is read after each kind byte that both forms have.
 module _ (form : Form) (bytes rest : List ℕ) where
@@ -79,7 +79,7 @@ module _ (form : Form) (bytes rest : List ℕ) where
   pub pass_at : bytes ≡ kind.PASS ∷ rest → (format.deed form).read bytes ≡ made_at (λ p. Pass p.0 p.1.0 p.1.1) format.reference rest
   pass_at e = rw e refl
 
--- An Out does, where after its kind byte its parts do.
+-- An Out is there, if its parts are after its kind byte.
 pub out_there : (form : Form) (bytes rest : List ℕ) → bytes ≡ kind.OUT ∷ rest
     → IsOk (made_at (λ p. Out p.0 p.1.0 p.1.1) (format.out form) rest) → IsOk ((format.deed form).read bytes)
 out_there form bytes rest e there = rw e there

@@ -18,7 +18,7 @@ use Rattle.linda_store_state.specs.After.{IsAfter, bag_after, taken_reply, reply
 use Rattle.linda_store_state.specs.Proper.{IsAllowed}
 use Rattle.linda_store_state.proofs.AfterLaws.{none_after, one_after, put_after, none_from_next, old_id, new_id, taken_id, tuple_after_put, entry_after_one}
 
--- The bag and the next id where a tuple is put, or one is taken, or neither, as changes of maps and numbers.
+-- The bag and the next id when a tuple is put, or one is taken, or neither, as changes of maps and numbers.
 abbrev bag_by : State → Option Tuple → Option ℕ → FinMap nat_cmp Tuple
 bag_by st (Some tuple) taken = insert st.bag st.next tuple
 bag_by st None (Some id) = remove st.bag id
@@ -28,7 +28,7 @@ abbrev next_by : State → Option Tuple → ℕ
 next_by st (Some tuple) = st.next + 1
 next_by st None = st.next
 
--- They after a deed.
+-- The bag and the next id after a deed.
 abbrev pub bag_done : State → Deed → FinMap nat_cmp Tuple
 bag_done st d = bag_by st (put_by d) (taken_by d)
 
@@ -151,17 +151,17 @@ done_state st d is allowed =
       clients = clients_kept st.book (client_of d) (number_of d, reply_of_deed st [] d) is.clients allowed.client;
     }
 
--- Whatever state comes after an allowed deed keeps the ranges of states.
+-- Each state that comes after an allowed deed keeps the ranges of states.
 pub one_state : (st new : State) (d : Deed) → IsState st → IsAllowed st d → IsAfter st (d ∷ []) new → IsState new
 one_state st new d is allowed after = subst IsState (one_after st (d ∷ []) (done st d) new (done_after st d is) after) (done_state st d is allowed)
 
--- An Out as changes of maps, where the old state is known by another name.
+-- An Out as changes of maps, if the old state is known by another name.
 pub put_at : (old st new : State) (c n : ℕ) (tuple : Tuple) → old ≡ st → IsState st → new.bag ≡ insert old.bag old.next tuple
     → new.book ≡ insert old.book c (n, kept.Stored old.next) → new.next ≡ old.next + 1 → IsAfter st (Out c n tuple ∷ []) new
 put_at old st new c n tuple same is bag book next =
     subst (λ s. IsAfter s (Out c n tuple ∷ []) new) same (put_after old new c n tuple (subst IsState (sym same) is) bag book next)
 
--- A Take, a Pass and a Leave as changes of maps, where the old state is known by another name.
+-- A Take, a Pass and a Leave as changes of maps, if the old state is known by another name.
 taken_kept : (st : State) (id : ℕ) (row : Tuple) → IsState st → get st.bag id ≡ Some row → taken_reply id (bag_after st [] id) ≡ kept.Taken id row
 taken_kept st id row is there = ap (taken_reply id) (sym ((none_after st is).bag id) ∙ there)
 

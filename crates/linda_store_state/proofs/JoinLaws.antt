@@ -8,7 +8,7 @@ use Rattle.linda_store_state.proofs.AfterLaws.{none_after, one_after, joined_aft
 use Rattle.linda_store_state.proofs.DoneLaws.{done, done_after, done_state}
 use Rattle.linda_store_state.proofs.ProperLaws.{Reaches, reached, front_proper, takes_below, proper_state, more_done}
 
--- What is done behind the first deed of a list is the rest of it.
+-- What is done after the first deed of a list is the rest of it.
 pub behind_one : (st new : State) (d : Deed) (es : List Deed) → IsState st → IsAllowed st d → AreDone st (d ∷ es) new → AreDone (done st d) es new
 behind_one st new d es is allowed all =
     let mid : State = done st d in

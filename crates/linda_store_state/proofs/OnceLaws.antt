@@ -25,7 +25,7 @@ module _ {X : Type 0} (t : X → Bool) where
         | false ↦ λ rest. passes_last xs x rest
       ] some
 
-  -- none passes behind one that does
+  -- none passes after one that does
   none_behind : (front xs : List X) → list_any t front ≡ true → IsFirst (front ++ xs) → filter t xs ≡ []
   none_behind front [] some first = refl
   none_behind front (x ∷ xs) some first =

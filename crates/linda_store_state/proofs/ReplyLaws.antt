@@ -1,4 +1,4 @@
--- The reply to a deed that comes behind others.
+-- The reply to a deed that comes after others.
 use Rattle.std.proofs.Common.{◌≡◌, ℕ, ◌+◌, ◌==◌, true, cond, List, [], ◌∷◌, Some, None, length, refl, sym, ap, ◌∙◌, eq-eqb, arith}
 use Rattle.std.proofs.lemmas.Option.{same_Some}
 use Rattle.std.specs.FinMap.{get}
@@ -11,7 +11,7 @@ use Rattle.linda_store_state.specs.State.{State, IsState}
 use Rattle.linda_store_state.specs.After.{IsAfter, entry_after, taken_reply, reply_of_deed}
 use Rattle.linda_store_state.proofs.AfterLaws.{none_after}
 
--- In a state that deeds led to, the reply to a deed is that to it behind these deeds.
+-- In a state that deeds led to, the reply to a deed is that to it after these deeds.
 pub reply_behind : (st mid : State) (ds : List Deed) (d : Deed) → IsState mid → IsAfter st ds mid → reply_of_deed mid [] d ≡ reply_of_deed st ds d
 reply_behind st mid ds (Out c n tuple) is after =
     let next = after.next in
@@ -21,7 +21,7 @@ reply_behind st mid ds (Take c n id) is after = ap (taken_reply id) (sym ((none_
 reply_behind st mid ds (Pass c n id) is after = refl
 reply_behind st mid ds (Leave c n) is after = refl
 
--- Behind a deed the book has its number and its reply for its client.
+-- After a deed the book has its number and its reply for its client.
 pub kept_behind : (st new : State) (d : Deed) → IsAfter st (d ∷ []) new → get new.book (client_of d) ≡ Some (number_of d, reply_of_deed st [] d)
 kept_behind st new d after =
     let own : (client_of d == client_of d) ≡ true = eq-eqb (client_of d) (client_of d) refl in

@@ -1,5 +1,5 @@
--- The state after a list of deeds: a set of pairs and a last deed by client, whatever was done to
--- get there.
+-- The state after a list of deeds: a set of pairs and a last deed by client, no matter what was
+-- done to get there.
 use Rattle.std.specs.Prelude.{◌≡◌, ℕ, ◌+◌, ◌-◌, nat_lt, if◌then◌else◌}
 use Rattle.std.specs.Prelude.{List, length, Option, Some, None}
 use Rattle.std.specs.List.{slice_get}
@@ -13,8 +13,8 @@ use Rattle.linda_store_state.specs.declared.deed.Deed.TheVariants.{Out, Take, Pa
 use Rattle.linda_store_state.specs.Deed.{outs_of, is_taken, last_of, number_of}
 use Rattle.linda_store_state.specs.State.{State}
 
--- The bag: the tuples of before and those put, the k-th of them under the next id plus k, less what
--- is taken.
+-- The bag: the old tuples and those put, the k-th of them under the next id plus k, less what is
+-- taken.
 abbrev pub bag_after : State → List Deed → ℕ → Option Tuple
 bag_after st ds id =
     if is_taken id ds then None
@@ -38,7 +38,7 @@ abbrev pub entry_after : State → ℕ → Option (List Deed × Deed) → Option
 entry_after st c None = map.get st.book c
 entry_after st c (Some last) = Some (number_of last.1, reply_of_deed st last.0 last.1)
 
--- The book: a client's last deed with its reply; without one, the entry of before.
+-- The book: a client's last deed with its reply; without one, the old entry.
 abbrev pub book_after : State → List Deed → ℕ → Option Entry
 book_after st ds c = entry_after st c (last_of c ds)
 

@@ -47,8 +47,8 @@ pub fn deeds_are_done_one_by_one()
         → AreDone st ds mid → (IsAllowed mid d → ⊥) → IsProper st (ds ++ d ∷ later) → ⊥ }
 {}
 
-/// Two proper lists of deeds, the second from where the first leads to, are one proper list, and
-/// lead to where the second does.
+/// Two proper lists of deeds, the second from the state that the first leads to, are one proper
+/// list, and lead to the state that the second leads to.
 pub fn lists_are_done_one_after_another()
     ensures { (st mid new : State) (ds es : List Deed)
         → IsState st → AreDone st ds mid → AreDone mid es new → AreDone st (ds ++ es) new }

@@ -5,8 +5,8 @@
 //!   a server keeps over a restart.
 //! - A `Deed` is one change of it. `State::put`, `State::take`, `State::pass` and `State::leave` do
 //!   one each, and `State::redo` does one again that was written down; the state after a list of
-//!   deeds is what `specs/After` says, whatever the code did to get there. It is `Spelled` in bytes
-//!   by `specs/DeedFormat`.
+//!   deeds is what `specs/After` says, no matter what the code did to get there. It is `Spelled` in
+//!   bytes by `specs/DeedFormat`.
 //! - `specs/Proper` says which lists of deeds a server can do. What follows for these lists is
 //!   stated by the functions of `laws`.
 #![tactic(auto)]

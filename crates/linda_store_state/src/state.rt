@@ -81,8 +81,8 @@ impl<B: Bag> State<B> {
         Ok(())
     }
 
-    /// The client takes the tuple of this id by its message `n`, and here it is, while the book
-    /// keeps a copy; none if it is not there, and then the state is as before.
+    /// The client takes the tuple of this id by its message `n`, and it is returned, while the book
+    /// keeps a copy; `None` if it is not there, and then the state is as before.
     ///
     /// # Errors
     ///

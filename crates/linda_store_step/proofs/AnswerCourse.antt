@@ -92,7 +92,7 @@ module _ (st : State) (soft : Soft) (c : ℕ) where
       subst (Course st soft c (Cancel ticket)) (sym answer.1.1) (unnumbered (Cancel ticket) answer.0 refl (answer.0, (answer.1.0, refl)))
   course_of (Leave n) a answer = subst (Course st soft c (Leave n)) (sym answer) (leave_course n (leave_without_deed st c n) refl)
 
-  -- Where there is a reply without a deed, it is all that is answered.
+  -- If there is a reply without a deed, it is the whole answer.
   pub undone_answer : (m : Message) (a : Answer) (d : Demand) (r : Reply) → demand_of m ≡ Some d
       → without_deed st c d ≡ Some r → IsAnswer st soft c m a → a ≡ only_reply c r soft
   undone_answer (Out n tuple) a d r asked e answer = answer ∙ ap (λ o. on_out st c n tuple o soft) (ap (without_deed st c) (same_Some (to_put n) d asked) ∙ e)

@@ -60,7 +60,7 @@ step_state st new soft c m answered ranges step = by answered.deed refl
     by (Some d) e = one_state st new d ranges (answer_allowed st soft c m answered d ranges step.answer e)
         (subst (λ d. IsAfter st (option_to_list d) new) e step.state_is)
 
--- What is told for an Ask, and for a Cancel, is one thing alone.
+-- There is only one outcome of an Ask, and of a Cancel.
 one_ask : (st : State) (request : Request) (remove : Bool) (soft : Soft) (shape : Template) (a b : Sends)
     → IsOneEach soft.holds → AnswersAsk st.bag request remove shape soft a → AnswersAsk st.bag request remove shape soft b → a ≡ b
 one_ask st request remove soft shape a b one_each first second =
@@ -83,7 +83,7 @@ one_cancel st request soft a b one_each first second =
     ∙ ap (λ held. on_cancel st.bag request held soft) (one_held soft.holds request first.held second.held one_each first.is_held second.is_held)
     ∙ sym second.told_is
 
--- There is one answer alone.
+-- There is only one answer.
 pub one_answer : (st : State) (soft : Soft) (c : ℕ) (m : Message) (a b : Answer) → IsOneEach soft.holds
     → IsAnswer st soft c m a → IsAnswer st soft c m b → a ≡ b
 one_answer st soft c (Hello version client fresh) a b one_each first second = first ∙ sym second

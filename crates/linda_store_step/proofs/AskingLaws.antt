@@ -1,4 +1,4 @@
--- What an Ask comes to where nothing new is served, said of what was looked up for it.
+-- What an Ask comes to if no new request is served, in terms of what was looked up for it.
 use Rattle.std.proofs.Common.{◌≡◌, ℕ, Bool, true, false, cond, nat_le, List, [], ◌∷◌, Some, None, sym, ap, ◌∙◌}
 use Rattle.std.specs.FinMap.{get}
 use Rattle.linda_hold.specs.declared.request.Request.{Request}

@@ -1,4 +1,4 @@
--- A client that left stays away: whatever comes, stops too.
+-- A client that left stays away after all that comes, and after stops.
 use Rattle.std.proofs.Common.{◌≡◌, ◌≢◌, ℕ, ◌<◌, ◌≤◌, ◌⊎◌, Bool, true, false, true≢false, cond, not, ◌&&◌, ◌==◌, nat_le}
 use Rattle.std.proofs.Common.{nat_lt, List, [], ◌∷◌, All, Option, Some, None, IfSome, option_to_list, inl, inr, refl}
 use Rattle.std.proofs.Common.{sym, ap, ◌∙◌, subst, ne_eqb, arith}
@@ -58,9 +58,9 @@ use Rattle.linda_store_step.proofs.OutcomeLaws.{came_orderly}
 use Rattle.linda_store_step.proofs.PresentLaws.{fewer_asking, asking_by, no_asking}
 use Rattle.linda_store_step.proofs.HistoryLaws.{all_safe}
 
--- ---- whom a step tells something
+-- ---- to whom a step sends something
 
--- What is told for an Ask goes to the client that asks.
+-- What is sent for an Ask goes to the client that asks.
 module _ (P : ℕ → Type 0) (bag : Bagged) (c ticket : ℕ) (own : P c) where
   abbrev AllSent : List (ℕ × Reply) → Type 0
   AllSent sends = All (λ (send : ℕ × Reply). P send.0) sends
@@ -105,7 +105,7 @@ module _ (P : ℕ → Type 0) (bag : Bagged) (c ticket : ℕ) (own : P c) where
             ]
       ]
 
--- What is told where a request is given up, or a client's connection ends, goes to those that wait.
+-- What is sent when a request is given up, or a client's connection ends, goes to those that wait.
 module _ (P : ℕ → Type 0) (bag : Bagged) (soft : Soft) (asking : OfAsking P soft) where
   pub cancelled_sent : (request : Request) (held : Option ℕ) → All (λ (send : ℕ × Reply). P send.0) (on_cancel bag request held soft).sends
   cancelled_sent request held =
@@ -125,7 +125,7 @@ module _ (P : ℕ → Type 0) (bag : Bagged) (soft : Soft) (asking : OfAsking P 
       all_freed_sent P bag (held_in client (entries soft.holds)) (record { holds = soft.holds; waits = without_client client soft.waits })
       (fewer_asking P (λ w. not (client == w.0.client)) soft asking).waits
 
--- ---- what a client that left is told
+-- ---- what is sent to a client that left
 
 -- A verdict on it is a refusal of these, or that its Leave came again.
 judged : (d : Demand) (at : Standing) (why : Refusal) → at.left ≡ true → judge d at ≡ Refused why → (why ≡ refusals.Old at.last) ⊎ (why ≡ refusals.Left at.last)
@@ -191,7 +191,7 @@ module _ (st : State) (c : ℕ) (is : IsState st) (gone : has_left st c ≡ true
 -- ---- one thing that comes
 
 module _ (st : State) (soft : Soft) (c : ℕ) (is : IsOrderly st soft) (gone : has_left st c ≡ true) where
-  -- whoever is here is another client
+  -- a client that has not left is another one
   other : (k : ℕ) → IsHere st k → k ≢ c
   other k here same = true≢false (sym gone ∙ ap (has_left st) (sym same) ∙ here)
 
@@ -201,7 +201,7 @@ module _ (st : State) (soft : Soft) (c : ℕ) (is : IsOrderly st soft) (gone : h
   abbrev Told : List (ℕ × Reply) → Type 0
   Told sends = All (λ (send : ℕ × Reply). send.0 ≡ c → LastWord (last_number st c) send.1) sends
 
-  -- what goes to others alone
+  -- what goes only to others
   to_others : (sends : List (ℕ × Reply)) → All (λ (send : ℕ × Reply). send.0 ≢ c) sends → Told sends
   to_others sends all k d within same = absurd (all k d within same)
 

@@ -69,7 +69,7 @@ module _ {X : Type 0} where
         let with : length (filter p (x ∷ xs)) ≡ suc (length (filter p xs)) = ap (λ b. length (cond b (x ∷ filter p xs) (filter p xs))) counts in
         omega (arith, few, without, with)
 
-    -- One less passes, where what was found is counted and is not kept.
+    -- One less passes, if what was found is counted and is not kept.
     pub found_gone : (test : X → Bool) (xs : List X) (x : X) → find test xs ≡ Some x → p x ≡ true → r x ≡ false → length (left xs) + 1 ≤ length (filter p xs)
     found_gone test [] x found counts gone = absurd (none-some x found)
     found_gone test (y ∷ xs) x found counts gone =
@@ -120,7 +120,7 @@ module _ {X : Type 0} where
         later true e us vs n fewer = omega arith
         later false e us vs n fewer = fewer
 
-    -- After an insertion at most one entry more passes, and none where the new value doesn't.
+    -- After an insertion at most one entry more passes, and none if the new value doesn't.
     pub insert_counted : (m : FinMap nat_cmp X) (k : ℕ) (v : X)
         → length (filter (λ e. t e.1) (entries (insert m k v))) ≤ length (filter (λ e. t e.1) (entries m)) + cond (t v) 1 0
     insert_counted m k v = subst (λ es. length (filter (λ e. t e.1) es) ≤ length (filter (λ e. t e.1) (entries m)) + cond (t v) 1 0)

@@ -1,4 +1,4 @@
--- Whatever comes to a server, stops too, its deeds are a proper list, and it stays in order.
+-- After all that comes to a server, and after stops, its deeds are a proper list, and it is in order.
 use Rattle.std.proofs.Common.{◌≡◌, List, [], ◌∷◌, ◌++◌, sym, ap, ◌∙◌, subst, append-nil, append_assoc}
 use Rattle.linda_store_state.specs.declared.deed.Deed.{Deed}
 use Rattle.linda_store_state.specs.State.{State, IsState}

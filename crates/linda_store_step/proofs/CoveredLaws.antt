@@ -84,7 +84,7 @@ close_sends st bag client old = kept_covered st (on_close bag client old).sends 
 
 -- ---- all that comes
 
--- Where something comes to a server in a state: it leads to a state, what was covered stays so, and its sends are covered.
+-- What came to a server led from one state to another: the new one is in its ranges, what was covered is still covered, and so are the sends.
 record Covers (st mid : State) (sends : List (ℕ × Reply)) : Type 0 where
   ranges : IsState mid
   stays : (send : ℕ × Reply) → IsCovered st send → IsCovered mid send

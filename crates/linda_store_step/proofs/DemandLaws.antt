@@ -1,5 +1,5 @@
--- A message does the deed that it asks for exactly where its demand is met; so the bytes of all deeds in a form
--- can be counted, and whether each has a spelling there is known.
+-- A message does the deed that it asks for exactly if its demand is met; so the bytes of all deeds in a form can be counted, and whether each has a
+-- spelling there is known.
 use Rattle.std.proofs.Common.{◌≡◌, ℕ, ◌+◌, ◌≤◌, ◌<◌, Bool, true, false, cond, ◌==◌, List, [], ◌∷◌, ◌++◌, length, Option}
 use Rattle.std.proofs.Common.{Some, None, All, IfSome, is_some, option_to_list, IfNone, refl, sym, ap, ◌∙◌, subst}
 use Rattle.std.proofs.Common.{ne_eqb, length-append, append-nil, arith}
@@ -103,7 +103,7 @@ outcome_of form st c soft _ _ (left n none) =
 
 -- ---- what a step comes to
 
--- What is done of the message is known from the numbers of before: its bytes, and the numbers after it.
+-- What is done of the message is known from the old numbers: its bytes, and the numbers after it.
 record IsTold (form : Form) (st : State) (c : ℕ) (m : Message) (deed : Option Deed) (new : State) : Type 0 where
   bytes : length (payload form (option_to_list deed)) ≡ bytes_of form m (done_of (numbers_of st) c m)
   count : length (option_to_list deed) ≡ count_of (done_of (numbers_of st) c m)
@@ -193,7 +193,7 @@ all_deeds st soft (m ∷ ms) all is happens =
     ∙ ap (λ n. n + length later.deeds) told.count
     ∙ ap (λ n. count_of (done_of (numbers_of st) m.0 m.1) + n) (rest ∙ ap (λ ns. count_from ns ms) told.numbers)
 
--- Where all of these deeds have a spelling in the form, so has what is done of the messages;
+-- If all of these deeds have a spelling in the form, so has what is done of the messages;
 pub all_suit : (form : Form) (st : State) (soft : Soft) (ms : List (ℕ × Message)) (all : History) → IsState st
     → Happens st soft (comings ms) all → All (SuitsForm form) all.deeds → AllSuit form (numbers_of st) ms
 all_suit form st soft [] all is happens suit = tt

@@ -45,7 +45,7 @@ one_longest row waits request some = by (longest row waits) refl some
     by (Some w) e is = record { first = w; found = e; request_is = same_Some w.0 request is }
 
 module _ (id : ℕ) (row : Tuple) (soft : Soft) where
-  -- No input takes the tuple: the reads are told, and wait no longer.
+  -- No input takes the tuple: the reads are answered, and wait no longer.
   pub told_reads : option_map (λ (w : Wait). w.0) (longest row soft.waits) ≡ None
       → dispatch id row soft ≡ record {
         sends = map (read_for id row) (map (λ w. w.0) (readers row soft.waits));
@@ -59,7 +59,7 @@ module _ (id : ℕ) (row : Tuple) (soft : Soft) where
       ∙ ap (λ sends. let t : Sends = record { sends = sends; soft = record { holds = soft.holds; waits = without_readers row soft.waits } } in t)
       (append-nil (map (read_to id row) (readers row soft.waits)) ∙ sym (reads_by_requests id row (readers row soft.waits)))
 
-  -- An input takes it: the reads are told, it is offered, and what was told waits no longer.
+  -- An input takes the tuple: the reads are answered, the tuple is offered, and these requests wait no longer.
   pub told_offer : (request : Request) → option_map (λ (w : Wait). w.0) (longest row soft.waits) ≡ Some request
       → dispatch id row soft ≡ record {
         sends = map (read_for id row) (map (λ w. w.0) (readers row soft.waits)) ++ offer_for id row request ∷ [];
@@ -82,7 +82,7 @@ module _ (id : ℕ) (row : Tuple) (soft : Soft) where
       } in t)
       (sym (reads_by_requests id row (readers row soft.waits)))
 
-  -- Who takes it holds nothing, where holds and waits are apart.
+  -- The request that takes the tuple holds nothing, if holds and waits are apart.
   pub longest_holds_nothing : (request : Request) → AreApart soft
       → option_map (λ (w : Wait). w.0) (longest row soft.waits) ≡ Some request → IsHeldAt soft.holds request None
   longest_holds_nothing request apart some =

@@ -1,4 +1,4 @@
--- Whatever comes to a server in order has an outcome: what a request looks up is found by going through the ids.
+-- All that comes to a server in order has an outcome: what a request looks up is found by going through the ids.
 use Rattle.std.proofs.Common.{◌≡◌, ℕ, zero, suc, ◌<◌, Bool, true, false, true≢false, not, ◌&&◌, List, [], ◌∷◌, Option}
 use Rattle.std.proofs.Common.{Some, None, IsSome, is_some, option_to_list, inl, inr, refl, sym, ap, ◌∙◌, arith}
 use Rattle.std.proofs.lemmas.Bool.{cases_lt, and_parts, and_from, not-true, not_from_false}
@@ -111,7 +111,7 @@ module _ (st : State) (is : IsState st) where
 
 -- ---- answers
 
--- There is something to tell for an Ask.
+-- There is an outcome of each Ask.
 said_of : (gone : Bool) (st : State) (soft : Soft) (c ticket : ℕ) (remove : Bool) (shape : Template)
     → IsOrderly st soft → (told : Sends) × SaysAsk gone st c ticket remove shape soft told
 said_of true st soft c ticket remove shape orderly = (only_sent ((c, refused (refusals.Left (last_number st c))) ∷ []) soft, refl)

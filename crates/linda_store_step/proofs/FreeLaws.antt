@@ -26,7 +26,7 @@ use Rattle.linda_store_step.specs.Looking.{is_held}
 use Rattle.linda_store_step.specs.Dispatch.{dispatch, held_for}
 use Rattle.linda_store_step.specs.Answer.{Answer, take_or_pass}
 
--- A dispatch changes what is said of that tuple alone.
+-- A dispatch changes only whether that tuple is held.
 pub dispatched_elsewhere : (id : ℕ) (row : Tuple) (soft : Soft) (k : ℕ) → (k ≡ id → ⊥) → is_held (dispatch id row soft).soft.holds k ≡ is_held soft.holds k
 dispatched_elsewhere id row soft k other = by (longest row soft.waits)
   where
@@ -34,7 +34,7 @@ dispatched_elsewhere id row soft k other = by (longest row soft.waits)
     by None = refl
     by (Some w) = ap is_some (get_other soft.holds id w.0 k other)
 
--- So where a tuple was released, what is free elsewhere was free before.
+-- So after a tuple was released, each other tuple that is free was free before.
 pub released_elsewhere : (id : ℕ) (row : Tuple) (soft : Soft) (holds : HeldFor)
     → holds ≡ (dispatch id row (record { holds = remove soft.holds id; waits = soft.waits })).soft.holds
     → (k : ℕ) → (k ≡ id → ⊥) → is_held holds k ≡ false → is_held soft.holds k ≡ false
@@ -51,7 +51,7 @@ below_kept st new ds after k row below stored =
       | false ↦ λ is. sym (old_id st ds k is below) ∙ sym (after.bag k) ∙ stored
     ] refl
 
--- Right hints stay right where deeds are done, and nothing that is there is free below the next id that was not.
+-- Right hints stay right after deeds, if each tuple below the old next id that is free was free before.
 pub done_right : (st new : State) (ds : List Deed) (holds now : HeldFor) (hints : SearchHints) → IsAfter st ds new
     → ((k : ℕ) (row : Tuple) → k < st.next → get new.bag k ≡ Some row → is_held now k ≡ false → is_held holds k ≡ false)
     → AreRight st.bag (is_held holds) st.next hints → AreRight new.bag (is_held now) new.next hints
@@ -101,7 +101,7 @@ left_right st new c n now hints is after rights =
     subst (λ (s : State). AreRight s.bag (is_held now.holds) s.next hints)
     (one_after st (deeds.Leave c n ∷ []) (done st (deeds.Leave c n)) new (done_after st (deeds.Leave c n) is) after) rights
 
--- Hints that were right stay so where one more tuple is held.
+-- Hints that were right stay so if one more tuple is held.
 pub holding_right : (bag : Bagged) (holds now : HeldFor) (id : ℕ) (request : Request) (next : ℕ) (hints : SearchHints)
     → now ≡ insert holds id request → AreRight bag (is_held holds) next hints → AreRight bag (is_held now) next hints
 holding_right bag holds now id request next hints is rights =

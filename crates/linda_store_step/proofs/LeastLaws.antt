@@ -13,7 +13,7 @@ use Rattle.linda_bag.proofs.LeftLaws.{HasKey}
 use Rattle.linda_store_step.specs.Soft.{Bagged}
 use Rattle.linda_store_step.specs.Looking.{IsLeast}
 
--- The least key of the entries that is good; none where none is.
+-- The least key of the entries that is good; none if no key is.
 LeastOf : (ℕ → Type 0) → List (ℕ × Tuple) → Option ℕ → Type 0
 LeastOf Good es (Some id) = Good id × ((k : ℕ) → HasKey k es → k < id → Good k → ⊥)
 LeastOf Good es None = (k : ℕ) → HasKey k es → Good k → ⊥

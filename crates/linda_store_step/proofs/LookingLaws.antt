@@ -24,7 +24,7 @@ one_least bag shape passed (Some i) None first second = absurd (second i first.0
 one_least bag shape passed None (Some k) first second = absurd (first k second.0)
 one_least bag shape passed None None first second = refl
 
--- Two answers to what is held for a request are one, where no request holds two tuples.
+-- Two answers to what is held for a request are the same, if no request holds two tuples.
 pub one_held : (holds : HeldFor) (request : Request) (a b : Option ℕ) → IsOneEach holds → IsHeldAt holds request a → IsHeldAt holds request b → a ≡ b
 one_held holds request (Some i) (Some k) each first second = ap (λ n. Some n) (each i k request first second)
 one_held holds request (Some i) None each first second = absurd (second i first)
@@ -41,7 +41,7 @@ not_held false o free is = absurd (true≢false (sym is))
 same_free : (bag : Bagged) (shape : Template) (p q : ℕ → Bool) (id : ℕ) → p id ≡ q id → IsFreeMatch bag shape p id → IsFreeMatch bag shape q id
 same_free bag shape p q id alike is = record { row = is.row; stored = is.stored; matches = is.matches; free = sym alike ∙ is.free }
 
--- What a bag finds is the least id, where the set that it is given has just the ids that are passed over.
+-- What a bag finds is the least id, if the set that it is given has exactly the ids that are passed over.
 module _ (bag : Bagged) (shape : Template) (ids passed : ℕ → Bool) (same : (k : ℕ) → ids k ≡ passed k) where
   in_set : (k : ℕ) → IsFreeMatch bag shape passed k → IsFreeMatch bag shape ids k
   in_set k is = same_free bag shape passed ids k (sym (same k)) is

@@ -128,7 +128,7 @@ module _ (Known : ℕ → Reply → Type 0) (bag : Bagged) (x : Coming) where
         (either old (nat_le MAX_ASKS (open_asks c old)) _ (serve bag (request_of c ticket) remove shape least old)
         (tells old c (refused (refusals.TooManyAsks ticket)) refl known) (serve_move least is_least))
 
--- ---- what is told without a deed
+-- ---- what is sent without a deed
 
 -- a reply that neither offers a tuple nor reports a deed
 abbrev IsPlain : Reply → Type 0
@@ -187,11 +187,11 @@ module _ (st new : State) (c : ℕ) (old : Soft) (is : IsState st) where
   same_bag : (n : ℕ) → IsAfter st (deeds.Leave c n ∷ []) new → new.bag ≡ st.bag
   same_bag n after = ap (λ (s : State). s.bag) (one_after st (deeds.Leave c n ∷ []) new (done st (deeds.Leave c n)) after (done_after st (deeds.Leave c n) is))
 
-  -- what changes nothing is told over the old state, which is the new one
+  -- if no deed is done, a reply that is known in the old state is known in the new one, which is the same
   same_known : (r : Reply) → KnownIn st c r → IsAfter st [] new → KnownIn new c r
   same_known r known after reports = subst (λ s. KeepsReply s c r) (same_state after) (known reports)
 
-  -- what is told without a deed is told over the old bag, which is the new one
+  -- if no deed is done, a move over the old bag is one over the new bag, which is the same
   told_move : (m : Message) (told : Sends) → Move (KnownIn new) st.bag (says c m) old told → IsAfter st [] new → Move (KnownIn new) new.bag (says c m) old told
   told_move m told move after = subst (λ (s : State). Move (KnownIn new) s.bag (says c m) old told) (same_state after) move
 

@@ -27,7 +27,7 @@ unmapped f (Some x) none = absurd (none-some (f x) (sym none))
 not_below_zero : (n : ℕ) → 0 < n → n ≡ 0 → ⊥
 not_below_zero n some none = omega (arith, some, none)
 
--- Where there is no reply without a deed, the verdict is that it is done.
+-- If there is no reply without a deed, the verdict is that it is done.
 pub none_is_done : (st : State) (c : ℕ) (d : Demand) → without_deed st c d ≡ None → judge d (standing_of st c) ≡ Done
 none_is_done st c d = by (judge d (standing_of st c)) (verdict_means d (standing_of st c))
   where

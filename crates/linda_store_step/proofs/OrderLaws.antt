@@ -113,7 +113,7 @@ module _ (st new : State) (soft : Soft) (c : ℕ) (is : IsOrderly st soft) where
   was : IsSettled st.bag soft
   was = record { soft_is = is.soft_is; rest = is.rest }
 
-  -- what is told for an Ask
+  -- what is sent for an Ask
   said_settled : (gone : Bool) (ticket : ℕ) (remove : Bool) (template : Template) (told : Sends)
       → SaysAsk gone st c ticket remove template soft told → IsSettled st.bag told.soft
   said_settled true ticket remove template told same = subst (λ (t : Sends). IsSettled st.bag t.soft) (sym same) was
@@ -128,7 +128,7 @@ module _ (st new : State) (soft : Soft) (c : ℕ) (is : IsOrderly st soft) where
       subst (λ (t : Sends). OfAsking (IsHere st) t.soft) (sym asked.told_is)
       (asking_here (IsHere st) st.bag (request_of c ticket) remove template asked.held asked.least soft e is.present)
 
-  -- where nothing is done
+  -- if nothing is done
   unchanged : (s : Soft) → IsSettled st.bag s → IsAfter st [] new → IsSettled new.bag s
   unchanged s settled after = subst (λ (x : State). IsSettled x.bag s) (same_state st new is.state_is after) settled
 
@@ -163,7 +163,7 @@ module _ (st new : State) (soft : Soft) (c : ℕ) (is : IsOrderly st soft) where
   told_present (Accept n ticket id) told some answer = absurd (none-some (to_take n) (sym some))
   told_present (Leave n) told some answer = absurd (none-some (to_leave n) (sym some))
 
-  -- Whoever is here is so after another's deed, and after one of its own that is no Leave.
+  -- A client that is here still is after another client's deed, and after one of its own that is no Leave.
   here_after : (d : Deed) (new : State) → IsAfter st (d ∷ []) new → (k : ℕ)
       → (k ≡ client_of d → is_left (reply_of_deed st [] d) ≡ false) → IsHere st k → IsHere new k
   here_after d new after k own here =
@@ -204,7 +204,7 @@ module _ (st new : State) (soft : Soft) (c : ℕ) (is : IsOrderly st soft) where
   after_deed : (d : Deed) (s : Soft) → IsSettled (done st d).bag s → IsAfter st (d ∷ []) new → IsSettled new.bag s
   after_deed d s settled after = subst (λ (x : State). IsSettled x.bag s) (one_after st (d ∷ []) (done st d) new (done_after st d is.state_is) after) settled
 
-  -- the answer to a message settles, where the state is the one after its deed
+  -- the answer to a message settles, if the state is the one after its deed
   settled : (m : Message) (a : Answer) → Course st soft c m a → IsAfter st (option_to_list a.deed) new → IsSettled new.bag a.soft
   settled _ _ (unnumbered m told none answer) after = unchanged told.soft (told_settled m told none answer) after
   settled _ _ (turned_down m d why asked verdict) after = unchanged soft was after
@@ -240,11 +240,11 @@ close_orderly st soft c is = record {
   present = close_present st st soft c is;
 }
 
--- Where nobody asks, nothing is held and nobody waits.
+-- A server whose state is in its ranges is in order if nothing is held and nobody waits.
 pub no_asks_orderly : (st : State) → IsState st → IsOrderly st no_asks
 no_asks_orderly st is = record { state_is = is; soft_is = no_asks_soft st.bag; rest = no_asks_rest st.bag; present = no_asking (IsHere st) }
 
--- The two laws above, where state, holds and waits are known by other names.
+-- The two laws above, for state, holds and waits that are known by other names.
 pub close_at : (old st : State) (was soft new : Soft) (c : ℕ) (sends : List (ℕ × Reply)) → old ≡ st → was ≡ soft
     → IsOrderly st soft → (let told : Sends = record { sends = sends; soft = new } in told) ≡ on_close old.bag c was → IsOrderly old new
 close_at old st was soft new c sends same soft_same is told =

@@ -16,7 +16,7 @@ use Rattle.linda_store_step.proofs.WaitLaws.{none_passes, found_has}
 use Rattle.linda_store_step.proofs.SoftLaws.{kept_waits}
 use Rattle.linda_store_step.proofs.ReleaseLaws.{closed_waits, closed_holds}
 
--- What holds of each holds of those that it gives.
+-- If P of what an option has gives Q of it, and P holds of it, so does Q.
 if_some_by : {X : Type 0} (o : Option X) (P Q : X → Type 0) → ((x : X) → o ≡ Some x → P x → Q x) → IfSome o P → IfSome o Q
 if_some_by None P Q gives is = tt
 if_some_by (Some x) P Q gives is = gives x refl is
@@ -86,7 +86,7 @@ module _ (P : ℕ → Type 0) where
   pub no_asking : OfAsking P no_asks
   no_asking = record { waits = All-nil (λ (w : Wait). P w.0.client); holds = λ id. subst (λ o. IfSome o (λ (r : Request). P r.client)) (sym (get_empty id)) tt }
 
--- What follows of each client follows of all who ask.
+-- If P of a client gives Q of it, then P of all who ask gives Q of all who ask.
 pub asking_by : (P Q : ℕ → Type 0) (soft : Soft) → ((c : ℕ) → P c → Q c) → OfAsking P soft → OfAsking Q soft
 asking_by P Q soft gives is = record {
   waits = λ k d within. gives _ (is.waits k d within);

@@ -265,7 +265,7 @@ nobody : AreDistinct []
 unfolding IsDistinct
 nobody = tt
 
--- Where nobody asks, all ranges are kept.
+-- If nothing is held and nobody waits, all ranges are kept.
 pub no_asks_soft : (bag : Bagged) → IsSoft bag no_asks
 no_asks_soft bag = record {
   distinct = nobody;

@@ -25,7 +25,7 @@ module _ {X : Type 0} (t : X → Bool) where
   neither : (a b : Bool) → a ≡ false → b ≡ false → (a || b) ≡ false
   neither a b first second = ap (λ c. c || b) first ∙ second
 
-  -- Where none passes, none does of those that are kept.
+  -- If none passes, none of those that are kept does.
   none_kept : (p : X → Bool) (xs : List X) → list_any t xs ≡ false → list_any t (filter p xs) ≡ false
   none_kept p [] none = refl
   none_kept p (x ∷ xs) none =
@@ -36,7 +36,7 @@ module _ {X : Type 0} (t : X → Bool) where
         | false ↦ rest
       ]
 
-  -- None passes where those that do are gone.
+  -- None passes once those that do are removed.
   none_left : (xs : List X) → list_any t (filter (λ x. not (t x)) xs) ≡ false
   none_left [] = refl
   none_left (x ∷ xs) =

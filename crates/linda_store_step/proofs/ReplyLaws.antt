@@ -1,4 +1,4 @@
--- What a move tells is in the book where it reports a deed; and what is in the book was told of a deed.
+-- A reply of a move is in the book if it reports a deed; and each reply in the book reports a deed.
 use Rattle.std.proofs.Common.{◌≡◌, ℕ, true, false, true≢false, cond, ◌==◌, List, [], ◌∷◌, ◌++◌, map, Some, None}
 use Rattle.std.proofs.Common.{option_to_list, All, refl, sym, ap, ◌∙◌, subst, eqb-true}
 use Rattle.std.proofs.lemmas.Option.{none-some, same_Some}
@@ -26,7 +26,7 @@ module _ (st : State) (bag : Bagged) (x : Coming) where
   abbrev IsBacked : ℕ × Reply → Type 0
   IsBacked send = reports_deed send.1 ≡ true → KeepsReply st send.0 send.1
 
-  -- what is made of tuples alone reports no deed
+  -- replies of which none reports a deed are backed
   silent : {Y : Type 0} (f : Y → ℕ × Reply) (ys : List Y) → ((y : Y) → reports_deed (f y).1 ≡ false) → All IsBacked (map f ys)
   silent f ys none = All-map IsBacked f ys (λ k d within reports. absurd (true≢false (sym reports ∙ none _)))
 

@@ -30,7 +30,7 @@ module _ (st : State) (c : ℕ) (old : Soft) where
   abbrev IsAsked : Message → Answer → Type 0
   IsAsked m a = (d : Deed) → a.deed ≡ Some d → DoesAsAsked c m a.soft d
 
-  -- what is held and there could be taken
+  -- what cannot be taken, if all that is held is there, is not held for the request
   not_held : (ticket id : ℕ) → HoldsWhatIsThere st old → held_tuple st (request_of c ticket) id old ≡ None → get old.holds id ≢ Some (request_of c ticket)
   not_held ticket id there none held =
       let own : is_for (request_of c ticket) (get old.holds id) ≡ true = ap (is_for (request_of c ticket)) held

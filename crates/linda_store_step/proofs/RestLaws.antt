@@ -150,7 +150,7 @@ pub waiting_rests : (bag : Bagged) (w : Wait) (soft : Soft) → IsLeast bag w.1.
     → IsAtRest bag soft → IsAtRest bag (record { holds = soft.holds; waits = soft.waits ++ w ∷ [] })
 waiting_rests bag w soft nothing rest = All-push (λ (v : Wait). (id : ℕ) → CanHave bag soft.holds v id → ⊥) soft.waits w rest nothing
 
--- Where nobody asks, nobody waits.
+-- If nobody waits, nobody waits in vain.
 pub no_asks_rest : (bag : Bagged) → IsAtRest bag no_asks
 no_asks_rest bag = All-nil (λ (w : Wait). (id : ℕ) → CanHave bag no_asks.holds w id → ⊥)
 

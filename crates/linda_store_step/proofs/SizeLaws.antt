@@ -24,7 +24,7 @@ use Rattle.linda_store_step.specs.Size.{AllSuit, last_behind, AreMarked}
 
 -- ---- what was counted so far
 
--- The numbers of a state where these clients have come to these numbers, and so many are kept, and this is the next id.
+-- The numbers of a state after these clients have come to these numbers, with so many clients kept and this next id.
 abbrev pub numbers_behind : State → List (ℕ × Latest) → ℕ → ℕ → Numbers
 numbers_behind st es clients next = record { last = λ c. last_behind es c (latest_of st c); clients = clients; next = next }
 
@@ -131,7 +131,7 @@ module _ (form : Form) (st : State) (es fs : List (ℕ × Latest)) (c : ℕ) (m 
       ∙ ap (λ ns. count + (1 + count_from ns ms)) same_numbers
       ∙ sym (add_assoc count 1 (count_from (numbers_behind st fs k x) ms))
 
-  -- All suit from here on exactly where this one does and the others do.
+  -- All suit from here on exactly if this one does and the others do.
   pub suit_on : AllSuit form (numbers_behind st es clients next) ((c, m) ∷ ms) → Suits form m × AllSuit form (numbers_behind st fs k x) ms
   suit_on suit =
       let this = subst (λ o. SuitsIfDone form m o × AllSuit form (numbers_after (numbers_behind st es clients next) c o) ms) same_done suit in
@@ -142,7 +142,7 @@ module _ (form : Form) (st : State) (es fs : List (ℕ × Latest)) (c : ℕ) (m 
       subst (λ o. SuitsIfDone form m o × AllSuit form (numbers_after (numbers_behind st es clients next) c o) ms) (sym same_done)
       (this, subst (λ ns. AllSuit form ns ms) (sym same_numbers) rest)
 
--- Of what is done of a message, where all suit.
+-- The first message suits, if all suit and its deed is done.
 pub suit_first : (form : Form) (st : State) (es : List (ℕ × Latest)) (c : ℕ) (m : Message) (last : Latest)
     (clients next : ℕ) (d : Demand) (ms : List (ℕ × Message))
     → last ≡ last_behind es c (latest_of st c) → Some d ≡ done_by (demand_of m) (record { last = last.0; left = last.1; clients = clients; next = next })

@@ -41,7 +41,7 @@ module _ (st : State) (soft : Soft) (c : ℕ) where
       → (let a : Answer = record { deed = deed; sends = sends; soft = soft } in a) ≡ only_reply c reply soft
   reply_alone reply deed sends deed_is sends_is = λ i. record { deed = deed_is i; sends = sends_is i; soft = soft }
 
-  -- A message that its number alone answers gets that reply.
+  -- A numbered message that makes no deed is answered with its reply.
   numbered_answer : (m : Message) (reply : Reply) → reply_to_numbered st c m ≡ Some reply → IsAnswer st soft c m (only_reply c reply soft)
   numbered_answer (Hello version client fresh) reply e = absurd (none-some reply e)
   numbered_answer (Out n tuple) reply e = sym (ap (λ o. on_out st c n tuple o soft) e)
@@ -56,7 +56,7 @@ module _ (st : State) (soft : Soft) (c : ℕ) where
   numbered_step m reply deed sends ranges e deed_is sends_is =
       still_step m (only_reply c reply soft) _ ranges (numbered_answer m reply e) refl (reply_alone reply deed sends deed_is sends_is)
 
-  -- So is a Hello greeted.
+  -- The greeting of a Hello is a step.
   pub greeted_step : (m : Message) (version client : ℕ) (fresh : Bool) (deed : Option Deed) (sends : List (ℕ × Reply))
       → IsState st → m ≡ Hello version client fresh → deed ≡ None
       → sends ≡ (c, greeting st c version fresh) ∷ [] → IsStep st soft c m (record { deed = deed; sends = sends; soft = soft }) st
@@ -76,7 +76,7 @@ module _ (st : State) (soft : Soft) (c : ℕ) where
       (told, (subst (λ b. SaysAsk b st c ticket remove template soft told) (sym gone) refl, refl)) refl
       (reply_alone (refused (refusals.Left (last_number st c))) deed sends deed_is sends_is)
 
-  -- What is told for an Ask, and for a Cancel, makes no deed.
+  -- The answer to an Ask, and to a Cancel, makes no deed.
   pub asked_step : (bag : Bagged) (ticket : ℕ) (remove : Bool) (template : Template) (deed : Option Deed) (sends items : List (ℕ × Reply)) (new : Soft)
       → IsState st → bag ≡ st.bag → IsHere st c → deed ≡ None → sends ≡ items
       → AnswersAsk bag (request_of c ticket) remove template soft (record { sends = items; soft = new })
@@ -130,7 +130,7 @@ module _ (st : State) (soft : Soft) (c : ℕ) where
       })
       none
 
--- What is held for the request is there for it, and what is held for no one or another is not.
+-- The held tuple, by the test whether the tuple is held for the request.
 held_is : (st : State) (soft : Soft) (request : Request) (id : ℕ) (held_for : Option Request) (found said : Bool) → held_for ≡ get soft.holds id
     → found ≡ is_for request held_for → found ≡ said → held_tuple st request id soft ≡ cond said (get st.bag id) None
 held_is st soft request id held_for found said there is says = ap (λ b. cond b (get st.bag id) None) (sym (ap (is_for request) there) ∙ sym is ∙ says)
@@ -156,7 +156,7 @@ passed_answer st soft c n ticket id held_for found said deed sends there is says
     (λ i. record { deed = deed_is i; sends = sends_is i; soft = soft })
     ∙ sym (ap (λ o. take_or_pass c n id o soft) (held_is st soft (request_of c ticket) id held_for found said there is says ∙ none))
 
--- What is so on a success, from what its parts say.
+-- What holds at Ok, from what its parts say.
 pub if_ok_on : {A E Q : Type 0} {P R : A → Type 0} (r : Result A E) → IfOk r P → OnOk r Q → ((a : A) → P a → Q → R a) → IfOk r R
 if_ok_on (Ok a) p q then = then a p q
 if_ok_on (Err e) p q then = tt

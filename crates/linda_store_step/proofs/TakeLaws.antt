@@ -1,4 +1,4 @@
--- What a Take of a list takes was put before it, and is taken by it alone; and what a Taken and a Gone report.
+-- What a Take of a list takes was put before it, and is taken only by it; and what a Taken and a Gone report.
 use Rattle.std.proofs.Common.{◌≡◌, ℕ, zero, suc, ◌+◌, ◌-◌, ◌<◌, ◌≤◌, nat_lt, Bool, true, false, true≢false, cond, ◌==◌}
 use Rattle.std.proofs.Common.{List, [], ◌∷◌, ◌++◌, length, filter, take, drop, Option, Some, None, is_some, IsSome, All}
 use Rattle.std.proofs.Common.{Contains, slice_get, refl, sym, ap, ◌∙◌, subst, arith, eq-eqb, ltb-false, drop-cons}
@@ -47,7 +47,7 @@ module _ {X : Type 0} (p : X → Bool) where
   kept_at : (xs : List X) (x : X) → Contains xs x → p x ≡ true → Contains (filter p xs) x
   kept_at xs x there = All-contains (λ x. p x ≡ true → Contains (filter p xs) x) xs x (kept xs) there
 
--- Where there is one at most, two are the same.
+-- If there is at most one, two are the same.
 only_one : {X : Type 0} (xs : List X) (x y : X) → length xs ≤ 1 → Contains xs x → Contains xs y → x ≡ y
 only_one [] x y few a b = let within = a.1 in absurd (omega (arith, within))
 only_one (z ∷ w ∷ xs) x y few a b = absurd (omega (arith, few))
@@ -71,7 +71,7 @@ one_take ds c d n m id once first second =
     only_one (filter (takes id) ds) (Take c n id) (Take d m id) (once id)
     (kept_at (takes id) ds (Take c n id) first (eq-eqb id id refl)) (kept_at (takes id) ds (Take d m id) second (eq-eqb id id refl))
 
--- A tuple that is in a bag was put, whatever came later.
+-- A tuple that is in a bag was put, and any later deeds leave it among what was put.
 put_before : (before later : List Deed) (id : ℕ) (tuple : Tuple) → bag_after empty_state before id ≡ Some tuple
     → (1 ≤ id) × (slice_get (outs_of (before ++ later)) (id - 1) ≡ Some tuple)
 put_before before later id tuple e = by (is_taken id before) (nat_lt id 1) refl e
@@ -214,7 +214,7 @@ nobody_more ds i d id lt is before here c n there = by (Contains-push_cases (tak
     by (inl earlier) = before c n earlier
     by (inr now) = here c n now
 
--- Who takes it is the only one.
+-- A client that takes it is the only one.
 pub same_taker : (ds : List Deed) (i : ℕ) (d : Deed) (t : ℕ × ℕ) (id : ℕ) → i < length ds → d ≡ get_or ds i d
     → d ≡ Take t.0 t.1 id → IsTakenOnce ds → (c n : ℕ) → Contains ds (Take c n id) → t ≡ (c, n)
 same_taker ds i d t id lt is found once c n there =

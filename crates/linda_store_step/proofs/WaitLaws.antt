@@ -4,18 +4,18 @@ use Rattle.std.specs.List.{list_any}
 use Rattle.std.proofs.lemmas.Option.{none-some, same_Some}
 use Rattle.std.proofs.lemmas.List.Elements.{All-filter, filter_passes, All-nil, All-cons, All-head, All-tail}
 
--- Where neither of two tests passes, each fails.
+-- If neither of two tests passes, each fails.
 pub or_none : (a b : Bool) → (a || b) ≡ false → (a ≡ false) × (b ≡ false)
 or_none true b none = absurd (true≢false none)
 or_none false b none = (refl, none)
 
 module _ {X : Type 0} (p : X → Bool) where
-  -- What all have, and the test adds to it, those have that are kept.
+  -- If all have P, and what has P and passes the test has Q, all that are kept have Q.
   pub all_kept : (P Q : X → Type 0) → ((x : X) → p x ≡ true → P x → Q x) → (xs : List X) → All P xs → All Q (filter p xs)
   all_kept P Q gives xs all k d within =
       gives (get_or (filter p xs) k d) (filter_passes p xs k d within) (All-filter p P xs all k d within)
 
-  -- Where none is found, none passes.
+  -- If none is found, none passes.
   pub none_found : (xs : List X) → find p xs ≡ None → All (λ x. p x ≡ false) xs
   none_found [] none = All-nil (λ x. p x ≡ false)
   none_found (x ∷ xs) none =
@@ -41,7 +41,7 @@ module _ {X : Type 0} (p : X → Bool) where
         | false ↦ λ rest. found_has P xs x rest (All-tail P y xs all)
       ] found
 
-  -- Where it is said that none passes, none does.
+  -- If `list_any` is false, none passes.
   pub none_passes : (xs : List X) → list_any p xs ≡ false → All (λ x. p x ≡ false) xs
   none_passes [] none = All-nil (λ x. p x ≡ false)
   none_passes (x ∷ xs) none =

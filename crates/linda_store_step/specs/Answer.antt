@@ -61,7 +61,7 @@ last_number st c = number_in (map.get st.book c)
 abbrev pub has_left : State → ℕ → Bool
 has_left st c = left_in (map.get st.book c)
 
--- what a verdict on the client's message hangs on
+-- what a verdict on the client's message depends on
 abbrev pub standing_of : State → ℕ → Standing
 standing_of st c =
     record {
@@ -83,22 +83,23 @@ greeting st c version fresh =
     else (if is_one_too_many st c then (refused refusals.TooManyClients)
     else replies.Welcome (last_number st c)))
 
--- the reply to the client's message of this number, by its verdict; none where its deed is done
+-- the reply to the client's message of this number, by its verdict; none if its deed is done
 abbrev pub reply_by : State → ℕ → ℕ → Verdict → Option Reply
 reply_by st c n (Refused refusal) = Some (refused refusal)
 reply_by st c n Repeated = option_map (λ (e : Entry). reply_of_kept n e.1) (map.get st.book c)
 reply_by st c n Done = None
 
--- The reply to a numbered message that makes no deed; none where its deed is done.
+-- The reply to a numbered message that makes no deed; none if its deed is done.
 abbrev pub without_deed : State → ℕ → Demand → Option Reply
 without_deed st c d = reply_by st c d.n (judge d (standing_of st c))
 
--- the reply to what is asked for; none where nothing with a number is
+-- the reply to a demand that makes no deed; none if there is no demand, or if its deed is done
 abbrev pub reply_to_demand : State → ℕ → Option Demand → Option Reply
 reply_to_demand st c None = None
 reply_to_demand st c (Some d) = without_deed st c d
 
--- the reply to a message that its number alone decides
+-- the reply to a numbered message that makes no deed; none if the message bears no number, or if
+-- its deed is done
 abbrev pub reply_to_numbered : State → ℕ → Message → Option Reply
 reply_to_numbered st c m = reply_to_demand st c (demand_of m)
 
@@ -111,8 +112,8 @@ accept_without_deed st c n = without_deed st c (to_take n)
 abbrev pub leave_without_deed : State → ℕ → ℕ → Option Reply
 leave_without_deed st c n = without_deed st c (to_leave n)
 
--- The answer to an Out, given the reply where it makes no deed. Where it does, the tuple is put
--- under the next id, and the client's reply comes before those to others.
+-- The answer to an Out, given the reply if it makes no deed. If it does, the tuple is put under the
+-- next id, and the client's reply comes before those to others.
 abbrev pub on_out : State → ℕ → ℕ → Tuple → Option Reply → Soft → Answer
 on_out st c n tuple (Some reply) soft = only_reply c reply soft
 on_out st c n tuple None soft =
@@ -128,13 +129,13 @@ abbrev pub is_for : Request → Option Request → Bool
 is_for request None = false
 is_for request (Some other) = same_request other request
 
--- the tuple under this id, where it is held for this request
+-- the tuple under this id, if it is held for this request
 abbrev pub held_tuple : State → Request → ℕ → Soft → Option Tuple
 held_tuple st request id soft =
     if is_for request (map.get soft.holds id) then map.get st.bag id else None
 
--- An accepted offer, given its tuple where it is held for the client: the tuple is taken and its
--- hold is gone; or the offer is gone, and nothing else changes.
+-- An accepted offer, given its tuple if it is held for the client: the tuple is taken and its hold
+-- is gone; or the offer is gone, and nothing else changes.
 abbrev pub take_or_pass : ℕ → ℕ → ℕ → Option Tuple → Soft → Answer
 take_or_pass c n id (Some row) soft =
     record {
@@ -145,14 +146,14 @@ take_or_pass c n id (Some row) soft =
 take_or_pass c n id None soft =
     record { deed = Some (deeds.Pass c n id); sends = (c, replies.Gone n) ∷ []; soft = soft }
 
--- the answer to an Accept, given the reply where it makes no deed
+-- the answer to an Accept, given the reply if it makes no deed
 abbrev pub on_accept : State → ℕ → ℕ → ℕ → ℕ → Option Reply → Soft → Answer
 on_accept st c n ticket id (Some reply) soft = only_reply c reply soft
 on_accept st c n ticket id None soft =
     take_or_pass c n id (held_tuple st (request_of c ticket) id soft) soft
 
--- The answer to a Leave, given the reply where it makes no deed. Where it does, the client's reply
--- comes first, and then all that it asked is given up, as where its connection ends.
+-- The answer to a Leave, given the reply if it makes no deed. If it does, the client's reply comes
+-- first, and then all that it asked is given up, as when its connection ends.
 abbrev pub on_leave : State → ℕ → ℕ → Option Reply → Soft → Answer
 on_leave st c n (Some reply) soft = only_reply c reply soft
 on_leave st c n None soft =
@@ -163,8 +164,8 @@ on_leave st c n None soft =
       soft = told.soft;
     }
 
--- What is told for an Ask, given whether the client left: it is refused, before all else that an
--- Ask may come to.
+-- What is sent for an Ask, given whether the client left: if it did, the Ask is refused before
+-- anything else is checked.
 abbrev pub SaysAsk : Bool → State → ℕ → ℕ → Bool → Template → Soft → Sends → Type 0
 SaysAsk true st c ticket remove template soft told =
     told ≡ only_sent ((c, refused (refusals.Left (last_number st c))) ∷ []) soft

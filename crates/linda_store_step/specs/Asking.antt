@@ -62,7 +62,7 @@ on_ask bag request remove shape None least soft =
     then only_sent ((request.client, refused (refusals.TooManyAsks request.ticket)) ∷ []) soft
     else serve bag request remove shape least soft)
 
--- What is told for an Ask.
+-- What is sent for an Ask, and the holds and waits after it.
 pub record AnswersAsk (bag : Bagged) (request : Request) (remove : Bool) (shape : Template)
     (soft : Soft)
     (told : Sends) : Type 0 where
@@ -72,7 +72,7 @@ pub record AnswersAsk (bag : Bagged) (request : Request) (remove : Bool) (shape 
   pub is_least : IsLeast bag shape (passed_over remove soft.holds) least
   pub told_is : told ≡ on_ask bag request remove shape held least soft
 
--- What is told where a request is given up.
+-- What is sent when a request is given up, and the holds and waits after it.
 pub record AnswersCancel (bag : Bagged) (request : Request) (soft : Soft) (told : Sends)
     : Type 0 where
   pub held : Option ℕ

@@ -1,5 +1,5 @@
--- Course of a server that may be stopped: its deeds and sends over all stops, and where that leaves
--- it.
+-- Course of a server that may be stopped: its deeds and sends over all stops, and the state, holds
+-- and waits after them.
 use Rattle.std.specs.Prelude.{◌≡◌, List, [], ◌∷◌, ◌++◌}
 use Rattle.linda_store_state.specs.State.{State}
 use Rattle.linda_store_state.specs.After.{IsAfter}
@@ -25,7 +25,7 @@ pub record IsStop (st : State) (soft : Soft) (xs : List Coming) (all : History) 
   pub soft_is : all.soft ≡ no_asks
   pub state_is : IsAfter st all.deeds all.state
 
--- What one of them leads to.
+-- What one turn leads to.
 abbrev pub Leads : State → Soft → Turn → History → Type 0
 Leads st soft (comes x) all = Happens st soft (x ∷ []) all
 Leads st soft (stops xs) all = IsStop st soft xs all
@@ -39,7 +39,7 @@ joined first later = record {
   state = later.state;
 }
 
--- What a list of them leads to: the first, and then the others from where that leads.
+-- What a list of turns leads to: the first turn, and then the others from the server after it.
 abbrev pub Endures : State → Soft → List Turn → History → Type 0
 Endures st soft [] all = all ≡ nothing_yet st soft
 Endures st soft (x ∷ xs) all =

@@ -7,12 +7,12 @@ use Rattle.linda_store_state.specs.State.{State}
 use Rattle.linda_store_step.specs.Answer.{last_number}
 use Rattle.linda_store_step.specs.Replies.{kept_in, reports_deed, KeepsReply}
 
--- the number of the deed that a reply reports, 0 where it reports none
+-- the number of the deed that a reply reports, 0 if it reports none
 abbrev pub number_in_reply : Reply → ℕ
 number_in_reply r = number_in (kept_in r)
 
--- What is sent to a client is covered: where it reports a deed, the client's last number is a later
--- one, or the book has that very reply for it.
+-- What is sent to a client is covered: if it reports a deed, the client's last number is a later
+-- one, or the book has that very reply for the client.
 abbrev pub IsCovered : State → ℕ × Reply → Type 0
 IsCovered st send =
     reports_deed send.1 ≡ true

@@ -9,11 +9,11 @@ use Rattle.linda_store_state.specs.Deed.{client_of, number_of, takes, outs_of}
 use Rattle.linda_store_state.specs.State.{empty_state}
 use Rattle.linda_store_state.specs.After.{bag_after, book_after}
 
--- the number of a client's last deed, 0 where it did none
+-- the number of a client's last deed, 0 if it did none
 abbrev pub last_in : List Deed → ℕ → ℕ
 last_in ds c = number_in (book_after empty_state ds c)
 
--- A client's numbers go up to that of its last deed, and each belongs to one deed alone.
+-- A client's numbers go up to that of its last deed, and each belongs to only one deed.
 pub record NumbersEachOnce (ds : List Deed) : Type 0 where
   pub low : (d : Deed) → Contains ds d → number_of d ≤ last_in ds (client_of d)
   pub one :
@@ -22,7 +22,7 @@ pub record NumbersEachOnce (ds : List Deed) : Type 0 where
       → d ≡ e
 
 -- The tuple under this id went to the client: it was put, the client took it, no other deed did,
--- and whatever is done later, it is in no bag any more.
+-- and it is in no bag after these deeds and any later ones.
 pub record HandsOver (ds : List Deed) (c id : ℕ) (tuple : Tuple) : Type 0 where
   pub number : ℕ
   pub taken : Contains ds (Take c number id)

@@ -17,7 +17,7 @@ pub record Sends : Type 0 where
   pub sends : List (ℕ × Reply)
   pub soft : Soft
 
--- nothing is sent, and holds and waits stand so
+-- nothing is sent, and the holds and waits are these
 abbrev pub no_sends : Soft → Sends
 no_sends soft = record { sends = []; soft = soft }
 

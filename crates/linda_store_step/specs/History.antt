@@ -1,5 +1,5 @@
--- History of a server, one thing after another: all deeds and sends, in order, and where that
--- leaves it.
+-- History of a server, one thing after another: all deeds and sends, in order, and the state, holds
+-- and waits after them.
 use Rattle.std.specs.Prelude.{◌≡◌, ℕ, List, [], ◌∷◌, ◌++◌, map, option_to_list}
 use Rattle.linda_wire.specs.declared.message.Message.{Message}
 use Rattle.linda_wire.specs.declared.reply.Reply.{Reply}
@@ -44,7 +44,7 @@ first_then first later = record {
   state = later.state;
 }
 
--- What a list of things to come leads to: the first, and then the others from where that leads.
+-- What a list of things to come leads to: the first, and then the others from the server after it.
 abbrev pub Happens : State → Soft → List Coming → History → Type 0
 Happens st soft [] all = all ≡ nothing_yet st soft
 Happens st soft (x ∷ xs) all =

@@ -27,7 +27,7 @@ to_take n = record { n = n; what = Take }
 abbrev pub to_leave : ℕ → Demand
 to_leave n = record { n = n; what = Leave }
 
--- what a message asks for, where it bears a number
+-- what a message asks for, if it bears a number
 abbrev pub demand_of : Message → Option Demand
 demand_of (messages.Hello version client fresh) = None
 demand_of (messages.Out n tuple) = Some (to_put n)
@@ -62,7 +62,7 @@ has_no_place at = (at.last == 0) && nat_le MAX_CLIENTS at.clients
 abbrev pub is_spent_for : Demand → Standing → Bool
 is_spent_for d at = (d.n == NUMBER_LIMIT) || (puts d.what && (at.next == NUMBER_LIMIT))
 
--- the verdict where the number is the client's next: the first case that holds
+-- the verdict if the number is the client's next: the first case that holds
 abbrev pub judge_fresh : Demand → Standing → Verdict
 judge_fresh d at =
     if has_no_place at then Refused refusals.TooManyClients

@@ -7,8 +7,8 @@ use Rattle.linda_hold.specs.Waits.{Wait}
 use Rattle.linda_hold.specs.Holds.{HeldFor}
 use Rattle.linda_store_step.specs.Soft.{Soft, Bagged}
 
--- The least id of a tuple that the template matches and that is not passed over; none where there
--- is no such one.
+-- The least id of a tuple that the template matches and that is not passed over; none if there is
+-- no such tuple.
 abbrev pub IsLeast : Bagged → Template → (ℕ → Bool) → Option ℕ → Type 0
 IsLeast bag shape passed (Some id) =
     IsFreeMatch bag shape passed id × ((k : ℕ) → k < id → IsFreeMatch bag shape passed k → ⊥)

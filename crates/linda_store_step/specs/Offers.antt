@@ -27,7 +27,8 @@ pub record HasTaker (soft : Soft) (x : Coming) (request : Request) (tuple : Tupl
   pub removes : wait.1.remove ≡ true
   pub matches : Matches wait.1.template tuple
 
--- The tuple of this id is in the bag, is offered now for this request, and has a taker in it.
+-- The tuple of this id is in the bag, is offered now for this request, and the request is an input
+-- that seeks it.
 pub record MakesOffer (bag : Bagged) (soft : Soft) (x : Coming) (sends : List (ℕ × Reply)) (id : ℕ)
     (request : Request) : Type 0 where
   pub tuple : Tuple

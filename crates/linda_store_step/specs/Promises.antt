@@ -1,4 +1,4 @@
--- Promises of states, deeds and steps, in the words of those who hand jobs out.
+-- Promises of states, deeds and steps, in terms of a program that hands out jobs.
 use Rattle.std.specs.Prelude.{◌≡◌, ◌≢◌, ℕ, false, List, ◌∷◌, All, Some, None}
 use Rattle.std.specs.FinMap as map
 use Rattle.linda_hold.specs.declared.request.Request.{Request}
@@ -38,7 +38,7 @@ pub record IsSafe (st : State) (all : History) : Type 0 where
   pub once : IsTakenOnce all.deeds
 
 -- A message that is answered again: it gets the reply that it got first, and nothing else is done
--- or told.
+-- or sent.
 pub record IsAnsweredAgain (c : ℕ) (first again : Answer) (soft : Soft) : Type 0 where
   pub reply : Reply
   pub others : List (ℕ × Reply)
@@ -54,8 +54,9 @@ pub record IsClosed (client : ℕ) (told : Sends) : Type 0 where
   pub requests : (ticket : ℕ) → IsOver (request_of client ticket) told.soft
   pub silent : All (λ (send : ℕ × Reply). send.0 ≢ client) told.sends
 
--- What a client that left by this number is told: to its requests the reply to its Leave, that the
--- number is an older one, or that it left; to a Hello what any client with this last number gets.
+-- What is sent to a client that left by this number: for its requests the reply to its Leave, or a
+-- refusal because the number is an older one or because the client left; for a Hello what any
+-- client with this last number gets.
 pub data LastWord (last : ℕ) : Reply → Type 0 where
   left_again : LastWord last (replies.Left last)
   is_older : LastWord last (refused (refusals.Old last))
@@ -64,8 +65,8 @@ pub data LastWord (last : ℕ) : Reply → Type 0 where
   is_known : LastWord last (refused (refusals.Known last))
   is_welcome : LastWord last (replies.Welcome last)
 
--- A client that had left in the first state, after whatever came: what is kept for it is the same,
--- no deed is its own, it holds nothing and does not wait, and it was told nothing but last words.
+-- A client that had left in the first state, after all that came: what is kept for it is the same,
+-- no deed is its own, it holds nothing and does not wait, and only last words were sent to it.
 pub record IsAway (st : State) (c : ℕ) (all : History) : Type 0 where
   pub kept : map.get all.state.book c ≡ map.get st.book c
   pub deeds : All (λ (d : Deed). client_of d ≢ c) all.deeds

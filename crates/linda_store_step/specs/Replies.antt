@@ -30,7 +30,7 @@ pub record KeepsReply (st : State) (c : ℕ) (r : Reply) : Type 0 where
   pub kept : map.get st.book c ≡ Some entry
   pub reply : r ≡ reply_of_kept entry.0 entry.1
 
--- It has each of these that reports a deed.
+-- The book of this state has each of these replies that reports a deed.
 abbrev pub KeepsReports : State → List (ℕ × Reply) → Type 0
 KeepsReports st sends =
     All (λ (send : ℕ × Reply). reports_deed send.1 ≡ true → KeepsReply st send.0 send.1) sends

@@ -11,8 +11,8 @@ use Rattle.linda_store_step.specs.Answer.{Answer, IsStep}
 use Rattle.linda_store_step.specs.declared.served.StepCounts.{StepCounts}
 use Rattle.linda_store_step.specs.declared.served.Served.{Served}
 
--- Messages, one after another: an answer to each, and where that leaves the state, the holds and
--- the waits.
+-- Messages, one after another: an answer to each, and the state, the holds and the waits after
+-- them.
 abbrev pub AreAnswered : State → Soft → List (ℕ × Message) → List Answer → State → Soft → Type 0
 AreAnswered st soft [] answers new then = (answers ≡ []) × ((new ≡ st) × (then ≡ soft))
 AreAnswered st soft (m ∷ ms) answers new then =
@@ -40,7 +40,7 @@ pub record Tells (told : Served) (answers : List Answer) : Type 0 where
   pub counts : told.counts.items ≡ map counts_of answers
 
 -- From this state, with these holds and waits, the messages were answered so, and what was served
--- says it.
+-- gives these answers.
 pub record IsServed (st : State) (soft : Soft) (ms : List (ℕ × Message)) (told : Served)
     (new : State) (then : Soft) : Type 0 where
   pub answers : List Answer

@@ -39,12 +39,12 @@ pub record Numbers : Type 0 where
 abbrev pub numbers_of : State → Numbers
 numbers_of st = record { last = latest_of st; clients = map.len st.book; next = st.next }
 
--- how a client stands by these numbers
+-- the standing of a client by these numbers
 abbrev pub standing_in : Numbers → ℕ → Standing
 standing_in ns c =
     record { last = (ns.last c).0; left = (ns.last c).1; clients = ns.clients; next = ns.next }
 
--- a demand, where the verdict is that it is done
+-- a demand, if the verdict is that it is done
 abbrev pub if_done : Demand → Verdict → Option Demand
 if_done d (Refused refusal) = None
 if_done d Repeated = None
@@ -67,7 +67,7 @@ numbers_after ns c (Some d) = record {
   next = ns.next + (if puts d.what then 1 else 0);
 }
 
--- the bytes of a message's deed in the form, where it does one
+-- the bytes of a message's deed in the form, if it does one
 abbrev pub deed_bytes : Form → Message → ℕ
 deed_bytes form (messages.Out n tuple) = HEAD_BYTES + length ((value.tuple form).spell tuple)
 deed_bytes form (messages.Leave n) = HEAD_BYTES
@@ -96,32 +96,32 @@ count_from ns [] = 0
 count_from ns (m ∷ ms) =
     count_of (done_of ns m.0 m.1) + count_from (numbers_after ns m.0 (done_of ns m.0 m.1)) ms
 
--- The tuple that a message brings, where it brings one, has a spelling in the form, and a Leave
--- where the form has them.
+-- The tuple that a message brings, if it brings one, has a spelling in the form; a Leave has one if
+-- the form has Leaves.
 abbrev pub Suits : Form → Message → Type 0
 Suits form (messages.Out n tuple) = FitsIn form tuple
 Suits form (messages.Leave n) = HasLeaves form
 Suits form _ = Unit {0}
 
--- What is done of a message, where anything is, has a spelling in the form.
+-- What is done of a message, if anything is, has a spelling in the form.
 abbrev pub SuitsIfDone : Form → Message → Option Demand → Type 0
 SuitsIfDone form m None = Unit {0}
 SuitsIfDone form m (Some d) = Suits form m
 
--- So it is of all that is done of messages, one after another.
+-- All that is done of messages, one after another, has a spelling in the form.
 abbrev pub AllSuit : Form → Numbers → List (ℕ × Message) → Type 0
 AllSuit form ns [] = Unit {0}
 AllSuit form ns (m ∷ ms) =
     SuitsIfDone form m.1 (done_of ns m.0 m.1)
     × AllSuit form (numbers_after ns m.0 (done_of ns m.0 m.1)) ms
 
--- what is last of a client after these, each a client with its number and whether it left; or else
--- this one
+-- the last number of a client after these entries, each a client with its number and whether it
+-- left; this one if no entry is the client's
 abbrev pub last_behind : List (ℕ × Latest) → ℕ → Latest → Latest
 last_behind [] c last = last
 last_behind (e ∷ es) c last = last_behind es c (if e.0 == c then e.1 else last)
 
--- Of a client whose place among the marks has none nothing is among these.
+-- None of these entries is of a client whose place has no mark.
 abbrev pub AreMarked : List Bool → List (ℕ × Latest) → Type 0
 AreMarked met es =
     (c : ℕ) (last : Latest) → get_or met (c % length met) false ≡ false

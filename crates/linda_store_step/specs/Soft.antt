@@ -36,7 +36,7 @@ pub record OfAsking (P : ℕ → Type 0) (soft : Soft) : Type 0 where
 abbrev pub AreApart : Soft → Type 0
 AreApart soft = All (λ (w : Wait). (id : ℕ) → map.get soft.holds id ≡ Some w.0 → ⊥) soft.waits
 
--- The ranges that holds and waits keep beside a bag: no request stands twice in them, no client has
+-- The ranges that holds and waits keep beside a bag: no request is in them twice, no client has
 -- more open asks than the limit, and what is held is in the bag.
 pub record IsSoft (bag : Bagged) (soft : Soft) : Type 0 where
   pub distinct : AreDistinct soft.waits

@@ -14,8 +14,8 @@ ghost use Rattle.linda_store_step.specs.Reported.{number_of_message};
 use linda_store_state::Deed;
 use linda_wire::{Message, Reply};
 
-/// The number of the client's last deed among these, 0 where it did none: looked for from the end,
-/// so what a client did lately is found soon.
+/// The number of the client's last deed among these, 0 if it did none. The search starts at the
+/// end, so a recent deed is found soon.
 pub fn last_number(deeds: &[Deed], client: u32) -> u64
     ensures { result ≡ last_in deeds.now client }
 {
@@ -30,8 +30,8 @@ pub fn last_number(deeds: &[Deed], client: u32) -> u64
     0
 }
 
-/// Who takes the tuple of this id by one of these deeds, and by which number; nobody only where no
-/// deed takes it.
+/// The client that takes the tuple of this id by one of these deeds, and the number of that deed;
+/// `None` only if no deed takes the tuple.
 pub fn taker_of(deeds: &[Deed], id: u64) -> Option<(u32, u64)>
     ensures found { IfSome result (λ taker. Contains deeds.now (Take taker.0 taker.1 id)) }
     ensures none { IfNone result ((c n : ℕ) → Contains deeds.now (Take c n id) → ⊥) }
@@ -46,7 +46,7 @@ pub fn taker_of(deeds: &[Deed], id: u64) -> Option<(u32, u64)>
     None
 }
 
-// The client of the deed and its number, where it takes the tuple of this id.
+// The client of the deed and its number, if it takes the tuple of this id.
 fn takes(deed: &Deed, id: u64) -> Option<(u32, u64)>
     ensures found { IfSome result (λ taker. deed.now ≡ Take taker.0 taker.1 id) }
     ensures none { IfNone result ((c n : ℕ) → deed.now ≡ Take c n id → ⊥) }

@@ -45,7 +45,7 @@ impl Demand {
     }
 }
 
-/// What a verdict hangs on, beside the number of the message.
+/// What a verdict depends on, beside the number of the message.
 #[derive(Clone, Copy)]
 pub(crate) struct Standing {
     /// The last number that is kept for the client, 0 if there is none.
@@ -59,7 +59,7 @@ pub(crate) struct Standing {
 }
 
 impl Standing {
-    /// How the client stands with the server of this state.
+    /// The standing of the client in this state.
     pub(crate) fn of<B: Bag>(state: &State<B>, client: u32) -> Standing
         ensures { result ≡ standing_of state.now client }
     {
@@ -76,7 +76,7 @@ impl Standing {
 /// What is done about a numbered message.
 #[derive(Clone, Copy)]
 pub(crate) enum Verdict {
-    /// Nothing is done, and the client is told why.
+    /// Nothing is done, and the reply gives the reason.
     Refused(Refusal),
     /// It is the last message come again: the client gets the kept reply.
     Repeated,
@@ -84,7 +84,7 @@ pub(crate) enum Verdict {
     Done,
 }
 
-/// What the message asks for, where it bears a number.
+/// What the message asks for, if it bears a number.
 pub(crate) fn demand_of(message: &Message) -> Option<Demand>
     ensures { result ≡ spec.demand_of message.now }
 {
@@ -118,7 +118,7 @@ pub(crate) fn judge(demand: Demand, at: Standing) -> Verdict
     }
 }
 
-// The verdict where the number is the client's next.
+// The verdict if the number is the client's next.
 fn judge_fresh(demand: Demand, at: Standing) -> Verdict
     ensures { result ≡ spec.judge_fresh demand at }
 {

@@ -34,14 +34,14 @@ pub fn deeds_are_answered_as_kept()
         → IsAnsweredAsKept c answered.sends new }
 {}
 
-/// A message has one answer, where no request holds two tuples.
+/// A message has one answer, if no request holds two tuples.
 pub fn one_answer()
     ensures { (st : State) (soft : Soft) (c : ℕ) (m : Message) (a b : Answer)
         → IsOneEach soft.holds → IsAnswer st soft c m a → IsAnswer st soft c m b → a ≡ b }
 {}
 
-/// Whatever comes to a server in order has an outcome: a message an answer, and a list of messages
-/// and closings all that they lead to.
+/// All that comes to a server in order has an outcome: a message has an answer, and a list of
+/// messages and closings has a history.
 pub fn all_that_comes_has_an_outcome()
     ensures message { (st : State) (soft : Soft) (c : ℕ) (m : Message) → IsOrderly st soft
         → (answered : Answer) × ((new : State) × IsStep st soft c m answered new) }
@@ -55,9 +55,9 @@ pub fn steps_keep_order()
         → IsOrderly st soft → IsStep st soft c m answered new → IsOrderly new answered.soft }
 {}
 
-/// Whatever comes to a server, messages of whatever clients and ends of their connections, in
-/// whatever order and however often: the deeds are a proper list, so no tuple is taken twice, and
-/// the server is in order in the state after them.
+/// After any messages of any clients and any ends of their connections, in any order and of any
+/// number: the deeds are a proper list, so no tuple is taken twice, and the server is in order in
+/// the state after them.
 pub fn no_history_takes_a_tuple_twice()
     ensures { (st : State) (soft : Soft) (xs : List Coming) (all : History)
         → IsOrderly st soft → Happens st soft xs all → IsSafe st all }
@@ -72,15 +72,15 @@ pub fn a_list_has_one_outcome()
         → IsOrderly st soft → Happens st soft xs a → Happens st soft xs b → a ≡ b }
 {}
 
-/// No tuple is taken twice where the server is stopped, too, in whatever it does and however often:
-/// it comes back with some first deeds of what was in hand.
+/// No tuple is taken twice even if the server is stopped, at any point and any number of times: it
+/// comes back with some first deeds of what was in hand.
 pub fn no_history_with_stops_takes_a_tuple_twice()
     ensures { (st : State) (soft : Soft) (xs : List Turn) (all : History)
         → IsOrderly st soft → Endures st soft xs all → IsSafe st all }
 {}
 
 /// A message that did a deed, and comes again while the client's entry is as that left it, gets the
-/// same reply again, whatever else has happened; and nothing else is done or told.
+/// same reply again, whatever else has happened; and nothing else is done or sent.
 pub fn a_repeated_message_gets_the_same_reply()
     ensures { (st new later : State) (soft asks : Soft) (c : ℕ) (m : Message) (first again : Answer)
         → IsState st → IsStep st soft c m first new → IsSome first.deed
@@ -101,9 +101,10 @@ pub fn a_closed_client_asks_nothing()
         → IsSoft bag soft → IsClosed client (on_close bag client soft) }
 {}
 
-/// Once a client's Leave is done it has left for good: whatever comes to the server, stops too,
-/// what is kept for it stays, no deed is its own, it holds nothing and does not wait, and it is
-/// told nothing but that it left, or that a number is older; and to a Hello what any client gets.
+/// Once a client's Leave is done it has left for good: after all that comes to the server, and
+/// after stops, what is kept for it is the same, no deed is its own, and it holds nothing and does
+/// not wait. The only replies to it say that it left or that a number is older, or answer a Hello
+/// as for any client.
 pub fn a_client_that_left_stays_away()
     ensures leaves { (st new : State) (soft : Soft) (c d n : ℕ) (m : Message) (answered : Answer)
         → IsState st → IsStep st soft c m answered new → answered.deed ≡ Some (Leave d n)

@@ -5,8 +5,8 @@
 //! - `Store::step` takes one message and answers with the deed that it did, if it did one, and the
 //!   replies, exactly as the table in `specs/Answer` says. `Store::close` gives up all that a
 //!   client asked.
-//! - What follows from these definitions, in the words of those who hand jobs out, is stated by the
-//!   functions of `laws`; what deeds and replies come to for the layers above, by those of
+//! - What follows from these definitions, in terms of a program that hands out jobs, is stated by
+//!   the functions of `laws`; what deeds and replies come to for the layers above, by those of
 //!   `promises`.
 //! - `deeds` finds the deed that a message led to, the last number of a client, and the taker of a
 //!   tuple.

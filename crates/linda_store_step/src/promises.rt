@@ -30,7 +30,7 @@ pub fn what_is_reported_is_kept()
         → IsState st → IsStep st soft c m answered new → KeepsReports new answered.sends }
 {}
 
-/// Where a client is closed, what it held is offered only to requests that wait for such a tuple.
+/// When a client is closed, what it held is offered only to requests that wait for such a tuple.
 pub fn closings_offer_only_what_is_sought()
     ensures { (bag : Bagged) (x : Coming) (client : ℕ) (old : Soft)
         → OffersWhatIsSought bag x old (on_close bag client old).sends
@@ -53,16 +53,16 @@ pub fn takes_hand_over_what_was_put()
         → (tuple : Tuple) × HandsOver ds c id tuple }
 {}
 
-/// Where no tuple is taken twice, two Takes of one tuple are one deed.
+/// If no tuple is taken twice, two Takes of one tuple are one deed.
 pub fn two_takes_of_a_tuple_are_one()
     ensures { (ds : List Deed) (c d n m id : ℕ)
         → IsTakenOnce ds → Contains ds (Take c n id) → Contains ds (Take d m id)
         → Take c n id ≡ Take d m id }
 {}
 
-/// Each number of a client belongs to one deed alone. Who is told Taken did that Take, and is told
-/// the tuple that was put under the id. Who is told Gone passed on, and took nothing by that
-/// number.
+/// Each number of a client belongs to only one deed. A client that gets the reply Taken did that
+/// Take, and the reply has the tuple that was put under the id. A client that gets the reply Gone
+/// passed on, and took nothing by that number.
 pub fn replies_report_what_was_done()
     ensures once { (ds : List Deed) → IsProper empty_state ds → NumbersEachOnce ds }
     ensures taken { (ds : List Deed) (c n id : ℕ) (tuple : Tuple)
@@ -90,15 +90,15 @@ pub fn replies_tell_the_deed()
         → answered.deed ≡ reported_deed c m (last_number st c) answered.sends }
 {}
 
-/// The deed of a step is one that its client's message asks for, whatever the server held before.
+/// The deed of a step is one that its client's message asks for, no matter what the server held
+/// before.
 pub fn deeds_are_those_asked_for()
     ensures { (st new : State) (c : ℕ) (old : Soft) (m : Message) (answered : Answer) (d : Deed)
         → IsStep st old c m answered new → answered.deed ≡ Some d → IsDeedOf c m d }
 {}
 
-/// Whatever comes to a server, what was covered before stays so, and all that is sent is covered
-/// then: of each deed that a reply reports, the book has this reply until its client has done a
-/// later one.
+/// After all that comes to a server, what was covered before is still covered, and so is all that
+/// was sent: the book has each reply that reports a deed until its client has done a later deed.
 pub fn what_is_covered_stays_so()
     ensures stays { (st : State) (soft : Soft) (xs : List Coming) (all : History) (send : ℕ × Reply)
         → IsState st → Happens st soft xs all → IsCovered st send → IsCovered all.state send }

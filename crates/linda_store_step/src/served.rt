@@ -64,7 +64,7 @@ impl Served {
         Ok(sends)
     }
 
-    /// The replies alone.
+    /// Only the replies.
     pub fn into_sends(self) -> Vec<(u32, Reply)>
         ensures { result ≡ self.sends }
     {
@@ -72,7 +72,7 @@ impl Served {
         sends
     }
 
-    /// The changes of the state alone.
+    /// Only the changes of the state.
     pub fn into_deeds(self) -> Vec<Deed>
         ensures { result ≡ self.deeds }
     {

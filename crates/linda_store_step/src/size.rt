@@ -26,7 +26,7 @@ pub const MAX_BATCH: usize = linda_store_state::MAX_DEEDS;
 /// several records.
 pub const MAX_GROUP: usize = 1024;
 
-// For so many messages the room for what is last of their clients is small.
+// Up to so many messages, the room for the last numbers of their clients is small.
 const FEW: usize = 64;
 
 // How many places there are for marks of clients that did a deed: for so few messages, and for
@@ -44,8 +44,8 @@ pub struct Need {
     pub bytes: usize,
 }
 
-/// What the deeds of the messages need in the form, each of its client, one after another; None if
-/// one of them has no spelling there.
+/// What the deeds of the messages need in the form, each of its client, one after another; `None`
+/// if one of them has no spelling there.
 pub(crate) fn need_of<B: Bag>(
     form: Form,
     state: &State<B>,
@@ -79,7 +79,7 @@ pub(crate) fn need_of<B: Bag>(
     )
 }
 
-// The same. What is last of each client so far is kept in `lasts`, and in `met` a mark for each
+// The same. The last number of each client so far is kept in `lasts`, and in `met` a mark for each
 // client that did a deed.
 fn need_within<B: Bag>(
     form: Form,
@@ -129,8 +129,8 @@ fn need_within<B: Bag>(
     })
 }
 
-/// What the deed of the client's message needs in the form, nothing if it does none; None if it has
-/// no spelling there.
+/// What the deed of the client's message needs in the form, nothing if it does none; `None` if it
+/// has no spelling there.
 pub(crate) fn need_of_one<B: Bag>(
     form: Form,
     state: &State<B>,
@@ -156,7 +156,7 @@ pub(crate) fn need_of_one<B: Bag>(
     }
 }
 
-// What is done of the message, where its client stands so.
+// What is done of the message, if its client has this standing.
 fn done_of(message: &Message, at: Standing) -> Option<Demand>
     ensures { result ≡ spec.done_by (demand_of message.now) at }
 {
@@ -167,7 +167,7 @@ fn done_of(message: &Message, at: Standing) -> Option<Demand>
     }
 }
 
-// How many bytes the deed of the message spells in the form, where it does one; None where it has
+// How many bytes the deed of the message spells in the form, if it does one; `None` if the deed has
 // no spelling there.
 fn deed_bytes(form: Form, message: &Message) -> Option<usize>
     ensures exact { IfSome result (λ bytes. bytes ≡ spec.deed_bytes form message.now) }
@@ -192,9 +192,9 @@ fn deed_bytes(form: Form, message: &Message) -> Option<usize>
     }
 }
 
-// What is last of the client after these, each a client with its number and whether it left; or
-// else this one. They are gone through only if the client's place is marked, so a group of many
-// clients takes no more for each of them than a small one.
+// The last number of the client after these entries, each a client with its number and whether it
+// left; `last` if no entry is the client's. The entries are searched only if the client's place is
+// marked, so a large group takes no more time for each client than a small one.
 fn latest(met: &[bool], lasts: &[(u32, (u64, bool))], client: u32, last: (u64, bool)) -> (u64, bool)
     requires places { 0 < length met.now }
     requires marked { AreMarked met.now lasts.now }

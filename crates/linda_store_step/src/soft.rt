@@ -1,7 +1,7 @@
 //! Soft state of a server, kept in memory only: which tuple is held for which request, and the
 //! requests that wait.
 //!
-//! After an error of a call here nothing is promised of the holds and waits: their owner starts
+//! After an error of a call here nothing is promised about the holds and waits: their owner starts
 //! with none.
 
 mod ask;
@@ -72,7 +72,7 @@ impl Soft {
     ///
     /// # Errors
     ///
-    /// `AllocError` where memory runs out.
+    /// `AllocError` if memory runs out.
     pub(crate) fn dispatch(
         &mut self,
         alloc: Global,
@@ -102,7 +102,7 @@ impl Soft {
     ///
     /// # Errors
     ///
-    /// `AllocError` where memory runs out.
+    /// `AllocError` if memory runs out.
     pub(crate) fn release<B: Bag>(
         &mut self,
         alloc: Global,
@@ -174,7 +174,7 @@ impl Soft {
     ///
     /// # Errors
     ///
-    /// `AllocError` where memory runs out.
+    /// `AllocError` if memory runs out.
     pub(crate) fn cancel<B: Bag>(
         &mut self,
         alloc: Global,
@@ -211,7 +211,7 @@ impl Soft {
     ///
     /// # Errors
     ///
-    /// `AllocError` where memory runs out.
+    /// `AllocError` if memory runs out.
     pub(crate) fn close<B: Bag>(
         &mut self,
         alloc: Global,

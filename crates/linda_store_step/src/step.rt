@@ -19,7 +19,7 @@ use std::alloc::{AllocError, Global};
 /// What one message came to.
 #[derive(Drop)]
 pub struct Step {
-    /// The change of the state, where there is one.
+    /// The change of the state, if there is one.
     pub deed: Option<Deed>,
     /// The replies with the clients that they go to, in order.
     pub sends: Vec<(u32, Reply)>,
@@ -30,8 +30,8 @@ pub struct Step {
 ///
 /// # Errors
 ///
-/// `AllocError` where memory runs out, and then the state is as before; nothing is said of what is
-/// held and waits.
+/// `AllocError` if memory runs out, and then the state is as before; nothing is promised about the
+/// holds and waits.
 pub(crate) fn answer_message<B: Bag>(
     state: &mut State<B>,
     soft: &mut Soft,
@@ -56,7 +56,7 @@ pub(crate) fn answer_message<B: Bag>(
     }
 }
 
-// Does what a message asks that is not answered by its number alone.
+// Does what a message asks, if it is not a numbered message that makes no deed.
 fn act<B: Bag>(
     state: &mut State<B>,
     soft: &mut Soft,

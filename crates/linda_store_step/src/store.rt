@@ -31,8 +31,8 @@ use std::marker::Model;
 /// It keeps its ranges: ids below the next id, which is from 1 to 2^63; kept numbers from 1 to
 /// 2^63 - 1; at most 65,536 clients, those that left among them; at most 64 open asks a client,
 /// each under a ticket of its own; and what is held is in the bag. Nobody waits in vain: no tuple
-/// that is there matches a read that waits, and none that is not held an input. A client that left
-/// holds nothing and does not wait.
+/// that is there matches a read that waits, and no tuple that is not held matches an input that
+/// waits. A client that left holds nothing and does not wait.
 ///
 /// Once memory ran out the store is spent: it keeps its state, holds nothing, lets nobody wait, and
 /// answers each call with that error.
@@ -86,9 +86,9 @@ impl<B: Bag> Store<B> {
         }
     }
 
-    /// What waits is kept by random keys from now on, which no client knows, if nobody waits yet:
-    /// so clients cannot make look-ups slow by what they ask and give up. For a program that serves
-    /// strangers, at its start. Nothing changes that a call answers.
+    /// From now on what waits is kept by random keys that no client knows, if nobody waits yet: so
+    /// clients cannot make look-ups slow by what they ask and give up. A program that serves
+    /// strangers calls this at its start. What other calls answer does not change.
     pub fn choose_keys(&mut self, keys: RandomState)
         ensures { self.new ≡ self.old }
     {
@@ -96,20 +96,20 @@ impl<B: Bag> Store<B> {
     }
 
     /// Sets the present second, from which on `Holds` and `Waits` count how long a tuple is held
-    /// and a request waits. Seconds never fall; until one is set nothing is noted. Nothing changes
-    /// that a call answers.
+    /// and a request waits. Seconds never fall; until one is set nothing is noted. What other calls
+    /// answer does not change.
     pub fn set_second(&mut self, second: u64)
         ensures { self.new ≡ self.old }
     {
         self.soft.set_second(second);
     }
 
-    /// Does what the message of the client asks, and answers it. No greeting is asked before.
+    /// Does what the message of the client asks, and answers it. No Hello is needed before.
     ///
     /// # Errors
     ///
-    /// `AllocError` where memory runs out, and then the state is as before and the store is spent;
-    /// and always where it is spent already.
+    /// `AllocError` if memory runs out, and then the state is as before and the store is spent; and
+    /// always if it is spent already.
     pub fn step(
         &mut self,
         alloc: Global,
@@ -129,7 +129,7 @@ impl<B: Bag> Store<B> {
     }
 
     /// The same. The replies are put into `room`, which has none yet: so its memory, that of an
-    /// earlier step, say, is used again. It is dropped where memory runs out.
+    /// earlier step, say, is used again. It is dropped if memory runs out.
     ///
     /// # Errors
     ///
@@ -175,8 +175,8 @@ impl<B: Bag> Store<B> {
     ///
     /// # Errors
     ///
-    /// `AllocError` where memory runs out: some first messages may be done, and the store is spent;
-    /// and always where it is spent already.
+    /// `AllocError` if memory runs out: some first messages may be done, and the store is spent;
+    /// and always if it is spent already.
     pub fn step_all(
         &mut self,
         alloc: Global,
@@ -207,8 +207,8 @@ impl<B: Bag> Store<B> {
     ///
     /// # Errors
     ///
-    /// `AllocError` where memory runs out: the message may be done, and the store is spent; and
-    /// always where it is spent already.
+    /// `AllocError` if memory runs out: the message may be done, and the store is spent; and always
+    /// if it is spent already.
     pub fn add_step(
         &mut self,
         alloc: Global,
@@ -263,7 +263,7 @@ impl<B: Bag> Store<B> {
     }
 
     /// How many bytes the deeds of the messages will spell in the form, as `step_all` does them;
-    /// None if one of them will have no spelling there. Takes no memory, and changes nothing.
+    /// `None` if one of them will have no spelling there. Takes no memory, and changes nothing.
     pub fn size_of(&self, form: Form, messages: &[(u32, Message)]) -> Option<u64>
         requires { length messages.now ≤ MAX_GROUP }
         ensures bytes { (all : History) → Answers self.now.state self.now.soft messages.now all
@@ -280,7 +280,7 @@ impl<B: Bag> Store<B> {
         }
     }
 
-    /// What the deeds of the messages will need in the form, as `step_all` does them; None if one
+    /// What the deeds of the messages will need in the form, as `step_all` does them; `None` if one
     /// of them will have no spelling there. Takes no memory, and changes nothing.
     pub fn need_of(&self, form: Form, messages: &[(u32, Message)]) -> Option<Need>
         requires { length messages.now ≤ MAX_GROUP }
@@ -293,7 +293,7 @@ impl<B: Bag> Store<B> {
     }
 
     /// What the deed of the client's message will need in the form, as `step` does it, and nothing
-    /// if it will do none; None if it will have no spelling there. Takes no memory, and changes
+    /// if it will do none; `None` if it will have no spelling there. Takes no memory, and changes
     /// nothing.
     pub fn need_of_one(&self, form: Form, client: u32, message: &Message) -> Option<Need>
         ensures need { (all : History)
@@ -310,8 +310,8 @@ impl<B: Bag> Store<B> {
     ///
     /// # Errors
     ///
-    /// `AllocError` where memory runs out, and then the store is spent; and always where it is
-    /// spent already.
+    /// `AllocError` if memory runs out, and then the store is spent; and always if it is spent
+    /// already.
     pub fn close(&mut self, alloc: Global, client: u32) -> Result<Vec<(u32, Reply)>, AllocError>
         ensures ok { IfOk result (λ sends. record { sends = sends.items; soft = self.new.soft }
             ≡ on_close self.old.state.bag client self.old.soft) }

@@ -1,4 +1,4 @@
--- What follows where a template matches a tuple.
+-- What follows if a template matches a tuple.
 use Rattle.std.proofs.Common.{◌≡◌, true, List, [], ◌∷◌}
 use Rattle.std.specs.Prelude.{IsTrue}
 use Rattle.std.specs.List.{AllZip}
@@ -15,7 +15,7 @@ use Rattle.linda_tuple.specs.Sameness.{same_atom, same_atom-decides}
 abbrev pub Fits : Pattern → Atom → Type 0
 Fits pattern atom = IsTrue (is_fit pattern atom)
 
--- A value fits itself alone.
+-- A value fits only itself.
 pub fits_itself : (v atom : Atom) → Fits (patterns.Value v) atom → v ≡ atom
 fits_itself v atom fits = (same_atom-decides v atom).0 fits
 

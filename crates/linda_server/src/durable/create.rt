@@ -26,17 +26,16 @@ impl<D: Disk> Durable<D> {
     ///
     /// # Errors
     ///
-    /// `NotEmpty`, and `LimitRange` only where both disks are empty: nothing was written. `Disk`
-    /// where a device failed, `Memory`: the left disk holds the whole new bank or none. Each hands
-    /// the disks back, left and right.
+    /// `NotEmpty`, and `LimitRange` only if both disks are empty: nothing was written. `Disk` if a
+    /// device failed, `Memory`: the left disk holds the whole new bank or none. Each hands the
+    /// disks back, left and right.
     pub fn create(
         alloc: Global,
         left: D,
         right: D,
         limit: usize,
     ) -> Result<Durable<D>, (OpenFault, D, D)>
-        // Where both were empty, at no moment crashes leave anything but no bank, or the empty
-        // state;
+        // If both were empty, crashes at any moment leave only no bank, or the empty state;
         ensures any_moment { D.honest left → D.honest right → IsVoid (D.view left)
             → IsVoid (D.view right)
             → IfOk result (λ s. PairsSince (two (D.view left) (D.view right))
@@ -70,7 +69,7 @@ impl<D: Disk> Durable<D> {
         ensures honest { IfOk result (λ s. (D.honest left × D.honest right) ↔ BothHonest s.disks)
             × IfErr result (λ e. (D.honest left × D.honest right)
             ↔ (D.honest e.1 × D.honest e.2)) }
-        // The counts of failures rise where a device is reported to have failed, and there alone.
+        // A count of failures rises if a device is reported to have failed, and only then.
         ensures cause { IfErr result (λ e. TellsFailuresOfTwo OpenFault.Disk e.0
             (D.failures left) (D.failures right) (D.failures e.1) (D.failures e.2)) }
     {

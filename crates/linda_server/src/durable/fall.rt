@@ -18,8 +18,8 @@ impl<D: Disk> Durable<D> {
     ghost use Rattle.linda_server.specs.Lives.{StaysOn};
     ghost use Rattle.linda_server.specs.Node.{shown};
 
-    /// Begins the work, of which nothing is sent, and counts as down from then on, whatever becomes
-    /// of it.
+    /// Begins the work, of which nothing is sent, and counts as down from then on, no matter how
+    /// the work ends.
     pub(super) fn fall(&mut self, alloc: Global, work: Work)
         requires up { self.old.down ≡ false }
         requires batch { IsBatch work }
@@ -70,7 +70,7 @@ impl<D: Disk> Durable<D> {
     ///
     /// # Errors
     ///
-    /// `Down` where it could not be opened: it is down as before.
+    /// `Down` if it could not be opened: it is down as before.
     pub(super) fn come_back(&mut self, alloc: Global) -> Result<Vec<Deed>, NodeFault>
         requires { self.old.down ≡ true }
         ensures opened { BothHonest self.old.disks

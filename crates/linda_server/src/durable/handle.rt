@@ -66,7 +66,7 @@ impl<D: Disk> Durable<D> {
     ///
     /// # Errors
     ///
-    /// `Down` where it was down, and then nothing changed; or memory ran out: the server is down.
+    /// `Down`: the server was down, and nothing changed; or it is because memory ran out.
     pub fn close(&mut self, alloc: Global, client: u32) -> Result<Vec<(u32, Reply)>, NodeFault>
         ensures any_moment { self.old.down ≡ false
             → AlwaysLeave self.old.disks self.new.disks (StandsFor self.old.store.state) }

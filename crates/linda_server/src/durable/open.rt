@@ -24,27 +24,27 @@ impl<D: Disk> Durable<D> {
     ghost use Rattle.linda_server.specs.Calls.{IsLimit};
     ghost use Rattle.linda_server.specs.Opening.{IsOpenFault};
 
-    /// Opens the server that two disks hold: its state is the one that stands on them, nothing is
+    /// Opens the server that two disks hold: its state is the one that they represent, nothing is
     /// held and nobody waits. Both disks are synced first; nothing is written.
     ///
     /// # Errors
     ///
-    /// `LimitRange` before all others; `NoStore`, `Damaged`, `Disk` where a device failed,
-    /// `Memory`. Each hands the disks back, left and right.
+    /// `LimitRange` before all others; `NoStore`, `Damaged`, `Disk` if a device failed, `Memory`.
+    /// Each hands the disks back, left and right.
     pub fn open(
         alloc: Global,
         left: D,
         right: D,
         limit: usize,
     ) -> Result<Durable<D>, (OpenFault, D, D)>
-        // Its state is the one that stands in what the disks read at entry,
+        // Its state is the one that the disks represent as they read at entry,
         ensures found { D.honest left → D.honest right → IfOk result (λ s.
             Stands (D.view left).seen (D.view right).seen s.store.state) }
         // and crashes leave that now.
         ensures now { IfOk result (λ s. StandNow s.disks s.store.state) }
         ensures new { IfOk result (λ s. (s.store.soft ≡ no_asks) × (s.limit ≡ limit)
             × (s.down ≡ false)) }
-        // Where a state stands, that one is opened, or a device failed, or memory ran out.
+        // If they represent a state, that one is opened, or a device failed, or memory ran out.
         ensures only { (st : states.State) → D.honest left → D.honest right → IsLimit limit
             → Stands (D.view left).seen (D.view right).seen st
             → IfOk result (λ s. s.store.state ≡ st)
@@ -53,9 +53,9 @@ impl<D: Disk> Durable<D> {
         ensures fault { D.honest left → D.honest right
             → IfErr result (λ e. IsOpenFault (D.view left).seen (D.view right).seen limit e.0) }
         ensures limit { IfOk result (λ s. IsLimit limit) }
-        // The limit is judged before all else: where it is out of range, no device call is made.
+        // The limit is judged before all else: if it is out of range, no device call is made.
         ensures first { (IsLimit limit → ⊥) → IsErrOf result (OpenFault.LimitRange, left, right) }
-        // At no moment a crash leaves of a disk what it could not leave at entry.
+        // A crash at any moment leaves of a disk only what it could leave at entry.
         ensures any_moment { D.honest left → D.honest right
             → IfOk result (λ s. LeavesNoOther (two (D.view left) (D.view right))
             (both_of s.disks))
@@ -68,7 +68,7 @@ impl<D: Disk> Durable<D> {
         ensures honest { IfOk result (λ s. (D.honest left × D.honest right) ↔ BothHonest s.disks)
             × IfErr result (λ e. (D.honest left × D.honest right)
             ↔ (D.honest e.1 × D.honest e.2)) }
-        // The counts of failures rise where a device is reported to have failed, and there alone.
+        // A count of failures rises if a device is reported to have failed, and only then.
         ensures cause { IfErr result (λ e. TellsFailuresOfTwo OpenFault.Disk e.0
             (D.failures left) (D.failures right) (D.failures e.1) (D.failures e.2)) }
     {
@@ -105,7 +105,7 @@ impl<D: Disk> Durable<D> {
     }
 }
 
-// What a server returns where no bank was chosen.
+// What a server returns if no bank was chosen.
 fn of_choice(fault: ChoiceFault) -> OpenFault
     ensures { result ≡ fault_of_choice fault }
 {

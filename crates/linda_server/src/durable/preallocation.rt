@@ -17,14 +17,14 @@ impl<D: Disk> Durable<D> {
     /// Sees to it that the file of the bank in use has so many bytes, or as many as its limit
     /// allows: closed gates are written after what it has, and synced, so that records that come
     /// there need no new length of the file. Returns whether it has them. If the device does not
-    /// take them, or memory runs out, the file is as it was, and the server goes on. Nothing
-    /// changes that a client sees, nor what a snapshot in steps comes to.
+    /// take them, or memory runs out, the file is as it was, and the server goes on. No client sees
+    /// a change, and a snapshot in steps comes to the same.
     ///
     /// # Errors
     ///
     /// `Down`: it was down, or it is because a device failed otherwise or memory ran out.
     pub fn preallocate(&mut self, alloc: Global, to: usize) -> Result<bool, NodeFault>
-        // It goes on for the same state, and it falls as said.
+        // The state stays the same, and `Falls` says what a fault means.
         ensures rewrites { Rewrites self.old result self.new }
         ensures falls { Falls self.old result self.new }
         ensures never_full { IsErrOf result NodeFault.Full → ⊥ }
@@ -39,15 +39,15 @@ impl<D: Disk> Durable<D> {
         }
     }
 
-    /// Sees to it that the file of the bank in use has so many bytes. It is what `preallocate`
-    /// stands on, and distinguishes a device's failure from `Memory`.
+    /// Sees to it that the file of the bank in use has so many bytes. It is what `preallocate` is
+    /// built on, and distinguishes a device's failure from `Memory`.
     ///
     /// # Errors
     ///
     /// `Down`: it was down. `Disk` if the device failed otherwise, and `Memory` if the disk found
     /// none: the server is down.
     pub fn lengthen(&mut self, alloc: Global, to: usize) -> Result<bool, ServeFault>
-        // It goes on for the same state, and it fails as said.
+        // The state stays the same, and `Fails` says what a fault means.
         ensures rewrites { Rewrites self.old result self.new }
         ensures fails { Fails self.old result self.new }
         ensures never_full { IsErrOf result ServeFault.Full → ⊥ }

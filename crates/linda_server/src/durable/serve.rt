@@ -45,8 +45,8 @@ impl<D: Disk> Durable<D> {
     ///
     /// # Errors
     ///
-    /// `Down`, then `Full`: nothing changed. `Disk` where the device failed, and `Memory`: the
-    /// server is down, nothing is to be sent, and all of the deeds are done or none.
+    /// `Down`, then `Full`: nothing changed. `Disk` if the device failed, and `Memory`: the server
+    /// is down, nothing is to be sent, and all of the deeds are done or none.
     pub fn serve_all(
         &mut self,
         alloc: Global,
@@ -90,8 +90,8 @@ impl<D: Disk> Durable<D> {
         self.settle(alloc, served)
     }
 
-    // What the deeds of the messages will need on the bank in use; None if one of them will have no
-    // spelling in its form.
+    // What the deeds of the messages will need on the bank in use; `None` if one of them will have
+    // no spelling in its form.
     fn need_of(&self, batch: Messages<'_>) -> Option<Need>
         requires { length (messages_of batch) ≤ MAX_GROUP }
         ensures need { (all : History)
@@ -107,8 +107,8 @@ impl<D: Disk> Durable<D> {
         }
     }
 
-    // Whether it may do deeds that need this; it is None if one of them has no spelling in the form
-    // of the bank in use.
+    // Whether it may do deeds that need this; it is `None` if one of them has no spelling in the
+    // form of the bank in use.
     fn admit(&self, need: Option<Need>) -> Result<(), ServeFault>
         requires { IfSome need (λ need. need.deeds ≤ MAX_GROUP) }
         ensures was_down { IsErrOf result ServeFault.Down ↔ (self.now.down ≡ true) }
@@ -132,7 +132,7 @@ impl<D: Disk> Durable<D> {
         Ok(())
     }
 
-    /// Begins a call. Until it ends well the server counts as down, in the state of before.
+    /// Begins a call. Until it ends well the server counts as down, in the state before the call.
     pub(super) fn begin(&mut self)
         requires { self.old.down ≡ false }
         ensures down { self.new.down ≡ true }

@@ -28,7 +28,7 @@ impl<D: Disk> Durable<D> {
     /// Copies the next clients, so many at most, for a snapshot in steps that is begun later: it
     /// walks over no client then. Until that the copy follows what is done; if memory runs out it
     /// is given up, and nothing else is. Returns whether nothing is left to copy, or it is given
-    /// up. No device call is made, and nothing changes that a call answers.
+    /// up. No device call is made, and what other calls answer does not change.
     pub fn copy_clients(&mut self, alloc: Global, most: u32) -> bool
         ensures store { self.new.store ≡ self.old.store }
         ensures disks { (self.new.disks ≡ self.old.disks) × (self.new.limit ≡ self.old.limit) }
@@ -47,7 +47,7 @@ impl<D: Disk> Durable<D> {
     }
 
     /// Gives up the copy of the clients, if there is one: for a snapshot in steps that is not begun
-    /// after all. Nothing changes that a call answers.
+    /// after all. What other calls answer does not change.
     pub fn forget_copy(&mut self)
         ensures store { self.new.store ≡ self.old.store }
         ensures disks { (self.new.disks ≡ self.old.disks) × (self.new.limit ≡ self.old.limit) }
@@ -60,22 +60,23 @@ impl<D: Disk> Durable<D> {
         self.copy = None;
     }
 
-    /// Begins a snapshot in steps: the next bank is laid on the disk that is not in use, behind a
+    /// Begins a snapshot in steps: the next bank is laid on the disk that is not in use, after a
     /// first gate that is closed. What is done from now on is noted for it; if memory runs out
     /// then, or the bank would pass its limit, it is given up, and nothing else is. One that was
-    /// begun before is given up. Nothing changes that a client sees.
+    /// begun before is given up. No client sees a change.
     ///
     /// # Errors
     ///
     /// `Full` if the next bank would pass the limit or no generation is left, and nothing changed;
     /// `Down`: it was down, or it is because a device failed or memory ran out.
     pub fn begin_snapshot(&mut self, alloc: Global) -> Result<(), NodeFault>
-        // It goes on for the same state, and it falls as said.
+        // The state stays the same, and `Falls` says what a fault means.
         ensures rewrites { Rewrites self.old result self.new }
         ensures falls { Falls self.old result self.new }
         // At Ok one is begun, beside the bank in use.
         ensures begun { OnOk result (HasBegun self.old self.new) }
-        // It is Full exactly if there is no next bank for the state; nothing changed then.
+        // It is Full only if there is no next bank for the state, and nothing changed then; at Ok
+        // there is one.
         ensures full { IsErrOf result NodeFault.Full → (self.new ≡ self.old)
             × HasNoNextBank self.old }
         ensures room { OnOk result (HasNoNextBank self.old → ⊥) }
@@ -86,7 +87,7 @@ impl<D: Disk> Durable<D> {
         }
     }
 
-    /// Begins a snapshot in steps. It is what `begin_snapshot` stands on, and distinguishes a
+    /// Begins a snapshot in steps. It is what `begin_snapshot` is built on, and distinguishes a
     /// device's failure from `Memory`.
     ///
     /// # Errors
@@ -94,12 +95,13 @@ impl<D: Disk> Durable<D> {
     /// `Down`, then `Full` if the next bank would pass the limit or no generation is left: nothing
     /// changed. `Disk` if the device failed, and `Memory`: the server is down.
     pub fn start(&mut self, alloc: Global) -> Result<(), ServeFault>
-        // It goes on for the same state, and it fails as said.
+        // The state stays the same, and `Fails` says what a fault means.
         ensures rewrites { Rewrites self.old result self.new }
         ensures fails { Fails self.old result self.new }
         // At Ok one is begun, beside the bank in use.
         ensures begun { OnOk result (HasBegun self.old self.new) }
-        // It is Full exactly if there is no next bank for the state; nothing changed then.
+        // It is Full only if there is no next bank for the state, and nothing changed then; at Ok
+        // there is one.
         ensures full { IsErrOf result ServeFault.Full → (self.new ≡ self.old)
             × HasNoNextBank self.old }
         ensures room { OnOk result (HasNoNextBank self.old → ⊥) }
@@ -125,14 +127,13 @@ impl<D: Disk> Durable<D> {
 
     /// Takes the next step of a snapshot: it writes so many bytes at most, and one entry of the
     /// snapshot more, and ends synced. With the last one the new bank is in use: its records are
-    /// what was done since it was begun.
-    /// Nothing changes that a client sees.
+    /// what was done since it was begun. No client sees a change.
     ///
     /// # Errors
     ///
     /// `Down`: it was down, or it is because a device failed or memory ran out.
     pub fn continue_snapshot(&mut self, alloc: Global, most: usize) -> Result<Progress, NodeFault>
-        // It goes on for the same state, and it falls as said.
+        // The state stays the same, and `Falls` says what a fault means.
         ensures rewrites { Rewrites self.old result self.new }
         ensures falls { Falls self.old result self.new }
         ensures never_full { IsErrOf result NodeFault.Full → ⊥ }
@@ -147,14 +148,14 @@ impl<D: Disk> Durable<D> {
         }
     }
 
-    /// Takes the next step of a snapshot. It is what `continue_snapshot` stands on, and
+    /// Takes the next step of a snapshot. It is what `continue_snapshot` is built on, and
     /// distinguishes a device's failure from `Memory`.
     ///
     /// # Errors
     ///
     /// `Down`: it was down. `Disk` if the device failed, and `Memory`: the server is down.
     pub fn advance(&mut self, alloc: Global, most: usize) -> Result<Progress, ServeFault>
-        // It goes on for the same state, and it fails as said.
+        // The state stays the same, and `Fails` says what a fault means.
         ensures rewrites { Rewrites self.old result self.new }
         ensures fails { Fails self.old result self.new }
         ensures never_full { IsErrOf result ServeFault.Full → ⊥ }

@@ -15,15 +15,15 @@ impl<D: Disk> Durable<D> {
     ghost use Rattle.linda_server.specs.Switch.{IsTrimmed};
 
     /// Leaves one byte of the disk that is not in use, a closed gate. A snapshot that was begun in
-    /// steps is given up. It is what `trim` stands on, and distinguishes a device's failure from
+    /// steps is given up. It is what `trim` is built on, and distinguishes a device's failure from
     /// `Memory`.
     ///
     /// # Errors
     ///
-    /// `Down`: nothing changed. `Disk` where the device failed, and `Memory` where the disk found
-    /// none: the server is down.
+    /// `Down`: nothing changed. `Disk` if the device failed, and `Memory` if the disk found none:
+    /// the server is down.
     pub fn clear(&mut self) -> Result<(), ServeFault>
-        // It goes on for the same state, and it fails as said.
+        // The state stays the same, and `Fails` says what a fault means.
         ensures rewrites { Rewrites self.old result self.new }
         ensures fails { Fails self.old result self.new }
         ensures never_full { IsErrOf result ServeFault.Full → ⊥ }
@@ -49,13 +49,13 @@ impl<D: Disk> Durable<D> {
     }
 
     /// Gives back the room of the disk that is not in use, as `clear` does. It takes no snapshot,
-    /// and nothing changes that a client sees.
+    /// and no client sees a change.
     ///
     /// # Errors
     ///
-    /// `Down`: it was down, or it is because a device failed.
+    /// `Down`: it was down, or it is because a device failed or memory ran out.
     pub fn trim(&mut self) -> Result<(), NodeFault>
-        // It goes on for the same state, and it falls as said.
+        // The state stays the same, and `Falls` says what a fault means.
         ensures rewrites { Rewrites self.old result self.new }
         ensures falls { Falls self.old result self.new }
         ensures never_full { IsErrOf result NodeFault.Full → ⊥ }

@@ -24,13 +24,13 @@ impl Soft {
     /// The request asks for a tuple that the template matches, to take it away or to copy it. One
     /// for which a tuple is held is offered that again, one that waits is sent nothing, and one of
     /// a client with 64 open asks is refused; nothing changes then. Else the least tuple that it
-    /// can have is offered to an input, which holds it, or answers a read; and where there is none
-    /// it waits. What is sent, each reply to a client, in order: it is put into `room`, which has
-    /// none yet.
+    /// can have is offered to an input, which holds it, or answers a read; if there is none, the
+    /// request waits. What is sent, each reply to a client, in order: it is put into `room`, which
+    /// has none yet.
     ///
     /// # Errors
     ///
-    /// `AllocError` where memory runs out.
+    /// `AllocError` if memory runs out.
     pub(crate) fn ask<B: Bag>(
         &mut self,
         alloc: Global,

@@ -30,7 +30,7 @@ use std::alloc::{AllocError, Global};
 ///
 /// # Errors
 ///
-/// `AllocError` where memory runs out, and then the state is as before.
+/// `AllocError` if memory runs out, and then the state is as before.
 pub(crate) fn put<B: Bag>(
     state: &mut State<B>,
     soft: &mut Soft,
@@ -66,11 +66,12 @@ pub(crate) fn put<B: Bag>(
     })
 }
 
-/// Takes the offer that the client accepts, where the tuple is held for it; else the offer is gone.
+/// Takes the tuple that the client accepts, if it is held for the client's request; else the offer
+/// is gone.
 ///
 /// # Errors
 ///
-/// `AllocError` where memory runs out, and then the state is as before.
+/// `AllocError` if memory runs out, and then the state is as before.
 pub(crate) fn accept<B: Bag>(
     state: &mut State<B>,
     soft: &mut Soft,
@@ -137,7 +138,7 @@ fn pass<B: Bag>(
 ///
 /// # Errors
 ///
-/// `AllocError` where memory runs out, and then the state is as before.
+/// `AllocError` if memory runs out, and then the state is as before.
 pub(crate) fn leave<B: Bag>(
     state: &mut State<B>,
     soft: &mut Soft,

@@ -30,8 +30,8 @@ pub(crate) fn greeting<B: Bag>(state: &State<B>, client: u32, version: u8, fresh
     }
 }
 
-/// The reply to a message that its number alone decides, which changes nothing; none where it bears
-/// none, or its deed is to be done.
+/// The reply to a numbered message that makes no deed; `None` if the message bears no number, or if
+/// its deed is to be done.
 pub(crate) fn to_numbered<B: Bag>(
     state: &State<B>,
     alloc: Global,
@@ -46,7 +46,7 @@ pub(crate) fn to_numbered<B: Bag>(
     }
 }
 
-// The reply to a numbered message that makes no deed; none where its deed is to be done.
+// The reply to a numbered message that makes no deed; `None` if its deed is to be done.
 fn without_deed<B: Bag>(
     state: &State<B>,
     alloc: Global,

@@ -22,7 +22,7 @@ use std::alloc::{AllocError, Global};
 ///
 /// # Errors
 ///
-/// `AllocError` where memory runs out.
+/// `AllocError` if memory runs out.
 pub(crate) fn ask<B: Bag>(
     state: &State<B>,
     soft: &mut Soft,
@@ -57,7 +57,7 @@ pub(crate) fn ask<B: Bag>(
 ///
 /// # Errors
 ///
-/// `AllocError` where memory runs out.
+/// `AllocError` if memory runs out.
 pub(crate) fn cancel<B: Bag>(
     state: &State<B>,
     soft: &mut Soft,

@@ -1,4 +1,4 @@
--- What was read so far is on record, behind what was on it at first.
+-- What was read so far is on record, after what was on it at first.
 use Rattle.std.proofs.Common.{◌≡◌, ◌≤◌, ◌-◌, [], length, take}
 use Rattle.linda_disk.specs.Past.{history_of}
 use Rattle.linda_disk.proofs.file_state.read_rest.Given as goal

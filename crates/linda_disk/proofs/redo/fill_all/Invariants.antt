@@ -1,4 +1,4 @@
--- What is left of the calls leads to where all of them do.
+-- What is left of the calls leads to the same file as all of them.
 use Rattle.std.proofs.Common.{◌≡◌, drop}
 use Rattle.linda_disk.specs.DiskHistory.{fill_all}
 use Rattle.linda_disk.proofs.redo.fill_all.Given as goal

@@ -1,4 +1,4 @@
--- `of` makes a value of no bytes. The proof chooses what its ghost field is: the value behind the reference.
+-- `of` makes a value of no bytes. The proof chooses what its ghost field is: the value that the reference points to.
 use mathlib.Core.Path.{refl, sym, subst}
 use mathlib.Core.List.{List, [], ◌∷◌, ◌++◌}
 use Prim.Native.Nat.{ℕ}

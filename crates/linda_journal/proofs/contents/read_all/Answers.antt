@@ -1,4 +1,4 @@
--- The failures of both calls are told.
+-- The failures of both calls are reported.
 use Rattle.std.proofs.Common.{refl}
 use Rattle.linda_journal.specs.declared.fault.BankFault.TheVariants as banks
 use Rattle.std.proofs.lemmas.Result.{err_from_is_err_and}

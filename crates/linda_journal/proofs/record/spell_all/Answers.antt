@@ -1,4 +1,4 @@
--- The records, and a closed gate behind them.
+-- The records, and a closed gate after them.
 use Rattle.linda_journal.proofs.SpellLaws.{all_spelled}
 use Rattle.linda_journal.proofs.record.spell_all.Goals as goal
 

@@ -1,4 +1,4 @@
--- The device's fault is told as it was counted.
+-- The device's fault is reported as it was counted.
 use Rattle.linda_server.specs.declared.fault.OpenFault.TheVariants.{Disk}
 use Rattle.linda_server.proofs.CauseLaws.{counted}
 use Rattle.linda_server.proofs.empty.expect_no_bytes.Goals as goal

@@ -1,4 +1,4 @@
--- The messages so far are spared, and the bank is the one of before.
+-- The messages so far are spared, and the bank is the old one.
 use Rattle.std.proofs.Common.{◌≡◌, ℕ, List, take}
 use Rattle.linda_snap.specs.BankWriter.{Follows}
 use Rattle.linda_server.specs.Next.{AreSpared}

@@ -1,4 +1,4 @@
--- The bank in use is the same, whatever is behind its end.
+-- The bank in use is the same, no matter what is after its end.
 use Rattle.std.proofs.Common.{rules}
 use Rattle.linda_server.proofs.PreallocationLaws.{since, kept}
 use Rattle.linda_server.proofs.preallocation.preallocate.Goals as goal

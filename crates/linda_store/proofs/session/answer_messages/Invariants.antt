@@ -3,7 +3,7 @@ use Rattle.linda_store.specs.Turn.{point_at}
 use Rattle.linda_store.proofs.TalkLaws.{HasTold}
 use Rattle.linda_store.proofs.session.answer_messages.Given as goal
 
--- the messages read so far were answered, and what was said to them stands after the replies of before
+-- the messages read so far were answered, and what was said to them comes after the earlier replies
 abbrev pub invariant-loop-found : goal.invariant-loop-found
 invariant-loop-found g l =
     HasTold (point_at (g.N.Node.shown l.initial.node) l.initial.greeted true) l.initial.feed l.initial.replies.items

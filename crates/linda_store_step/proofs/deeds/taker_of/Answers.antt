@@ -1,4 +1,4 @@
--- Nobody took the tuple among the deeds so far; and who takes it is the only one.
+-- Nobody took the tuple among the deeds so far; and a client that takes it is the only one.
 use Rattle.std.proofs.Common.{ap, Some, subst, Contains}
 use Rattle.std.proofs.lemmas.List.{take_all}
 use Rattle.linda_store_state.specs.declared.deed.Deed.TheVariants.{Take}

@@ -1,4 +1,4 @@
--- What its number alone answers is a step.
+-- The reply to a numbered message that makes no deed is a step.
 use Rattle.std.proofs.Common.{sym, ◌∙◌}
 use Rattle.linda_store_step.proofs.FreeLaws.{if_ok_two}
 use Rattle.linda_store_step.proofs.StepLaws.{numbered_step}

@@ -5,7 +5,7 @@ use Rattle.linda_tuple.specs.declared.pattern.Pattern.{Pattern}
 use Rattle.linda_tuple.specs.Matching.{bound_at}
 use Rattle.linda_tuple.proofs.matching.bindings.Goals as goal
 
--- Where the patterns or the atoms have ended, nothing is bound.
+-- If the patterns or the atoms have ended, nothing is bound.
 none_bound : (patterns : List Pattern) (atoms : List Atom) → (patterns ≡ []) ⊎ (atoms ≡ []) → bound_at patterns atoms ≡ []
 none_bound patterns atoms (inl ended) = ap (λ p. bound_at p atoms) ended
 none_bound [] atoms (inr ended) = refl

@@ -1,4 +1,4 @@
--- A client is in the book where it is in the tree.
+-- A client is in the book exactly if it is in the tree.
 use Rattle.std.proofs.Common.{rules}
 use Rattle.linda_book.proofs.BookLaws.{viewed}
 use Rattle.linda_book.proofs.book.Book.entry_from.Goals as goal

@@ -1,4 +1,4 @@
--- The tree was set at the client; where it was not, it had nothing there.
+-- The tree was set at the client; if it was not, it had nothing there.
 use Rattle.std.proofs.Common.{ap, ◌∙◌, rules}
 use Rattle.std.specs.FinMap.{insert}
 use Rattle.linda_map_laws.proofs.MapLaws.{one_set}

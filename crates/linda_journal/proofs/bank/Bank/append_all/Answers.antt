@@ -129,7 +129,7 @@ returns g c =
       honest = c.in_ok-put.ensures.runs.honest;
     }
 
--- The gate at the new end is within the file: what was written is as long as the records, and the gate behind them.
+-- The gate at the new end is within the file: what was written is as long as the records, and the gate comes after them.
 pub invariant_of-self-2-clause-inside : goal.invariant_of-self-2-clause-inside
 invariant_of-self-2-clause-inside g c ready honest =
     let bank = c.args.self.now in

@@ -1,4 +1,4 @@
--- What has more behind its end is the bank still.
+-- With more after its end it is still the same bank.
 use Rattle.std.proofs.Common.{rules, sym, refl}
 use Rattle.linda_journal.proofs.PreallocationLaws.{begins, same_since, same_settled}
 use Rattle.linda_journal.proofs.bank.Bank.preallocate.Goals as goal

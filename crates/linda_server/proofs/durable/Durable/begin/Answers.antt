@@ -1,4 +1,4 @@
--- What stood stands: nothing was done yet.
+-- The disks represent the same state: nothing was done yet.
 use Rattle.std.proofs.Common.{sym, subst, ◌∙◌}
 use Rattle.linda_store_state.specs.State.{IsState}
 use Rattle.linda_server.specs.Pairs.{PairsNow}

@@ -1,4 +1,4 @@
--- What the disks read represents the state of before, or the one after the lost deeds.
+-- What the disks read represents the state before the call, or the one after the lost deeds.
 use Rattle.std.proofs.Common.{true, false, ap, ◌∙◌}
 use Rattle.std.specs.Global.{Vec}
 use Rattle.linda_store_state.specs.declared.deed.Deed.{Deed}

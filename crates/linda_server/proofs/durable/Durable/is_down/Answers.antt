@@ -1,4 +1,4 @@
--- The type keeps that the state stands.
+-- By the type's invariant the disks represent the state.
 use Rattle.linda_server.proofs.CallLaws.{stands_so}
 use Rattle.linda_server.proofs.durable.Durable.is_down.Goals as goal
 

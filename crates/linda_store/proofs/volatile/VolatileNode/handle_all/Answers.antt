@@ -1,4 +1,4 @@
--- Where memory ran out the node is down, and shows the state before the call.
+-- If memory ran out, the node is down, and shows the state before the call.
 use Rattle.std.proofs.Common.{[], sym, refl, ◌∙◌}
 use Rattle.linda_store_step.specs.History.{comings}
 use Rattle.linda_store.proofs.VolatileLaws.{went_down}

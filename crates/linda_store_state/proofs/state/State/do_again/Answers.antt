@@ -1,4 +1,4 @@
--- A Pass is done whatever its id.
+-- A Pass is done no matter what its id is.
 use Rattle.std.proofs.Common.{[], ◌∷◌, sym, subst}
 use Rattle.linda_store_state.specs.After.{IsAfter}
 use Rattle.linda_store_state.proofs.DoneLaws.{on_ok}

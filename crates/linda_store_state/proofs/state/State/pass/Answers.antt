@@ -1,4 +1,4 @@
--- The changes of the maps are those of a Pass, whatever its id.
+-- The changes of the maps are those of a Pass, no matter what its id is.
 use Rattle.std.proofs.Common.{refl}
 use Rattle.linda_store_state.proofs.DoneLaws.{on_ok, pass_at}
 use Rattle.linda_store_state.proofs.state.State.pass.Goals as goal

@@ -30,7 +30,7 @@ returns-in_ok-insert-clause-sends c =
     (offer_for c.args.id c.args.tuple.now c.in-Some.request ∷ [])
     ∙ ap (λ t. c.args.sends.now.items ++ t.sends) (sym told))
 
--- The answers to the reads alone.
+-- Only the answers to the reads.
 pub returns-in_default-clause-sends : goal.returns-in_default-clause-sends
 returns-in_default-clause-sends c =
     let soft : Soft = record { holds = c.self.inside.holds; waits = c.self.inside.waits } in

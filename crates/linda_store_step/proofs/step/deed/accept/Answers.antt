@@ -1,4 +1,4 @@
--- The offer is taken where the tuple is held for the request, and else it is passed.
+-- The offer is taken if the tuple is held for the request, and else it is passed.
 use Rattle.std.proofs.Common.{true, [], ◌∷◌, ◌++◌, sym, ap, ◌∙◌}
 use Rattle.std.specs.FinMap.{get}
 use Rattle.linda_wire.specs.declared.reply.Reply.TheVariants.{Taken}

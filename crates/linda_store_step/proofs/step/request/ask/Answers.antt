@@ -1,4 +1,4 @@
--- What is told for an Ask is a step, and the bag is that of the state.
+-- What is sent for an Ask is a step, and the bag is that of the state.
 use Rattle.std.proofs.Common.{[], ◌∷◌, sym, ap, ◌∙◌}
 use Rattle.std.specs.FinMap.{get}
 use Rattle.linda_book.specs.Entries.{left_in, number_in}

@@ -1,4 +1,4 @@
--- What is told for a Cancel is a step, and the bag is that of the state.
+-- What is sent for a Cancel is a step, and the bag is that of the state.
 use Rattle.std.proofs.Common.{sym, ap, subst}
 use Rattle.linda_bag.specs.SearchHints.{AreRight}
 use Rattle.linda_store_step.specs.Looking.{is_held}

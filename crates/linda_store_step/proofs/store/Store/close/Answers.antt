@@ -1,4 +1,4 @@
--- What a close leaves, and what is left where memory ran out, is what a store keeps.
+-- What a close leaves, and what is left if memory ran out, is what a store keeps.
 use Rattle.std.proofs.Common.{sym, ap, subst}
 use Rattle.linda_bag.specs.SearchHints.{AreRight}
 use Rattle.linda_store_step.specs.Looking.{is_held}

@@ -1,4 +1,4 @@
--- What a step leaves, and what is left where memory ran out, is what a store keeps.
+-- What a step leaves, and what is left if memory ran out, is what a store keeps.
 use Rattle.linda_store_step.proofs.OrderLaws.{step_orderly, given_up_at}
 use Rattle.linda_store_step.proofs.store.Store.step_in.Goals as goal
 

@@ -1,4 +1,4 @@
--- What stands after the kind byte was passed over.
+-- What comes after the kind byte was passed over.
 use Rattle.std.proofs.Common.{◌-◌, take, drop, length, arith, sym, subst}
 use Rattle.std.proofs.lemmas.Grind.{common_steps}
 use Rattle.linda_codec.specs.Steps.{GivesAlways, left_by}
