@@ -533,7 +533,7 @@ def a_crowd_at_once(play: Play) -> str:
 
 
 def a_socket_of_another_server(play: Play) -> str:
-    """A server that ends leaves the file of its socket alone, if it is another server's by then."""
+    """A server that ends does not touch the file of its socket, if it is another server's by then."""
     with tempfile.TemporaryDirectory(prefix="linda-hostile-", dir=SHARED) as name:
         path = Path(name) / "socket"
         with play.server("--socket", str(path), "--sessions", "1") as first:
