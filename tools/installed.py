@@ -1,4 +1,4 @@
-"""A release as those have it who unpack or install it: whether it is whole there, and does what its pages say.
+"""Checks a release as users unpack or install it: whether it is whole, and does what its pages say.
 
 It is no tool by itself: tools/release --check uses it. The archive is unpacked into a new folder, and the package is installed, upgraded and removed
 below a folder in place of the system's. The commands of their pages are run as tools/docs runs those of the repository. If the machine lacks what a
@@ -223,7 +223,7 @@ class Installed:
         return run.returncode == 0
 
     def look_at_scripts(self, package: Path) -> None:
-        """Each script calls what it has to, beside a systemd that is at work and beside none. What it calls writes down how it was called."""
+        """Each script calls what it must, beside a systemd that is at work and beside none. What it calls writes down how it was called."""
         control, fakes, log = self.room / "control", self.room / "fakes", self.room / "calls"
         subprocess.run(["dpkg-deb", "--control", package, control], check=True)
         fakes.mkdir()

@@ -5,7 +5,7 @@
     tools/pages.py --check [FILE]     writes nothing, says which of them are others, plays each line of the synopsis, and ends with 1 if there are any
                                       or if the program takes what the synopsis does not have, or the other way round
 
-The man page is packaging/linda.1.in, where these are put in place of lines of their own: `@SYNOPSIS@`, of all commands; `@ABOUT CMD@`, the first line
+The man page is packaging/linda.1.in, in which these lines are replaced: `@SYNOPSIS@`, of all commands; `@ABOUT CMD@`, the first line
 of a command's help; `@OPTIONS CMD@`, its arguments and options, and without CMD those of the program; `@EXAMPLES@`, what comes after the options of
 each. `@VERSION@` and `@DATE@` stay: tools/release puts those in.
 """
@@ -105,7 +105,7 @@ def escaped(text: str) -> str:
 
 
 class Form(NamedTuple):
-    """A line of the synopsis: the words that have to be there, and the options that may be."""
+    """A line of the synopsis: the words that must be there, and the options that may be."""
 
     command: str
     words: tuple[str, ...]
@@ -147,7 +147,7 @@ def synopsis_of(form: Form) -> list[str]:
 # ---- each line of the synopsis, played
 
 def played_words(form: Form) -> list[str]:
-    """The words that have to be there, with values that the program takes."""
+    """The words that must be there, with values that the program takes."""
     return [TAKEN.get(form.words[at - 1], "1") if word.startswith("<") and at and form.words[at - 1].startswith("--") else
             "1" if word.startswith("<PORT") else "/nonexistent/folder" if word.startswith("<") else word for at, word in enumerate(form.words)]
 
@@ -377,7 +377,7 @@ def made(program: Path) -> Made:
 
 
 def differing(program: Path) -> list[str]:
-    """What packaging/ has otherwise, and the command lines of the synopsis that are not so."""
+    """The files of packaging/ that are others, and the command lines for which the synopsis is wrong."""
     it = made(program)
     others = [f"packaging/{name}: not what tools/pages.py makes" for name, text in it.pages.items() if (FOLDER / name).read_text() != text]
     return others + misspelled(program, it.forms)
