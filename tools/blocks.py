@@ -16,7 +16,7 @@ from typing import Callable, Iterator, Mapping, NamedTuple
 SECONDS = 300
 # How long after its command the output of a background process may come.
 LATE_SECONDS = 60.0
-# So many lines of a difference are shown.
+# The most lines of a difference that are shown.
 MOST_LINES = 12
 NEWLINE = "\n"
 LIKE_COMMAND = re.compile(r"\$ |(?:\./linda|rt|cd|python3|(?:examples|tools|bench)/\S+) ")

@@ -38,9 +38,9 @@ LAST_WORDS = ("memory\n", "store: down\n")
 LOOKERS = 100
 # No start over a large bank makes so many growths.
 MOST_GROWTHS = 100_000
-# So many tuples are left at the end of the day.
+# How many tuples are left at the end of the day.
 LEFT = 64
-# A large bank has so many tuples that nobody asks for, each with so many letters, in more than 256 KiB, which a client put.
+# A large bank has tuples that nobody asks for, in more than 256 KiB: how many, the letters of each, and the client that put them.
 PADS, LETTERS, PADDER = 1_200, 250, 9
 
 
