@@ -1,4 +1,4 @@
-"""Checks of commands of users: `call` with one server and with two, over kills of servers and of itself; its lines, its clock, and how long it tries."""
+"""Checks of what users run: `call` with one server and with two, over kills of servers and of itself; its lines, its clock, and how long it tries."""
 
 import socket
 import subprocess
@@ -185,7 +185,7 @@ def last_of_two_servers(folder):
 
 
 def a_server_that_never_answers(folder):
-    """Something listens and says nothing: after ten seconds it is given up."""
+    """Something listens and says nothing: after ten seconds the call gives it up."""
     with Server(folder) as server, socket.create_server(("127.0.0.1", 0)) as silent:
         for number, ports in ((1, [silent.getsockname()[1]]), (2, [server.port, silent.getsockname()[1]])):
             began = time.monotonic()

@@ -17,7 +17,7 @@ from played.program import PATIENCE, equal, most, wait_until
 from played.servers import Server, each_way, free_port
 from served import use_of
 
-# Bytes of addresses in which a server begins, and has two threads for each of a few connections.
+# The bytes of address space in which a server can begin, and can have two threads for each of a few connections.
 ROOM_OF_THREADS = 200 * 2**20
 
 
@@ -220,7 +220,7 @@ def logs_of_refusals(folder):
 
 @each_way
 def logs_to_the_end(folder):
-    """What happened just before the end is told before the last line."""
+    """What happened just before the end is logged before the last line."""
     for _ in range(4):
         with Server(folder, 0, "--log", "--sessions", "1") as server:
             equal(Peer(server.port).ask(frames.frame(b"")), "Refused Malformed, detail 0")

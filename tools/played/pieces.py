@@ -16,7 +16,7 @@ from played.program import PATIENCE, SOON, equal
 from played.servers import Server, in_both_ways
 from served import use_of
 
-# A connection is read in pieces of so many bytes, by a loop.
+# A loop reads a connection in pieces of this many bytes.
 READ_AT_ONCE = 16_384
 
 
@@ -58,7 +58,7 @@ def ends_of_streams(server):
 
 @in_both_ways
 def faults_of_a_length(server):
-    """A length that no frame has is a fault by itself, behind a Hello too: the client sends not a byte more, and does not end its side."""
+    """A length that no frame has is a fault by itself, after a Hello too: the client sends not a byte more, and does not end its side."""
     client = 0
     for length in (0, 262_145, 2**31, 2**32 - 1):
         for cut in (0, 1, 2, 3, 4):
@@ -105,7 +105,7 @@ def many_messages_at_once(server):
         except TimeoutError:
             raise AssertionError(f"of {count} messages at once not all are answered") from None
         equal(found, wanted)
-        # (Asks alone, which make no deed)
+        # (only Asks, which make no deed)
         peer.send(*[frames.ask(1_000 + at, False, "m", client, 1) for at in range(count)], frames.out(0, "m"))
         found = [re.sub(r", id \d+", "", peer.hear()) for _ in range(count + 1)]
         equal(found, [f'Read ticket {1_000 + at}, tuple ("m", {client}, 1)' for at in range(count)] + [f"Refused Old, detail {number}"])
@@ -114,7 +114,7 @@ def many_messages_at_once(server):
 
 @in_both_ways
 def asks_behind_puts(server):
-    """An Ask sees what came before it on its connection in the same piece, and not what comes behind it, while others put and take."""
+    """An Ask sees what came before it on its connection in the same piece, and not what comes after it, while others put and take."""
     others, faults = Crowd(server.port, range(100, 112)), []
 
     def work():
@@ -199,7 +199,7 @@ def a_greeting_on_a_broken_connection(folder):
         stream.setsockopt(socket.SOL_SOCKET, socket.SO_RCVBUF, 4_096)
         stream.connect(("127.0.0.1", server.port))
         here, there = (stream.getsockname()[1], server.port), (server.port, stream.getsockname()[1])
-        # (until more replies are due than the system takes, and fewer than those behind which a loop takes nothing)
+        # (until more replies are due than the system takes, and fewer than those after which a loop reads no more)
         while refused * said - queued(*here)[1] - queued(*there)[0] < 1_000:
             equal(said < 1_000_000, True)
             stream.sendall(early * 10_000)
