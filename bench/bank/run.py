@@ -115,7 +115,7 @@ def main():
 
 
 def print_growths(form, rows):
-    """Tells how the time of a deed grows from the first size to the last with records of 64; the growths of an append and of an opening."""
+    """Prints how the time of a deed grows from the first size to the last with records of 64; returns the growths of an append and of an opening."""
     (_, few, first), (_, many, last) = rows[0], rows[2]
     growths = [(after / many) / (before / few) for before, after in zip(first[form][0], last[form][0])]
     told = ", ".join(f"{name} {growth:.2f}" for name, growth in zip(("append", "open", "copy"), growths))

@@ -11,7 +11,8 @@ tag to 4,096.
 
 Then the acts `key`, `any`, `out`, `ask` and `left` at 1,000 tuples and no open ask, beside no client that left (1,000 for `left`) and beside 65,534, which with the
 two at work are all that a server keeps; and `leave`, 20,000 clients one after another, the first of all and the last of all. It fails if one of these grows
-more than twice, `left` more than four times. At last the memory in use among 100,000 tuples: of a process in which 65,534 clients left, less that of one in which none did, for each of them.
+more than twice, `left` more than four times. Finally it prints the memory in use among 100,000 tuples: of a process in which 65,534 clients left, less that of
+one in which none did, for each of them.
 
 `run.py PROGRAM` runs a program that is built already.
 """
@@ -76,7 +77,7 @@ def memory_once(program, left):
 
 
 def beside_left(program):
-    """Tells the acts beside clients that left and the memory of each of these; the growth of each act."""
+    """Prints the times of the acts beside clients that left, and the memory of each such client; returns the growth of each act."""
     growths = {}
     print("| act | few clients that left | many | growth |")
     print("|---|---|---|---|")

@@ -678,7 +678,7 @@ export class Machine {
     }
 
     /**
-     * A Refused ends the call. It changes nothing but this: a numbered message that was judged and not done is not
+     * A Refused ends the call. It changes only this: a numbered message that was judged and not done is not
      * pending any more, and its number is still the next one.
      * @param {number} server @param {number} code @param {bigint} detail
      */

@@ -19,7 +19,7 @@ import { bindsOf, matches } from './values.mjs';
  * @typedef {import('./values.mjs').Tuple} Tuple
  * @typedef {import('./values.mjs').Template} Template
  *
- * Where a tuple was put: `id` is null if it was put, and the answer was lost with a connection.
+ * The place of a tuple that was put: `id` is null if it was put, and the answer was lost with a connection.
  * @typedef {{ server: number, id: number | bigint | null }} Put
  */
 

@@ -37,7 +37,7 @@ class OutOfRange(SpaceError, ValueError):
 
 class Refused(SpaceError):
     """A server refused: `server` is its number, `code` and `name` say why, `detail` is as docs/FORMATS.md has it for that code. `client` is the number of this
-    client. `stored` is of `out_many` only: for each tuple where it was put, or None if it was not."""
+    client. `stored` is of `out_many` only: for each tuple its place, or None if it was not put."""
 
     stored: Optional[List[Optional[Tuple[int, Optional[int]]]]] = None
 

@@ -428,7 +428,7 @@ class Machine:
         del task.numbers[server]
 
     def refused(self, server: int, reply: Reply) -> None:
-        """A Refused ends the call. It changes nothing but this: a numbered message that was judged and not done is not pending any more, and its number is still
+        """A Refused ends the call. It changes only this: a numbered message that was judged and not done is not pending any more, and its number is still
         the next one."""
         name, task = REFUSALS.get(reply.number), self.task
         if name == "Old" and self.probes[server]:

@@ -247,7 +247,7 @@ class Space:
 
     def out(self, tag: Value, *fields: Value, timeout: Optional[float] = None) -> Tuple[int, int]:
         """Puts a tuple, and returns its server and its id there, once it is stored for good. The j-th call of this space, from 0, goes to server (c + j) mod S,
-        where c is the client's number and S the count of servers; the others need not be there.
+        in which c is the client's number and S the count of servers; the others need not be there.
 
         Raises OutOfRange, Busy, Spent, Gone: nothing was sent. Refused with Full, TooManyClients, Gap, Old or Left: it was not put, and nothing is pending (Gap and
         Old say that another program used this client's number; with Old it may have been put before that; Left that an earlier life of this client left).
@@ -263,8 +263,8 @@ class Space:
         puts share each sync of its disk. Returns for each its server and its id there; the id is None if the tuple was put and the answer to that was lost with
         a connection.
 
-        Raises as `out` does. Refused: `stored` of it has for each tuple where it was put, or None if it was not; nothing is pending. NoConnection, TimedOut, and all others: `pending` is
-        "out_many", and `again` goes on and returns as this call would have.
+        Raises as `out` does. Refused: `stored` of it has for each tuple its place, or None if it was not put; nothing is pending. NoConnection, TimedOut, and
+        all others: `pending` is "out_many", and `again` goes on and returns as this call would have.
         """
         many = [as_tuple(values) for values in tuples]
         if not many:
@@ -772,7 +772,7 @@ class Space:
         yield wake
 
     def _renew_all(self, now: float) -> float:
-        """Renews what is held at servers to which nothing went for a while; when that has to be looked at again."""
+        """Renews what is held at servers to which nothing was sent for a while; returns the time at which to look again."""
         holders = {server for server, _ in self._machine.held}
         quiet = [server for server in sorted(holders) if self._links[server].said + RENEWAL <= now]
         if quiet:

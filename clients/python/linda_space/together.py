@@ -40,7 +40,7 @@ class ManyTaken:
 class Outs:
     """Outs that are under way together.
 
-    - `places`: for each tuple where it was put, as far as is known.
+    - `places`: for each tuple its place, as far as is known.
     - `waiting`: by server the places in `tuples` that are not sent yet, `going`: those that are not answered, with their numbers.
     - `owed`: how many refusals a server still sends for what went to it after a message that it refused.
     - `fault`: the first refusal. Nothing more is sent then.

@@ -26,7 +26,7 @@ export const frames: Readonly<{
     /** @param {number | bigint} number */
     leave: (number: number | bigint) => any;
     /**
-     * What is behind the length of a frame of a server.
+     * What is after the length of a frame of a server.
      * @param {Uint8Array} data
      */
     reply: (data: Uint8Array) => Reply;

@@ -39,7 +39,7 @@ export class Taken {
  * A synchronization that is pending: what is open under each ticket, by rising ticket, the unanswered Accept, and what
  * is saved, oldest first.
  *
- * - `limit`: the alarm of the call's own `timeout`. When it is ready each server is sent a message behind the Asks that
+ * - `limit`: the alarm of the call's own `timeout`. When it is ready each server is sent a message after the Asks that
  *   is always answered; `unsure` are those that have not answered it. It is chosen once all have.
  * - `isPoll`: there is no time: the servers are asked that at once.
  * - `isHold`: an offer is not accepted, but handed on as it is.
@@ -309,7 +309,7 @@ export class Machine {
      */
     left(server: number, task: Leaving, isNew: boolean): void;
     /**
-     * A Refused ends the call. It changes nothing but this: a numbered message that was judged and not done is not
+     * A Refused ends the call. It changes only this: a numbered message that was judged and not done is not
      * pending any more, and its number is still the next one.
      * @param {number} server @param {number} code @param {bigint} detail
      */

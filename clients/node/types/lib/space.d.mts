@@ -94,7 +94,7 @@ export class Space {
     get client(): number;
     /**
      * Puts a tuple, and returns its server and its id there, once it is stored for good. The j-th call of this space,
-     * from 0, goes to server (c + j) mod S, where c is the client's number and S the count of servers; the others need
+     * from 0, goes to server (c + j) mod S, in which c is the client's number and S the count of servers; the others need
      * not be there.
      *
      * Throws OutOfRange, Busy, Spent: nothing was sent. Refused with Full, TooManyClients, Gap, Old or Left: it was not
@@ -106,8 +106,8 @@ export class Space {
      */
     out<T extends import("./values.mjs").Values, L extends import("./values.mjs").Limits = {}>(tuple: T & import("./values.mjs").Whole<T>, limits?: Only<L, import("./values.mjs").Limits> | undefined): Promise<Stored>;
     /**
-     * Puts these tuples, in order, each as `out` does, up to 64 of them under way at once. It returns where each of
-     * them is, once all are stored for good: `id` is null if one was stored and the answer was lost with a connection.
+     * Puts these tuples, in order, each as `out` does, up to 64 of them under way at once. It returns the place of each of
+     * them, once all are stored for good: `id` is null if one was stored and the answer was lost with a connection.
      *
      * Throws as `out` does. If a server refuses one, the answers to those under way are waited for, nothing more is
      * sent, and the Refused has `stored`: the same list, null in the place of what was not put. NoConnection, TimedOut,
@@ -250,7 +250,7 @@ export class Space {
      *   tuple, or an array of tuples; anything else is a TypeError, which ends the work. A tuple with a value that is out
      *   of range is an error of the function. If the hold was lost meanwhile its result is not put, for another worker has
      *   the job.
-     * - `tries`: the last field of a job is how often it failed, 0 at first, and the last pattern has to be INT. A job
+     * - `tries`: the last field of a job is how often it failed, 0 at first, and the last pattern must be INT. A job
      *   whose function throws stays held for `delay` * 2 ** failed milliseconds (1,000 if nothing else is said), while
      *   other jobs are done, and is then put again with that count + 1. If that is `tries`, it is put at once as
      *   `[dead, ...fields but the last, failed + 1, 'Error: text']` instead; `dead` is 'dead' if nothing else is said.

@@ -6,7 +6,7 @@
  * @typedef {import('./values.mjs').Tuple} Tuple
  * @typedef {import('./values.mjs').Template} Template
  *
- * Where a tuple was put: `id` is null if it was put, and the answer was lost with a connection.
+ * The place of a tuple that was put: `id` is null if it was put, and the answer was lost with a connection.
  * @typedef {{ server: number, id: number | bigint | null }} Put
  */
 /** Several outs or takes have ended. */
@@ -61,7 +61,7 @@ export class OutTrain {
     probed(): void;
     /**
      * Those before `last` were done, and no server keeps their replies. That with `last` is sent again for its reply,
-     * and what is behind it because it was not done: but not behind one that was refused.
+     * and what is after it because it was not done: but not after one that was refused.
      * @param {number} server @param {bigint} last
      */
     reconnected(server: number, last: bigint): void;
@@ -72,7 +72,7 @@ export class OutTrain {
  * is always answered: what was not offered until then is not there, and is cancelled. What is offered is accepted at
  * once. An Accept over the connection of its Offer is always answered by Taken.
  *
- * - `tickets`: those that are asked under, and were not offered anything. `isAsking`: the answer behind them is due.
+ * - `tickets`: those that are asked under, and were not offered anything. `isAsking`: the answer after them is due.
  * - `isEmpty`: the server has no more. `got`, `taken`: how many were taken, and which, if they are kept.
  * - `told`: how many of `taken` an error has said. `isDropped`: it ended by an error, and only answers are waited for.
  */
@@ -152,7 +152,7 @@ export type Refused = import('./errors.mjs').Refused;
 export type Reply = import('./frames.mjs').Reply;
 export type Tuple = import('./values.mjs').Tuple;
 /**
- * Where a tuple was put: `id` is null if it was put, and the answer was lost with a connection.
+ * The place of a tuple that was put: `id` is null if it was put, and the answer was lost with a connection.
  */
 export type Template = import('./values.mjs').Template;
 export type Put = {
