@@ -29,7 +29,7 @@ RUN_EACH = 'while read -r _file; do (exit "${_status:-0}"); . "$_file" </dev/nul
 
 
 class Command(NamedTuple):
-    """A command, the line of the page at which it begins, and the lines that it is to print."""
+    """A command, the line of the page at which it begins, and the lines that it must print."""
 
     line: int
     text: str

@@ -375,7 +375,7 @@ def leases_of_a_stopped_server(play: Play) -> str:
 # ---- ends of connections, and of servers
 
 def never_reads(server: Served, client: int) -> socket.socket:
-    """A client that holds a tuple, and to which more is to be written than it takes."""
+    """A client that holds a tuple, and to which the server must write more than it reads."""
     stream = socket.socket()
     stream.setsockopt(socket.SOL_SOCKET, socket.SO_RCVBUF, 4_096)
     stream.connect(("127.0.0.1", server.port))

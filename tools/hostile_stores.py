@@ -1,5 +1,5 @@
 #!/usr/bin/env python3
-"""Stores that fill their disk or are restarted often: each comes to a snapshot, and none is closed for good.
+"""Stores that fill their disk or are restarted often: each takes a snapshot in the end, and none is closed for good.
 
     tools/hostile_stores.py [NAME..]     these parts, or all: lives, small, first; `--program FILE` plays another program than ./linda
 

@@ -2,7 +2,7 @@
 
 It is no tool by itself: tools/release --check uses it. The archive is unpacked into a new folder, and the package is installed, upgraded and removed
 below a folder in place of the system's. The commands of their pages are run as tools/docs runs those of the repository. If the machine lacks what a
-part needs (npm, namespaces, dpkg ..), the part is left out, and said to be.
+part needs (npm, namespaces, dpkg ..), the part is left out, which is printed.
 """
 
 import base64

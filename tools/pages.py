@@ -99,7 +99,7 @@ def help_of(program: Path, command: str, *more: str) -> Help:
 # ---- the man page
 
 def escaped(text: str) -> str:
-    """The text as it is to be printed, in a line of the man page."""
+    """The text as it must be written in a line of the man page to be printed so."""
     text = text.replace("\\", "\\e").replace("-", "\\-")
     return "\\&" + text if text.startswith((".", "'")) else text
 

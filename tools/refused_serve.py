@@ -36,7 +36,7 @@ TRIES = 200
 BUSY, DOWN = 3, 8
 LAST_WORDS = ("memory\n", "store: down\n")
 LOOKERS = 100
-# No start over a large bank makes so many growths.
+# More growths than a start over a large bank makes.
 MOST_GROWTHS = 100_000
 # How many tuples are left at the end of the day.
 LEFT = 64
@@ -327,7 +327,7 @@ def run(malloc: str, growth: int, is_large: bool) -> tuple[tuple[list, dict[int,
 
 
 def first_when_ready(malloc: str) -> int:
-    """The first growth of a program that is ready, over a large bank: about so many are made before."""
+    """The first growth of a program that is ready, over a large bank, by bisection: the growths before it are made at the start."""
     low, high = 1, MOST_GROWTHS
     while low < high:
         middle, folder = (low + high) // 2, Path(tempfile.mkdtemp())

@@ -30,7 +30,7 @@ def run_once(words, source, target):
 
 
 def generate(folder, count):
-    """Writes the stream of so many puts, and answers its file."""
+    """Writes the stream of `count` puts, and returns its file."""
     source = os.path.join(folder, f"stream{count}")
     with open(source, "wb") as stream:
         subprocess.run([sys.executable, os.path.join(HERE, "generate.py"), str(count)], stdout=stream, check=True)

@@ -1,4 +1,4 @@
-// A load driver for `linda serve`, built by run.py with cc. It speaks frames as docs/FORMATS.md has them, over
+// A load driver for `linda serve`, built by run.py with cc. It speaks frames as docs/FORMATS.md defines them, over
 // connections of one thread.
 //
 //     drive sync FILE SECONDS                          appends 64 bytes and syncs the data, over and over
@@ -23,7 +23,7 @@
 //     server A N V I     acknowledged puts and takes in all, and what the server used for them: nanoseconds of the
 //                        processors, voluntary and involuntary context switches of its threads
 //     driver P E         nanoseconds of a processor that this thread used meanwhile, and that went by
-//     held N             so many connections are there
+//     held N             N connections are there
 
 #include <arpa/inet.h>
 #include <dirent.h>
@@ -60,7 +60,7 @@ static pid_t server;
 static uint64_t began, began_processor, until, moment, last, gap, acknowledged, slices[SLICES], job;
 static uint64_t *times;
 static size_t timed, timed_room;
-// What came and what is to go, of the connection that is at hand.
+// The bytes that came and those to send, for the connection that is at hand.
 static unsigned char came[REST + ROOM], going[ROOM];
 static size_t to_go;
 
@@ -247,7 +247,7 @@ static int rises(const void *a, const void *b) {
     return (x > y) - (x < y);
 }
 
-// The least time that so many in 1,000 did not exceed.
+// The least time that `share` in 1,000 of the times did not exceed.
 static uint64_t time_of(size_t share) {
     return times[(timed * share + 999) / 1000 - 1];
 }

@@ -28,12 +28,12 @@ BESIDE_HELD = ["held", "freed"]
 TUPLES = [1_000, 10_000, 100_000]
 ASKS = [0, 64, 4_096, 65_536]
 RUNS = 4
-# Many, so that what is timed is a store at work for a while.
+# Many rounds, so that a store is timed that has been at work for a while.
 ROUNDS = 20_000
 BESIDE_LEFT = ["key", "any", "out", "ask", "left", "leave"]
-# All clients that a server keeps, but for the two at work.
+# All clients that a server keeps, except the two at work.
 MOST_LEFT = 65_534
-# As one of few that left: of so many, so that finding that client takes some levels of the map of all.
+# The few that left: enough that finding one of them takes some levels of the map of all.
 FEW_LEFT = 1_000
 MOST_GROWTH = 2.0
 MOST_BESIDE_HELD = 1.5
@@ -45,7 +45,7 @@ NEEDED = ["linda_map_laws", "linda_rising", "linda_tuple", "linda_codec", "linda
 
 
 def build(folder):
-    """Lays out a repository of the crates that are needed and of the program, builds it, and answers the program's file."""
+    """Lays out a repository of the crates that are needed and of the program, builds it, and returns the program's file."""
     crates = os.path.join(folder, "crates")
     for name in NEEDED:
         shutil.copytree(os.path.join(TOP, "crates", name), os.path.join(crates, name))

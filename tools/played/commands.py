@@ -145,7 +145,8 @@ def calls_again(folder):
 
 
 def a_worker_in_a_shell(folder):
-    """The call of square.sh, as docs/GUIDE.md has it, ends with a shell that is killed: it takes nothing more, and its number is free. A worker whose server is gone ends with 1."""
+    """The call of square.sh, in docs/GUIDE.md, ends with a shell that is killed: it takes nothing more, and its number is free. A worker whose server is gone
+    ends with 1."""
     lines = next(block.lines for block in blocks.blocks(TOP / "docs/GUIDE.md") if block.file() == "square.sh")
     with Server(folder) as server:
         script, said = folder / "square.sh", folder / "said"

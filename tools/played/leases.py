@@ -18,7 +18,7 @@ MORE = 3
 
 
 def ends_within(peer, seconds):
-    """The server ends the connection in so many seconds, and sends nothing before that; how long it took."""
+    """Checks that the server ends the connection in so many seconds, and sends nothing before that; returns how long it took."""
     peer.stream.settimeout(seconds)
     began = time.monotonic()
     peer.end_comes()
@@ -34,7 +34,7 @@ def leases(folder):
         equal(holder.ask(frames.ask(1, True, "job", frames.INT)), 'Offer ticket 1, id 1, tuple ("job", 5)')
         second.send(frames.ask(1, True, "job", frames.INT))
         waiting.send(frames.ask(1, True, "other"))
-        # (half of a message is none)
+        # (half of a message is no message)
         holder.send(frames.accept(1, 1, 1)[:-1])
         took = ends_within(holder, LATE)
         equal(took > LEASE, True)

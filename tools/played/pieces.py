@@ -31,7 +31,7 @@ def ends_of_streams(server):
             left, number = size - len(stream[0]), 0
             empty = len(frames.out(0, "e", ""))
             while left:
-                # (texts of any lengths, and the last one makes the whole as long as it is to be)
+                # (texts of any lengths; the last one gives the whole its length)
                 length = dice.choice([0, 9, 300, 4_000])
                 if left < 2 * empty + length:
                     length = min(left - empty, 4_095)
@@ -191,7 +191,7 @@ def a_peer_that_never_reads(server):
 
 
 def a_greeting_on_a_broken_connection(folder):
-    """A client whose replies of before wait in the loop greets, and breaks its connection before it is greeted: its session ends, and it may come again."""
+    """A client whose earlier replies wait in the loop greets, and breaks its connection before it is greeted: its session ends, and it may come again."""
     early, refused, said = frames.out(1, "a"), 14, 0
     with Server(folder) as server:
         stream = socket.socket()

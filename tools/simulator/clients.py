@@ -76,7 +76,7 @@ class Client(threading.Thread):
             self.end()
 
     def rest(self) -> None:
-        """With no request in hand: nothing is held for it then, whether it has just been connected anew or not."""
+        """Called with no request in hand: nothing is held for it then, whether it has just been connected anew or not."""
         if self.is_broken() or self.dice.random() < 0.5:
             self.settle()
         self.is_idle.set()

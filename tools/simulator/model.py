@@ -271,10 +271,10 @@ class Model:
                 if time.monotonic() - wire.heard > self.lease + LATE:
                     self.fail(f"client {wire.client} holds a tuple, and has said nothing for {LATE} s more than it may")
 
-    # ---- what they come to
+    # ---- what became of messages
 
     def seen(self, place: int, what: tuple) -> None:
-        """A tuple that is there under an id: it was put."""
+        """Notes a tuple that is there under an id: it was put."""
         if place not in self.ids:
             pending = [it.pending for it in self.records.values() if it.pending and it.pending.name == "Out"]
             if what not in [it.parts["tuple"] for it in pending]:

@@ -164,7 +164,7 @@ class Simulated:
         return self.process is not None and self.process.poll() is None
 
     def is_over(self) -> bool:
-        """Whether it has ended, or is to end now by a power cut."""
+        """Whether it has ended, or must end now by a power cut."""
         return not self.lives() or (self.is_short and time.monotonic() >= self.cut_at)
 
     def has_ended(self, *words: str) -> None:
