@@ -223,7 +223,7 @@ typedef struct {
     linda_items items;
 } linda_frame;
 
-/* Who sent a frame. */
+/* The side that sent a frame. */
 typedef enum { LINDA_CLIENT, LINDA_SERVER } linda_side;
 
 typedef enum {
@@ -383,7 +383,7 @@ static inline void linda_fail(linda_reader *from, size_t offset)
     from->ok = false;
 }
 
-/* The next bytes, or NULL if there are not so many before the end of the frame. */
+/* The next `size` bytes, or NULL if there are fewer before the end of the frame. */
 static inline const uint8_t *linda_get(linda_reader *from, size_t size)
 {
     if (!from->ok) return NULL;

@@ -205,7 +205,8 @@ class OverServers(WithServers):
             space.out("a")
 
     def test_a_number_is_its_own_while_its_server_is_away(self) -> None:
-        """A server sees only who is connected: another copy of the program would have the number, and what the first puts would be taken for the other's."""
+        """A server knows only which clients are connected: another copy of the program would have the number, and what the first puts would be taken for the
+        other's."""
         server = self.serve()
         for client in (str(self.folder / "numbers"), range(100, 110)):
             first = self.space(server, client=client)

@@ -77,8 +77,8 @@ class Restored(SpaceError):
 
 class NumberInUse(SpaceError):
     """Another program uses this client's number: the server `server` keeps `last` as its last number, or an answer that is not to what this client asked, and
-    `answered` is the last number that it has answered this client. Who is right cannot be known, so all calls but `close` raise it from now on. What was pending may
-    be done or not; what was held is free again. Begin again under a number of its own."""
+    `answered` is the last number that it has answered this client. Which of the programs is right cannot be known, so all calls but `close` raise it from now
+    on. What was pending may be done or not; what was held is free again. Begin again under a number of its own."""
 
     def __init__(self, server: int, last: int, answered: int, client: int) -> None:
         self.server, self.last, self.answered, self.client = server, last, answered, client

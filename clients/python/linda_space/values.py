@@ -82,7 +82,7 @@ PACKED: Tuple[Formal, ...] = (TEXT,) * PACKED_FIELDS
 
 
 def pack(value: Any, fields: int = PACKED_FIELDS) -> Tuple[str, ...]:
-    """A JSON value as so many texts, 30 if nothing else is said; those that are not needed are empty. So a template has as many places:
+    """A JSON value as `fields` texts, 30 if nothing else is said; those that are not needed are empty. So a template has as many places:
 
         space.out("doc", 7, *pack(value))
         unpack(space.take("doc", 7, *PACKED)[2:])
