@@ -193,13 +193,13 @@ class Client:
         self.number = parts["last"]
 
     def put(self, tag, *fields):
-        """Puts a tuple, and answers its id."""
+        """Puts a tuple, and returns its id."""
         self.number += 1
         self.send(out(self.number, tag, *fields))
         return self.answer("Stored")["id"]
 
     def wait_for(self, tag, *patterns, remove=True):
-        """Asks for a tuple, and answers the first reply: an Offer (to take) or a Read; it waits until there is one."""
+        """Asks for a tuple, and returns the first reply: an Offer (to take) or a Read; it waits until there is one."""
         self.ticket += 1
         self.send(ask(self.ticket, remove, tag, *patterns))
         return self.answer("Offer" if remove else "Read")

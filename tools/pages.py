@@ -20,7 +20,7 @@ from typing import NamedTuple
 TOP = Path(__file__).resolve().parent.parent
 FOLDER = TOP / "packaging"
 PROVED = TOP / "crates/linda/out/linda"
-# Most used first, as the manual has them.
+# Most used first, as in the manual.
 COMMANDS = ("serve", "call", "inspect", "run", "pipe")
 ROW = re.compile(r" +(?P<names>\S.*?)(?:  +(?P<help>\S.*))?")
 # The words that ask for the other form of a command, over unix sockets.

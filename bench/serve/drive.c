@@ -74,7 +74,7 @@ static uint64_t now(void) {
     return nanoseconds_of(CLOCK_MONOTONIC);
 }
 
-// The load begins now, and lasts so long.
+// The load begins now, and lasts for this time.
 static void start(uint64_t nanoseconds) {
     began_processor = nanoseconds_of(CLOCK_PROCESS_CPUTIME_ID);
     began = moment = last = now(), until = began + nanoseconds;
@@ -337,7 +337,7 @@ static void turn(void (*heard)(struct connection *, int, const unsigned char *))
     for (int i = 0; i < ready; i++) hear(events[i].data.ptr, heard);
 }
 
-// The clients that do something lie evenly among the connections.
+// The clients that do something are spread evenly among the connections.
 static void load(int clients, void (*heard)(struct connection *, int, const unsigned char *)) {
     uint64_t nanoseconds = until;
     struct use before = use_of_server();

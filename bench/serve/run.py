@@ -1,7 +1,7 @@
 #!/usr/bin/env python3
-"""Measures `linda serve` under load, by what the same disk can sync, and what the server uses for it.
+"""Measures `linda serve` under load, against what the same disk can sync, and what the server uses for it.
 
-    bench/serve/run.py [ROUNDS] [SECONDS]     rounds (3) over all cells, so many seconds each (1)
+    bench/serve/run.py [ROUNDS] [SECONDS]     rounds (3) over all cells, SECONDS seconds each (1)
         --program 'FILE [WORD..]'   the program, and further words for its `serve`; ./linda if none is given.
                                     Each further one is a further column
         --against                   each program once more, with --threads
@@ -39,7 +39,7 @@ The other cells, with each program:
   process asks for `/tags` each second.
 
 With --realtime server, driver and loop run in a real-time class (which takes root), ahead of all else on the machine.
-If others use the processors, a thread that wakes waits for them otherwise, and the figures say little of the server.
+If others use the processors, a thread that wakes waits for them otherwise, and the figures say little about the server.
 
 It ends with 1 if a cell could not be measured. A cell that needs more open files than a process may have here is left
 out, with a line that says so.
@@ -99,9 +99,9 @@ CROWDED = 60_000
 PROBE_SECONDS, PAUSE_SECONDS = "0.5", "6"
 # The log looks for events ten times a second.
 LOG_SECONDS = 0.5
-# So many open files of a process are no connections, at most.
+# The most open files of a process that are no connections.
 OTHER_FILES = 64
-# A client that no connection has, which put what is in a store at first; those after it took a tuple.
+# A client without a connection, which put what is in a store at first; those with the numbers after it took a tuple.
 EARLIER = 1_000_000
 DEEDS_OF_A_RECORD = 64
 SNAPSHOT_TAKEN = re.compile(r" snapshot result taken milliseconds (\d+)")
@@ -109,11 +109,11 @@ PRIORITY = 5
 
 
 class Missing(Exception):
-    """Why a cell was not measured."""
+    """The reason why a cell was not measured."""
 
 
 class Forbidden(Missing):
-    """A limit of the machine is why."""
+    """A limit of the machine is the reason."""
 
 
 @dataclass(frozen=True)

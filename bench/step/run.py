@@ -1,13 +1,12 @@
 #!/usr/bin/env python3
 """Times single steps of a store that has many tuples and many open asks of other clients, and beside many clients that left.
 
-It proves and builds `main.rt.txt` (so named since the gate reads each `.rt` file) over the crates of this repository, in a folder of its own, and runs it for each act (`key`,
-`any`, `out`, `last`, `ask`, `held`, `freed`: see there) at 1,000, 10,000 and 100,000 tuples and at 0, 64, 4,096 and 65,536 open asks. A time
-is the least of four runs, each the mean of some rounds. It prints the table, and the growth from the first size to the
-last, and fails if a take by key or a take of any grows more than twice from 1,000 to 100,000 tuples, any act but
-`last`, `held` and `freed` more than twice from no open ask to 65,536 asks for another tag, `last` more than twice from 64 asks
-for its own tag, each with another key, to 65,536, or `held` or `freed` more than one and a half times from no held tuple of the
-tag to 4,096.
+It proves and builds `main.rt.txt` (so named since CI reads each `.rt` file) over the crates of this repository, in a folder of its own, and runs it for each
+act (`key`, `any`, `out`, `last`, `ask`, `held`, `freed`: see there) at 1,000, 10,000 and 100,000 tuples and at 0, 64, 4,096 and 65,536 open asks. A time is the
+least of four runs, each the mean of some rounds. It prints the table, and the growth from the first size to the last, and fails if a take by key or a take of
+any grows more than twice from 1,000 to 100,000 tuples, any act but `last`, `held` and `freed` more than twice from no open ask to 65,536 asks for another tag,
+`last` more than twice from 64 asks for its own tag, each with another key, to 65,536, or `held` or `freed` more than one and a half times from no held tuple of
+the tag to 4,096.
 
 Then the acts `key`, `any`, `out`, `ask` and `left` at 1,000 tuples and no open ask, beside no client that left (1,000 for `left`) and beside 65,534, which with the
 two at work are all that a server keeps; and `leave`, 20,000 clients one after another, the first of all and the last of all. It fails if one of these grows

@@ -74,7 +74,7 @@ def first_that_differs(said: list[str]) -> int | None:
 
 
 def play_all(seed: int, seconds: float, shrinks: bool) -> None:
-    """Runs of each kind, as `play` has them. Those with scarce memory are left out if there is no compiler."""
+    """Runs of each kind, as `play` does them. Those with scarce memory are left out if there is no compiler."""
     for kind, share in SHARES:
         if kind is not SCARCE or shutil.which("cc"):
             play(seed, seconds * share, shrinks, kind)

@@ -1,7 +1,7 @@
 """The network between clients and servers: a proxy for each server, all in one thread.
 
 Clients connect to the port of a gate, which stays the same when its server is started again. What goes over a
-connection arrives in order and unchanged, as TCP has it; but it is delayed, cut into pieces, and the connection is
+connection arrives in order and unchanged, as TCP delivers it; but it is delayed, cut into pieces, and the connection is
 ended at any byte, at both ends at once or at one before the other. A repeat is what clients send again after that.
 The model hears of each message before its last byte goes to the server, and of each reply as it comes from there.
 """

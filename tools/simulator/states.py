@@ -113,7 +113,7 @@ def tuple_put(pending: Pending) -> tuple | None:
 
 
 def unanswered(model: Model, words: list[str]) -> tuple:
-    """The reply to a message that was unanswered, as the words of a line have it."""
+    """The reply to a message that was unanswered, as the words of a line give it."""
     name = words[3].capitalize()
     if name == "Taken":
         return name, int(words[4]), model.ids.get(int(words[4]), ())

@@ -74,7 +74,7 @@ class Owed(NamedTuple):
 
 @dataclass(eq=False)
 class Wire:
-    """A connection as the server has it."""
+    """A connection as the server sees it."""
 
     name: str
     client: int | None = None

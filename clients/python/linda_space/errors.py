@@ -36,7 +36,7 @@ class OutOfRange(SpaceError, ValueError):
 
 
 class Refused(SpaceError):
-    """A server refused: `server` is its number, `code` and `name` say why, `detail` is as docs/FORMATS.md has it for that code. `client` is the number of this
+    """A server refused: `server` is its number, `code` and `name` say why, `detail` is what docs/FORMATS.md gives for that code. `client` is the number of this
     client. `stored` is of `out_many` only: for each tuple its place, or None if it was not put."""
 
     stored: Optional[List[Optional[Tuple[int, Optional[int]]]]] = None

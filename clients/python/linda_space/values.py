@@ -117,7 +117,7 @@ def pack(value: Any, fields: int = PACKED_FIELDS) -> Tuple[str, ...]:
 
 
 def unpack(fields: Iterable[Value]) -> Any:
-    """The JSON value that `pack` made these fields of. A tuple comes back as a list, and a key of a dict as a str, as `json` has it. Raises OutOfRange if
+    """The JSON value that `pack` made these fields of. A tuple comes back as a list, and a key of a dict as a str, as with `json`. Raises OutOfRange if
     they are no texts, or make no JSON value together."""
     try:
         return json.loads("".join(fields))      # type: ignore[arg-type]
