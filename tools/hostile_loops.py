@@ -331,7 +331,7 @@ def asks_that_look_at_all(play: Play) -> str:
 # ---- the seconds of a lease
 
 def leases_of_a_stopped_server(play: Play) -> str:
-    """A server that was stopped ends nobody before the seconds of its lease, and nobody who says something in time."""
+    """A server that was stopped ends no client before the seconds of its lease are over, and none that says something in time."""
     found = []
     with play.server("--lease", "1") as server:
         for turn in range(8):

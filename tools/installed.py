@@ -25,7 +25,7 @@ NO_SYSTEMD = [*AS_ROOT, "sh", "-c", 'mount -t tmpfs none /run && exec "$@"', "sh
 SYSTEMD = [*AS_ROOT, "sh", "-c", 'mount -t tmpfs none /run && mkdir -p /run/systemd/system && exec "$@"', "sh"]
 # As on a machine where the package is installed: the files below the folder $0 are in /usr too.
 INSTALLED = [*AS_ROOT, "--net", "sh", "-c", 'ip link set lo up && mount -t overlay overlay -o "lowerdir=$0/usr:/usr" /usr && exec "$@"']
-# What a page's commands begin with that not every machine has, and how to see it.
+# Words that commands of pages begin with and that not every machine has, each with a command that shows whether it is there.
 NEEDS = {
     "npm ": ["npm", "--version"],
     # (what it runs was installed by npm)
@@ -37,7 +37,7 @@ NEEDS = {
 PAGES = ("CHANGELOG.md", "SECURITY.md", *(f"docs/{name}.md" for name in ("GUIDE", "COMMANDS", "OPERATING", "BEYOND", "FORMATS", "EVENTS")))
 RELOAD = "systemctl --system daemon-reload"
 SERVERS = "linda.service linda@*.service linda-gate*.service"
-# What each script of the package calls if systemd is at work, and what if it is not: its words, and the calls of both.
+# The calls of each script of the package: its words, its calls if systemd is at work, and its calls if it is not.
 SCRIPTS = (
     ("postinst configure", ["systemd-sysusers linda.conf", RELOAD], ["systemd-sysusers linda.conf"]),
     ("postinst configure 0.1.0", ["systemd-sysusers linda.conf", RELOAD, f"deb-systemd-invoke try-restart {SERVERS}"],

@@ -28,14 +28,14 @@ SOCKET = ("--socket", "s")
 # Options that only the form over sockets has, and those that exclude one another.
 ONLY_SOCKET = {"--socket", "--mode"}
 EXCLUDED = (("serve", "--lease", "--threads"), ("serve", "--socket", "--threads"), ("serve", "--mode", "--threads"))
-# Options that ask for another one, and values that are taken.
+# Options that need another one, and values that the program takes.
 ASKS_FOR = {"--mode": "--socket", "--metric": "--status"}
 TAKEN = {"--mode": "600", "--dir": "/nonexistent/folder", "--trace": "/dev/null", "--metric": "tag", "--socket": "/nonexistent/s"}
-# The heading, in the help of a call, of what is there in place of its ports.
+# The heading, in the help of a call, of the options that take the place of its ports.
 INSTEAD = "Instead of ports:"
-# The program's own, which its parser does not know as an option: a sentence of its help names it.
+# The program's own option, which its parser does not know: a sentence of its help names it.
 VERSION = ("--version", "Print the version")
-# The parser's own command, whose arguments are the others.
+# The parser's own command, whose arguments are the other commands.
 HELP = ("help", "Print the help of a command")
 
 
@@ -200,7 +200,7 @@ def misspelled(program: Path, forms: list[Form]) -> list[str]:
 
 
 def rows_in_man(it: Help, usages: list[str]) -> list[str]:
-    """What each argument and option is, and whether it is required: in each of these usages."""
+    """The lines of each argument and option; one is required if each of these usages has it."""
     lines = []
     for row in (*it.arguments, *it.options):
         if not row.long:

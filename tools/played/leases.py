@@ -129,7 +129,7 @@ def a_lease_beside_others(folder):
 
 
 def a_lease_of_a_stopped_server(folder):
-    """A server that is stopped for more than a second ends nobody before the seconds of its lease, and nobody who says something in time."""
+    """A server that is stopped for more than a second ends no client before the seconds of its lease are over, and none that says something in time."""
     with Server(folder, 0, "--lease", LEASE) as server:
         renewing = Peer(server.port, 100)
         equal(renewing.ask(frames.out(1, "own")), "Stored number 1, id 1")

@@ -22,7 +22,8 @@ READ_AT_ONCE = 16_384
 
 @in_both_ways
 def ends_of_streams(server):
-    """The last bytes and the end of the stream come at once, of pieces that fill what is read at once, or less, or more: all is answered, and then the connection ends."""
+    """The last bytes and the end of the stream come at once, in pieces as long as one read, or shorter, or longer: all is answered, and then the connection
+    ends."""
     dice, client = random.Random(1), 0
     for size in (100, READ_AT_ONCE - 1, READ_AT_ONCE, READ_AT_ONCE + 1, 2 * READ_AT_ONCE, 3 * READ_AT_ONCE - 7):
         for _ in range(25):
@@ -147,7 +148,7 @@ def asks_behind_puts(server):
 
 
 def queued(port, other):
-    """How many bytes the system has at this port of a connection that it has not sent on, or that were not taken there yet; and how many came there that were not read."""
+    """How many bytes at this port of a connection the system has not sent, or the other side has not taken yet; and how many came there and were not read."""
     for line in Path("/proc/net/tcp").read_text().splitlines()[1:]:
         words = line.split()
         if words[1:3] == [f"0100007F:{port:04X}", f"0100007F:{other:04X}"]:
