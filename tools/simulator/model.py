@@ -256,7 +256,7 @@ class Model:
     # ---- leases
 
     def ends_late(self, wire: Wire) -> bool:
-        """Whether the lease of a connection may have run out. If so it ends, of which nothing is seen yet, and its holds
+        """Whether the lease of a connection may have run out. If so the server ends it, which is not seen yet, and its holds
         are free."""
         if self.lease is None or time.monotonic() - wire.heard < self.lease:
             return False
