@@ -6,7 +6,7 @@
    and its log say what the file held at its last sync and which calls came since (disk.py reads them). Nothing is
    really synced: a kill keeps what the system has, and it is disk.py that loses it. SIDE.new is there while a new
    file's name is in no folder that was synced. SIDE.lost is there once a sync has failed: the system may have forgotten
-   what that sync did not write, so the log is never emptied again, whatever a later sync reports.
+   what that sync should have written, so the log is never emptied again, whatever a later sync reports.
 
    The file `plan` there names calls that must go wrong, a line each: WHICH NUMBER ACTION PART. WHICH is `change`
    (writes, cuts and syncs of both banks, syncs of the folder, counted from 1) or `read`; ACTION is `die` (the process

@@ -341,7 +341,7 @@ export class Pool {
     }
 
     /**
-     * What was tried since then, for the calls that wait, has failed: so do those that waited for half of that time.
+     * What was tried since `begin` for the calls that wait has failed: those that waited for half of that time fail too.
      * @param {number} begin @param {unknown} fault
      */
     #failed(begin, fault) {
@@ -388,8 +388,8 @@ export class Pool {
     }
 
     /**
-     * Finishes what a member that is not lent has pending, in the time that the calls have that wait. If that cannot be,
-     * and none is lent, they fail so.
+     * Finishes what a member that is not lent has pending, in the time of the calls that wait. If that fails, and no
+     * member is lent, they fail with that error.
      */
     async #finish() {
         const begin = performance.now();
