@@ -1,5 +1,5 @@
 #!/bin/sh
-# Copies the store of a server that is at work, or of none: examples/backup.sh FOLDER COPY, where COPY is a new folder, which nobody else may read.
+# Copies the store of a server that is at work, or of none: examples/backup.sh FOLDER COPY. COPY is a new folder, which nobody else may read.
 #
 # The copy opens with all that was answered before this began. It is made again if the server went over to its other bank meanwhile, which the first
 # 13 bytes of both files show: the gate and the generation of each bank (docs/FORMATS.md, "Banks"). It is made as COPY.part.XXXXXX, a folder that no other

@@ -1,5 +1,5 @@
 #!/usr/bin/env python3
-"""A small client of a tuple space, over the frames of docs/FORMATS.md, with nothing but Python's own library.
+"""A small client of a tuple space, over the frames of docs/FORMATS.md, with only Python's own library.
 
     examples/client.py demo                 starts linda pipe, puts, reads, takes and waits, and prints what came back
     examples/client.py demo PORT CLIENT     the same with a server that listens on this port of this machine, as a client that was never used
@@ -193,13 +193,13 @@ class Client:
         self.number = parts["last"]
 
     def put(self, tag, *fields):
-        """Puts a tuple, and answers its id."""
+        """Puts a tuple, and returns its id."""
         self.number += 1
         self.send(out(self.number, tag, *fields))
         return self.answer("Stored")["id"]
 
     def wait_for(self, tag, *patterns, remove=True):
-        """Asks for a tuple, and answers the first reply: an Offer (to take) or a Read; it waits until there is one."""
+        """Asks for a tuple, and returns the first reply: an Offer (to take) or a Read; it waits until there is one."""
         self.ticket += 1
         self.send(ask(self.ticket, remove, tag, *patterns))
         return self.answer("Offer" if remove else "Read")
@@ -209,7 +209,7 @@ class Client:
 
     def look(self, tag, *patterns):
         """A matching tuple that is there now, or None. The Ask is cancelled at once, so that nothing comes for it later; an Out with number 0 is always refused,
-        behind what the Ask led to."""
+        after what the Ask led to."""
         self.ticket += 1
         self.send(ask(self.ticket, False, tag, *patterns) + cancel(self.ticket) + out(0, tag))
         name, parts = self.receive()

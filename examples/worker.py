@@ -7,11 +7,11 @@
 
 A worker keeps nothing on disk. When it starts again under its number it asks for the last reply that the server keeps for it: "taken" means that it had that job and
 put no result yet, so it goes on with it; "stored", that its last result is there. So each job has one result. The work itself may be begun twice, once before the
-kill and once after it; what it led to is put once. It does the same after an error, whatever was under way then.
+kill and once after it; its result is put once. It does the same after an error, whatever was under way then.
 
 The demo starts the program that LINDA names; else `linda` on the PATH; else that of the folder around, a repository or an unpacked release.
 
-What of this is proved: the server takes no tuple twice, keeps what it answered over a kill -9 (if files keep what was synced), and answers a repeated
+What is proved of this: the server takes no tuple twice, keeps what it answered over a kill -9 (if files keep what was synced), and answers a repeated
 number with the reply that it gave. That this program uses it rightly is shown only by the demo.
 """
 

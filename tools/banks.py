@@ -1,6 +1,6 @@
-"""Reads the two banks of a folder into the state that stands there, or into what is wrong and where: docs/FORMATS.md, "Banks", in Python.
+"""Reads the two banks of a folder into the state that is there, or into what is wrong at which place: docs/FORMATS.md, "Banks", in Python.
 
-It is written from the documents alone and shares nothing with the program, so that the two can be compared. It is no tool by itself.
+It is written only from the documents and shares nothing with the program, so that the two can be compared. It is no tool by itself.
 
 A bank is in the first form (LND1) or in the second (LND2). The tuples of a state are the bytes that the second form has for them, whatever the form that
 they were read in, so that states can be compared; `in_form` spells a bank again in another form. The first form has no spelling for a client that left.
@@ -186,19 +186,19 @@ def do(state: State, deed: tuple) -> State:
 
 
 def heading(data: bytes) -> int | None:
-    """The generation of a bank, 0 where it is a foreign one, None where there is none."""
+    """The generation of a bank, 0 if it is a foreign one, None if there is none."""
     if len(data) < 17 or data[0] != 1:
         return None
     return int.from_bytes(data[5:13], "big") if form_of(data) else 0
 
 
 def form_of(data: bytes) -> int:
-    """The form that the letters of a bank tell, 0 where they are others."""
+    """The form that the letters of a bank name, 0 if they are others."""
     return next((form for form, letters in LETTERS.items() if data[1:5] == letters), 0)
 
 
 def verdict(left: bytes, right: bytes) -> Verdict:
-    """What stands on two banks."""
+    """What a server says of two banks."""
     if not left and not right:
         return Verdict(State())
     generations = heading(left), heading(right)
@@ -251,7 +251,7 @@ def spell_bank(generation: int, state: State) -> bytes:
 
 
 def spell_tuple(second: bytes, form: int) -> bytes:
-    """The bytes that a form has for the tuple that the second form spells so; Bad where it has none."""
+    """The bytes that a form has for the tuple that the second form spells so; Bad if it has none."""
     it, (width, longest, most) = Bytes(second), LIMITS[form]
 
     def spelled() -> bytes:
@@ -270,12 +270,12 @@ def spell_tuple(second: bytes, form: int) -> bytes:
 
 
 def in_form(data: bytes, form: int) -> bytes:
-    """A whole bank, spelled again in this form; Bad where it has a tuple, or a client that left, without a spelling there."""
+    """A whole bank, spelled again in this form; Bad if it has a tuple, or a client that left, without a spelling there."""
     def number(value: int, size: int = 8) -> bytes:
         return value.to_bytes(size, "big")
 
     def without_more(kind: int) -> bytes:
-        """The first byte of a deed or of a reply; Bad where the form has none for a client that left."""
+        """The first byte of a deed or of a reply; Bad if the form has none for a client that left."""
         if kind == 4 and form == 1:
             raise Bad
         return bytes([kind])

@@ -1,4 +1,4 @@
-"""The fenced blocks of pages, and a shell that plays them. The head of tools/docs says what a page has to look like.
+"""The fenced blocks of pages, and a shell that plays them. The head of tools/docs says what a page must look like.
 
 It is no tool by itself. tools/docs plays the pages of the repository, tools/release those of a release.
 """
@@ -14,22 +14,22 @@ from pathlib import Path
 from typing import Callable, Iterator, Mapping, NamedTuple
 
 SECONDS = 300
-# How long what is printed in the background may come behind its command.
+# How long after its command the output of a background process may come.
 LATE_SECONDS = 60.0
-# So many lines of a difference are told.
+# The most lines of a difference that are shown.
 MOST_LINES = 12
 NEWLINE = "\n"
 LIKE_COMMAND = re.compile(r"\$ |(?:\./linda|rt|cd|python3|(?:examples|tools|bench)/\S+) ")
 NAME = re.compile(r"(?:#|//) ([\w.-]+\.\w+)(?:: .*)?")
 REASON = re.compile(r"<!-- not run: (.+) -->")
-# What the shell itself tells of a child that a signal ended, and with other words, or not at all, where somebody types.
+# What the shell itself prints of a child that a signal ended; an interactive shell prints other words, or nothing.
 CHILD_ENDED = re.compile(r"\S+: line \d+: +\d+ (?:Killed|Terminated)\b.*\n")
 OWN_NETWORK = ["unshare", "--user", "--map-root-user", "--net", "sh", "-c", 'ip link set lo up && exec "$@"', "sh"]
 RUN_EACH = 'while read -r _file; do (exit "${_status:-0}"); . "$_file" </dev/null; _status=$?; echo "$_status" >&9; done'
 
 
 class Command(NamedTuple):
-    """A command, the line of the page at which it begins, and the lines that it is to print."""
+    """A command, the line of the page at which it begins, and the lines that it must print."""
 
     line: int
     text: str
@@ -37,7 +37,7 @@ class Command(NamedTuple):
 
 
 class Block(NamedTuple):
-    """A fenced block: the line behind its fence, its language, its lines, and why it is not run, if the page says so."""
+    """A fenced block: the line after its fence, its language, its lines, and why it is not run, if the page says so."""
 
     line: int
     language: str
@@ -104,7 +104,7 @@ def pattern_of(wanted: list[str]) -> re.Pattern[str]:
 
 
 def lines_of(raw: bytes) -> str:
-    """What was printed as lines, a last one without its end too, but for what the shell tells of a child's end."""
+    """What was printed as lines, a last one without its end too, but for what the shell prints of a child's end."""
     text = raw.decode(errors="replace")
     return CHILD_ENDED.sub("", text if not text or text.endswith("\n") else text + "\n")
 
@@ -144,7 +144,7 @@ class Shell:
         return lines_of(raw)
 
     def run(self, command: Command) -> tuple[str, int | None]:
-        """What the command printed, and its status, which is none where it did not end in time."""
+        """What the command printed, and its status, which is none if it did not end in time."""
         self.count += 1
         file = self.folder / f"command{self.count}"
         file.write_text(command.text + "\n")
@@ -167,7 +167,7 @@ class Shell:
 
 
 def difference(page: str, command: Command, got: str) -> str:
-    """Where the page says something else than what came, and both, without what is alike at the front and at the end."""
+    """The place at which the page differs from what came, and both texts, without what is alike at the front and at the end."""
     found, wanted = got.splitlines(), command.wanted
     same = len(os.path.commonprefix([found, wanted]))
     found, wanted = found[same:], wanted[same:]
@@ -191,7 +191,7 @@ def is_played(block: Block) -> bool:
 
 def play(page: Path, name: str, top: Path, prefix: list[str], environment: Mapping[str, str] = os.environ,
          plays: Callable[[Block], bool] = is_played) -> tuple[int, list[str]]:
-    """How many commands of a page were run, and what differs. The blocks are those that `plays` says, of those that are played at all."""
+    """How many commands of a page were run, and what differs. Of the blocks that are played at all, it plays those for which `plays` holds."""
     wrong: list[str] = []
     count = 0
     to_do = [block for block in blocks(page) if is_played(block) and plays(block)]

@@ -52,7 +52,7 @@ log file = {folder}/$name.log
 
 
 def lacking() -> list[str]:
-    """What is not here of what a cluster needs."""
+    """The programs that a cluster needs and that are not here."""
     missing = [name for name in COMMANDS if not shutil.which(name)]
     missing += [] if os.geteuid() == 0 else ["root"]
     return missing + ([] if Path("/dev/fuse").exists() else ["/dev/fuse"])

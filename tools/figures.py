@@ -76,7 +76,7 @@ def figure_of(row: Row, table: str, known: dict[str, list[str]]) -> str:
     if row.named not in known:
         sys.exit(f"tools/figures.py: {RESULTS.name} has no row {row.named!r}")
     cells = known[row.named]
-    # What is before a semicolon: of a cell of throughput that of `linda serve`, of a time what it grows by comes after it, of an idle connection its threads.
+    # The part before a semicolon: in a cell of throughput it is that of `linda serve`; its growth comes after a time, its threads after an idle connection.
     first = [it.split(";")[0].strip() for it in cells]
     if table == "throughput":
         return " | ".join(first[:2])

@@ -331,7 +331,7 @@ def asks_that_look_at_all(play: Play) -> str:
 # ---- the seconds of a lease
 
 def leases_of_a_stopped_server(play: Play) -> str:
-    """A server that was stopped ends nobody before the seconds of its lease, and nobody who says something in time."""
+    """A server that was stopped ends no client before the seconds of its lease are over, and none that says something in time."""
     found = []
     with play.server("--lease", "1") as server:
         for turn in range(8):
@@ -375,7 +375,7 @@ def leases_of_a_stopped_server(play: Play) -> str:
 # ---- ends of connections, and of servers
 
 def never_reads(server: Served, client: int) -> socket.socket:
-    """A client that holds a tuple, and to which more is to be written than it takes."""
+    """A client that holds a tuple, and to which the server must write more than it reads."""
     stream = socket.socket()
     stream.setsockopt(socket.SOL_SOCKET, socket.SO_RCVBUF, 4_096)
     stream.connect(("127.0.0.1", server.port))
@@ -533,7 +533,7 @@ def a_crowd_at_once(play: Play) -> str:
 
 
 def a_socket_of_another_server(play: Play) -> str:
-    """A server that ends leaves the file of its socket alone, if it is another server's by then."""
+    """A server that ends does not touch the file of its socket, if it is another server's by then."""
     with tempfile.TemporaryDirectory(prefix="linda-hostile-", dir=SHARED) as name:
         path = Path(name) / "socket"
         with play.server("--socket", str(path), "--sessions", "1") as first:

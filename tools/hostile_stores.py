@@ -1,15 +1,15 @@
 #!/usr/bin/env python3
-"""Stores that fill their disk or are restarted often: each comes to a snapshot, and none is closed for good.
+"""Stores that fill their disk or are restarted often: each takes a snapshot in the end, and none is closed for good.
 
     tools/hostile_stores.py [NAME..]     these parts, or all: lives, small, first; `--program FILE` plays another program than ./linda
 
 - lives: a server of an empty space is ended and started again, 12 times, each time after 300 puts and takes one by one. Its bank may not have the
   records of two lives at the end of any.
 - small: a disk of 64 MiB, and a client that puts 60 tuples of 127 KB and takes them again. A server that goes down is started again. 1,200 pairs, twice
-  the disk, have to go through in 5 lives at most. It needs the right to mount a tmpfs.
+  the disk, must go through in 5 lives at most. It needs the right to mount a tmpfs.
 - first: a large disk and the same client, for 20 seconds: its bank may have 128 MiB at most.
 
-Each line says what it came to; what is not as it has to be is printed, and ends it with 1.
+Each line has the figures of a part; what is not as it must be is printed, and ends it with 1.
 """
 
 from __future__ import annotations
@@ -121,7 +121,7 @@ PARTS: "dict[str, Callable[[Path, Path], str]]" = {"lives": lives, "small": smal
 
 
 def played(program: Path, names: List[str]) -> Iterator[str]:
-    """A line for each part; a Difference if something is not as it has to be."""
+    """A line for each part; a Difference if something is not as it must be."""
     for name in names:
         with tempfile.TemporaryDirectory(prefix="stores-") as place:
             folder = Path(place) / "space"

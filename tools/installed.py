@@ -1,8 +1,8 @@
-"""A release as those have it who unpack or install it: whether it is whole there, and does what its pages say.
+"""Checks a release as users unpack or install it: whether it is whole, and does what its pages say.
 
 It is no tool by itself: tools/release --check uses it. The archive is unpacked into a new folder, and the package is installed, upgraded and removed
 below a folder in place of the system's. The commands of their pages are run as tools/docs runs those of the repository. If the machine lacks what a
-part needs (npm, namespaces, dpkg ..), the part is left out, and said to be.
+part needs (npm, namespaces, dpkg ..), the part is left out, which is printed.
 """
 
 import base64
@@ -25,7 +25,7 @@ NO_SYSTEMD = [*AS_ROOT, "sh", "-c", 'mount -t tmpfs none /run && exec "$@"', "sh
 SYSTEMD = [*AS_ROOT, "sh", "-c", 'mount -t tmpfs none /run && mkdir -p /run/systemd/system && exec "$@"', "sh"]
 # As on a machine where the package is installed: the files below the folder $0 are in /usr too.
 INSTALLED = [*AS_ROOT, "--net", "sh", "-c", 'ip link set lo up && mount -t overlay overlay -o "lowerdir=$0/usr:/usr" /usr && exec "$@"']
-# What a page's commands begin with that not every machine has, and how to see it.
+# Words that commands of pages begin with and that not every machine has, each with a command that shows whether it is there.
 NEEDS = {
     "npm ": ["npm", "--version"],
     # (what it runs was installed by npm)
@@ -37,7 +37,7 @@ NEEDS = {
 PAGES = ("CHANGELOG.md", "SECURITY.md", *(f"docs/{name}.md" for name in ("GUIDE", "COMMANDS", "OPERATING", "BEYOND", "FORMATS", "EVENTS")))
 RELOAD = "systemctl --system daemon-reload"
 SERVERS = "linda.service linda@*.service linda-gate*.service"
-# What each script of the package calls if systemd is at work, and what if it is not: its words, and the calls of both.
+# The calls of each script of the package: its words, its calls if systemd is at work, and its calls if it is not.
 SCRIPTS = (
     ("postinst configure", ["systemd-sysusers linda.conf", RELOAD], ["systemd-sysusers linda.conf"]),
     ("postinst configure 0.1.0", ["systemd-sysusers linda.conf", RELOAD, f"deb-systemd-invoke try-restart {SERVERS}"],
@@ -223,7 +223,7 @@ class Installed:
         return run.returncode == 0
 
     def look_at_scripts(self, package: Path) -> None:
-        """Each script calls what it has to, beside a systemd that is at work and beside none. What it calls writes down how it was called."""
+        """Each script calls what it must, beside a systemd that is at work and beside none. What it calls writes down how it was called."""
         control, fakes, log = self.room / "control", self.room / "fakes", self.room / "calls"
         subprocess.run(["dpkg-deb", "--control", package, control], check=True)
         fakes.mkdir()

@@ -11,7 +11,7 @@ import os
 import shutil
 import sys
 
-# What the program of tools/quick has at its end, after all that is run.
+# The last bytes of a program of tools/quick, after everything that runs.
 UNPROVED = b"\nlinda: unproved\n"
 
 

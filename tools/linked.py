@@ -52,7 +52,7 @@ def faults_of(page: Path, top: Path) -> Iterator[str]:
         if fenced:
             continue
         where = f"{page.relative_to(top)}:{at}"
-        # What stands between back quotes has no links.
+        # What is between back quotes has no links.
         for target in LINK.findall(SPAN.sub("", line)):
             if "://" in target:
                 continue

@@ -5,7 +5,7 @@
     tools/pages.py --check [FILE]     writes nothing, says which of them are others, plays each line of the synopsis, and ends with 1 if there are any
                                       or if the program takes what the synopsis does not have, or the other way round
 
-The man page is packaging/linda.1.in, where these are put in place of lines of their own: `@SYNOPSIS@`, of all commands; `@ABOUT CMD@`, the first line
+The man page is packaging/linda.1.in, in which these lines are replaced: `@SYNOPSIS@`, of all commands; `@ABOUT CMD@`, the first line
 of a command's help; `@OPTIONS CMD@`, its arguments and options, and without CMD those of the program; `@EXAMPLES@`, what comes after the options of
 each. `@VERSION@` and `@DATE@` stay: tools/release puts those in.
 """
@@ -20,7 +20,7 @@ from typing import NamedTuple
 TOP = Path(__file__).resolve().parent.parent
 FOLDER = TOP / "packaging"
 PROVED = TOP / "crates/linda/out/linda"
-# Most used first, as the manual has them.
+# Most used first, as in the manual.
 COMMANDS = ("serve", "call", "inspect", "run", "pipe")
 ROW = re.compile(r" +(?P<names>\S.*?)(?:  +(?P<help>\S.*))?")
 # The words that ask for the other form of a command, over unix sockets.
@@ -28,14 +28,14 @@ SOCKET = ("--socket", "s")
 # Options that only the form over sockets has, and those that exclude one another.
 ONLY_SOCKET = {"--socket", "--mode"}
 EXCLUDED = (("serve", "--lease", "--threads"), ("serve", "--socket", "--threads"), ("serve", "--mode", "--threads"))
-# Options that ask for another one, and values that are taken.
+# Options that need another one, and values that the program takes.
 ASKS_FOR = {"--mode": "--socket", "--metric": "--status"}
 TAKEN = {"--mode": "600", "--dir": "/nonexistent/folder", "--trace": "/dev/null", "--metric": "tag", "--socket": "/nonexistent/s"}
-# The heading, in the help of a call, of what is there in place of its ports.
+# The heading, in the help of a call, of the options that take the place of its ports.
 INSTEAD = "Instead of ports:"
-# The program's own, which its parser does not know as an option: a sentence of its help names it.
+# The program's own option, which its parser does not know: a sentence of its help names it.
 VERSION = ("--version", "Print the version")
-# The parser's own command, whose arguments are the others.
+# The parser's own command, whose arguments are the other commands.
 HELP = ("help", "Print the help of a command")
 
 
@@ -99,13 +99,13 @@ def help_of(program: Path, command: str, *more: str) -> Help:
 # ---- the man page
 
 def escaped(text: str) -> str:
-    """The text as it is to be printed, in a line of the man page."""
+    """The text as it must be written in a line of the man page to be printed so."""
     text = text.replace("\\", "\\e").replace("-", "\\-")
     return "\\&" + text if text.startswith((".", "'")) else text
 
 
 class Form(NamedTuple):
-    """A line of the synopsis: the words that have to be there, and the options that may be."""
+    """A line of the synopsis: the words that must be there, and the options that may be."""
 
     command: str
     words: tuple[str, ...]
@@ -147,7 +147,7 @@ def synopsis_of(form: Form) -> list[str]:
 # ---- each line of the synopsis, played
 
 def played_words(form: Form) -> list[str]:
-    """The words that have to be there, with values that the program takes."""
+    """The words that must be there, with values that the program takes."""
     return [TAKEN.get(form.words[at - 1], "1") if word.startswith("<") and at and form.words[at - 1].startswith("--") else
             "1" if word.startswith("<PORT") else "/nonexistent/folder" if word.startswith("<") else word for at, word in enumerate(form.words)]
 
@@ -200,7 +200,7 @@ def misspelled(program: Path, forms: list[Form]) -> list[str]:
 
 
 def rows_in_man(it: Help, usages: list[str]) -> list[str]:
-    """What each argument and option is, and whether it is required: in each of these usages."""
+    """The lines of each argument and option; one is required if each of these usages has it."""
     lines = []
     for row in (*it.arguments, *it.options):
         if not row.long:
@@ -377,7 +377,7 @@ def made(program: Path) -> Made:
 
 
 def differing(program: Path) -> list[str]:
-    """What packaging/ has otherwise, and the command lines of the synopsis that are not so."""
+    """The files of packaging/ that are others, and the command lines for which the synopsis is wrong."""
     it = made(program)
     others = [f"packaging/{name}: not what tools/pages.py makes" for name, text in it.pages.items() if (FOLDER / name).read_text() != text]
     return others + misspelled(program, it.forms)

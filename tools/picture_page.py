@@ -19,7 +19,7 @@ from pathlib import Path
 from traced import Packet, Reader
 
 PAGE = Path(__file__).resolve().with_suffix(".html")
-# What ends a command of a client when it is printed of it.
+# The words that end a command of a client when they are printed for it.
 ENDS = ("stored", "took", "read", "alarm", "always", "dropped", "left")
 
 

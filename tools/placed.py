@@ -1,4 +1,5 @@
-"""Files of proofs and definitions that are not where the names in them say: so a rename that missed one is seen at once, and not by a proof."""
+"""Finds files of proofs and definitions that are not at the place that the names in them say: so a rename that missed one is found at once, and not by a
+proof."""
 
 import re
 from pathlib import Path

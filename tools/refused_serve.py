@@ -5,17 +5,17 @@
                                                                     from the first growth of a program that is ready
 
 The clients put, take, wait for each other's tuple, send 64 messages at once, greet again, and leave. At each growth that is refused a request gets its answer,
-or a refusal (Busy, Down), or its connection ends, or the program ends with status 3 and `memory` or `store: down`; whoever waits ten seconds for
-anything else is told as a hang. A client that lost its connection greets again and sends what is unanswered; where the program has ended it is started
-again over the same folder, with no growth refused; where it ended before it was ready, the folder may have no store, and is emptied. Then:
+or a refusal (Busy, Down), or its connection ends, or the program ends with status 3 and `memory` or `store: down`; a client that waits ten seconds for
+anything else is reported as a hang. A client that lost its connection greets again and sends what is unanswered; if the program has ended it is started
+again over the same folder, with no growth refused; if it ended before it was ready, the folder may have no store, and is emptied. Then:
 
 - the server's last number of each client is that of its last answered message, or of the one that was unanswered;
 - the last answered message gets the same reply again;
 - at the end the tuples and their ids are those of the run in which nothing was refused, and so are all replies, but for the Gones of Accepts whose hold
-  was given up when a connection or the program ended, and the numbers behind them;
+  was given up when a connection or the program ended, and the numbers after them;
 - the snapshot of a large bank is taken in the end, and has all of its tuples.
 
-The sweep ends where three runs in a row had no growth left to refuse. The first difference is printed, and ends it with 1.
+The sweep ends when three runs in a row had no growth left to refuse. The first difference is printed, and ends it with 1.
 """
 
 import os
@@ -36,11 +36,11 @@ TRIES = 200
 BUSY, DOWN = 3, 8
 LAST_WORDS = ("memory\n", "store: down\n")
 LOOKERS = 100
-# No start over a large bank makes so many growths.
+# More growths than a start over a large bank makes.
 MOST_GROWTHS = 100_000
-# So many tuples are left at the end of the day.
+# How many tuples are left at the end of the day.
 LEFT = 64
-# A large bank has so many tuples that nobody asks for, each with so many letters, in more than 256 KiB, which a client put.
+# A large bank has tuples that nobody asks for, in more than 256 KiB: how many, the letters of each, and the client that put them.
 PADS, LETTERS, PADDER = 1_200, 250, 9
 
 
@@ -49,11 +49,11 @@ class Difference(Exception):
 
 
 class Lost(Exception):
-    """A connection that has ended, or a refusal behind which it does."""
+    """A connection that has ended, or a refusal after which it does."""
 
 
 class Program:
-    """The server, started again where it has ended; in its first life a growth of memory is refused."""
+    """The server, started again if it has ended; in its first life a growth of memory is refused."""
 
     def __init__(self, folder: Path, malloc: str, growth: int) -> None:
         self.folder, self.mark = folder, folder / "refused"
@@ -62,7 +62,7 @@ class Program:
         self.port, self.starts, self.was_ready = 0, 0, False
 
     def start(self) -> None:
-        """Starts it until it is ready: twice at most, since a growth is refused in its first life alone, and once more where that life left no store."""
+        """Starts it until it is ready: twice at most, since a growth is refused only in its first life, and once more if that life left no store."""
         while self.process is None:
             environment = self.environment if self.starts == 0 else None
             self.starts += 1
@@ -76,7 +76,7 @@ class Program:
                 self.end()
 
     def end(self) -> None:
-        """It has ended by itself, as it may."""
+        """Checks that it ended by itself with a status and words with which it may end."""
         assert self.process
         _, said = self.process.communicate(timeout=PATIENCE)
         status = self.process.returncode
@@ -152,7 +152,7 @@ class Client:
             raise Lost from None
 
     def receive(self, names: tuple[str, ...]) -> Frame:
-        """The next reply, which has to be one of these, or a refusal behind which the connection is of no use."""
+        """The next reply, which must be one of these, or a refusal after which the connection is of no use."""
         if self.peer is None:
             raise Lost
         while True:
@@ -174,7 +174,7 @@ class Client:
         return self.receive(names)
 
     def held(self, work) -> None:  # noqa: ANN001
-        """Does this over a connection, and again over a new one where that one ended."""
+        """Does this over a connection, and again over a new one if that one ended."""
         for _ in range(TRIES):
             try:
                 if self.peer is None:
@@ -214,7 +214,7 @@ class Client:
         self.send(frames.ask(self.ticket, True, tag, frames.INT))
 
     def take(self, tag: str, has_asked: bool = False) -> None:
-        """Takes the tuple that is offered; asks anew where the connection of the Ask has ended, or the hold was given up meanwhile."""
+        """Takes the tuple that is offered; asks anew if the connection of the Ask has ended, or the hold was given up meanwhile."""
         asked = has_asked and self.peer is not None
 
         def work() -> None:
@@ -255,7 +255,7 @@ def play(program: Program) -> tuple[list, dict[int, tuple], int]:
 
 
 def left_over(program: Program) -> dict[int, tuple]:
-    """The tuples that nobody took, by their ids; asked for again where the growth that is refused is one of this asking, until all are free again."""
+    """The tuples that nobody took, by their ids; asked for again if the growth that is refused is one of this asking, until all are free again."""
     tuples: dict[int, tuple] = {}
     for _ in range(TRIES):
         if program.process and program.has_ended():
@@ -327,7 +327,7 @@ def run(malloc: str, growth: int, is_large: bool) -> tuple[tuple[list, dict[int,
 
 
 def first_when_ready(malloc: str) -> int:
-    """The first growth of a program that is ready, over a large bank: about so many are made before."""
+    """The first growth of a program that is ready, over a large bank, by bisection: the growths before it are made at the start."""
     low, high = 1, MOST_GROWTHS
     while low < high:
         middle, folder = (low + high) // 2, Path(tempfile.mkdtemp())

@@ -6,12 +6,12 @@ from world import Formal, bases_and_nacks, command_text
 
 # The limits of values: bytes of a text, and fields after the tag.
 MOST_TEXT, MOST_FIELDS = 4_095, 32
-# So many bytes of texts a script puts at most: far fewer than a bank of `linda run` has room for.
+# The most bytes of texts that a script puts: far fewer than a bank of `linda run` has room for.
 MOST_BYTES = 200_000
 
 
 class Script:
-    """A random script, and what its choices are made of."""
+    """A random script, and the state that its choices depend on."""
 
     def __init__(self, seed: int) -> None:
         self.random = random.Random(seed)

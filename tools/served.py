@@ -1,6 +1,6 @@
 """What the tools that play with `linda serve` share: a server as a process, a connection that speaks frames, and what a process uses.
 
-It is no tool by itself. Frames are those of examples/client.py, which is written from docs/FORMATS.md alone.
+It is no tool by itself. Frames are those of examples/client.py, which is written only from docs/FORMATS.md.
 """
 
 from __future__ import annotations
@@ -122,7 +122,7 @@ class Peer:
         return self.receive()
 
     def greet(self, client: int, fresh: bool = False) -> int:
-        """Greets, and again while the server says Busy; answers the last number."""
+        """Greets, and again while the server says Busy; returns the last number."""
         while True:
             name, parts = self.ask(frames.hello(client, fresh))
             if name == "Welcome":
@@ -135,7 +135,7 @@ class Peer:
 
 
 def listing(port: int, template: bytes, first_client: int, patience: float | None = PATIENCE) -> dict[int, tuple]:
-    """All tuples that the template (as it stands in an Ask) matches and that nobody holds, with their ids: each is asked for under a ticket of its own
+    """All tuples that the template (as it is in an Ask) matches and that nobody holds, with their ids: each is asked for under a ticket of its own
     and offered, 64 to each client, from this number on; the connections are closed at the end, which gives all of them free again. Meanwhile each says
     something now and then, so that no lease ends it. A server that is down, or that refuses for another reason, is a ConnectionError."""
     found: dict[int, tuple] = {}

@@ -1,6 +1,6 @@
 // Runs the script of the status page without a browser, for tools/status: standard input is one object of JSON, with the `page` and with `answers`,
 // each a time in milliseconds and what /status.json says then, or null if nothing answers. It prints, after each answer, what the page shows: a line of
-// JSON with the `text` of each element that has one, in order, the `label` of each list with its value, and where each chart has its points.
+// JSON with the `text` of each element that has one, in order, the `label` of each list with its value, and the places of the points of each chart.
 
 import { readFileSync } from 'node:fs';
 import { createContext, runInContext } from 'node:vm';

@@ -1,4 +1,4 @@
-"""Reads the trace of a run (docs/COMMANDS.md, "Traces"), for those who show it.
+"""Reads the trace of a run (docs/COMMANDS.md, "Traces"), for the tools that show it.
 
 It is no tool by itself: tools/picture draws what `Reader` reads, as one picture or as a page of steps.
 """
@@ -23,7 +23,7 @@ class Packet(NamedTuple):
 
 
 class Reader:
-    """Reads a trace from front to end, and calls a method `on_..` of its own for each line. The servers and packets that a method is given are there.
+    """Reads a trace from front to end, and calls a method `on_..` of its own for each line. The servers and packets that a method is given exist.
     A line that is no line of a trace ends the program with its number; one with an unknown first word is passed over.
 
     After a line `packets` has the packets that were sent, by number, `delivered` those that were delivered, `puts` how many tuples were put at each

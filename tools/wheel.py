@@ -1,4 +1,4 @@
-"""A wheel of a Python package without compiled parts, written by hand: a zip of its files and of what `pip` wants to know of them.
+"""A wheel of a Python package without compiled parts, written by hand: a zip of its files and of what `pip` must know of them.
 
 It is no tool by itself: tools/release makes the wheel of clients/python with it. Nothing is built, so it needs no network. Two wheels of the same
 files and the same time are equal to the byte.

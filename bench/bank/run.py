@@ -31,7 +31,7 @@ NEEDED = ["linda_map_laws", "linda_rising", "linda_ghost", "linda_tuple", "linda
 
 
 def build(folder):
-    """Lays out a repository of the crates that are needed and of the program, builds it, and answers the program's file."""
+    """Lays out a repository of the crates that are needed and of the program, builds it, and returns the program's file."""
     crates = os.path.join(folder, "crates")
     for name in NEEDED:
         shutil.copytree(os.path.join(TOP, "crates", name), os.path.join(crates, name))
@@ -115,7 +115,7 @@ def main():
 
 
 def print_growths(form, rows):
-    """Tells how the time of a deed grows from the first size to the last with records of 64; the growths of an append and of an opening."""
+    """Prints how the time of a deed grows from the first size to the last with records of 64; returns the growths of an append and of an opening."""
     (_, few, first), (_, many, last) = rows[0], rows[2]
     growths = [(after / many) / (before / few) for before, after in zip(first[form][0], last[form][0])]
     told = ", ".join(f"{name} {growth:.2f}" for name, growth in zip(("append", "open", "copy"), growths))

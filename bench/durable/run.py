@@ -1,7 +1,7 @@
 #!/usr/bin/env python3
 """Times a durable server on two files and on two disks in memory, beside a plain loop over a file.
 
-It proves and builds `main.rt.txt` (so named since the gate reads each `.rt` file) over the crates of this repository, in a folder of its own.
+It proves and builds `main.rt.txt` (so named since CI reads each `.rt` file) over the crates of this repository, in a folder of its own.
 A record of one put or of 64, and then of as many takes, is written and synced in four device calls, two of them data syncs; the plain loop
 writes as many bytes and syncs as often, and no more. A time is the least of five runs. The ratio is the plain loop's time to the server's; it fails if
 that is below 0.8 on files. Then the server with 1,000,000 tuples writes a snapshot and is opened again, with the memory that took.
@@ -30,7 +30,7 @@ NEEDED = ["linda_map_laws", "linda_rising", "linda_ghost", "linda_tuple", "linda
 
 
 def build(folder):
-    """Lays out a repository of the crates that are needed and of the program, builds it, and answers the program's file."""
+    """Lays out a repository of the crates that are needed and of the program, builds it, and returns the program's file."""
     crates = os.path.join(folder, "crates")
     for name in NEEDED:
         shutil.copytree(os.path.join(TOP, "crates", name), os.path.join(crates, name))

@@ -19,7 +19,7 @@ LINDA = os.path.join(HERE, "..", "..", "crates", "linda", "out", "linda")
 
 
 def run_once(words, source, target):
-    """Runs a program from a file to a file, and answers its processor seconds and its peak memory in bytes."""
+    """Runs a program from a file to a file, and returns its processor seconds and its peak memory in bytes."""
     with open(source, "rb") as stdin, open(target, "wb") as stdout:
         child = subprocess.Popen(words, stdin=stdin, stdout=stdout)
         _, status, usage = os.wait4(child.pid, 0)
@@ -30,7 +30,7 @@ def run_once(words, source, target):
 
 
 def generate(folder, count):
-    """Writes the stream of so many puts, and answers its file."""
+    """Writes the stream of `count` puts, and returns its file."""
     source = os.path.join(folder, f"stream{count}")
     with open(source, "wb") as stream:
         subprocess.run([sys.executable, os.path.join(HERE, "generate.py"), str(count)], stdout=stream, check=True)
@@ -48,7 +48,7 @@ def best_of_rounds(words, sources, target):
 
 
 def check_replies(folder, source, count):
-    """One line answers the Hello and one each put; the last put's number is its id."""
+    """Checks that one line answers the Hello and one each put; the last put's number is its id."""
     target = os.path.join(folder, "replies")
     run_once([LINDA, "pipe"], source, target)
     lines, line = 0, ""

@@ -1,4 +1,4 @@
-// A load driver for `linda serve`, built by run.py with cc. It speaks frames as docs/FORMATS.md has them, over
+// A load driver for `linda serve`, built by run.py with cc. It speaks frames as docs/FORMATS.md defines them, over
 // connections of one thread.
 //
 //     drive sync FILE SECONDS                          appends 64 bytes and syncs the data, over and over
@@ -23,7 +23,7 @@
 //     server A N V I     acknowledged puts and takes in all, and what the server used for them: nanoseconds of the
 //                        processors, voluntary and involuntary context switches of its threads
 //     driver P E         nanoseconds of a processor that this thread used meanwhile, and that went by
-//     held N             so many connections are there
+//     held N             N connections are there
 
 #include <arpa/inet.h>
 #include <dirent.h>
@@ -60,7 +60,7 @@ static pid_t server;
 static uint64_t began, began_processor, until, moment, last, gap, acknowledged, slices[SLICES], job;
 static uint64_t *times;
 static size_t timed, timed_room;
-// What came and what is to go, of the connection that is at hand.
+// The bytes that came and those to send, for the connection that is at hand.
 static unsigned char came[REST + ROOM], going[ROOM];
 static size_t to_go;
 
@@ -74,7 +74,7 @@ static uint64_t now(void) {
     return nanoseconds_of(CLOCK_MONOTONIC);
 }
 
-// The load begins now, and lasts so long.
+// The load begins now, and lasts for this time.
 static void start(uint64_t nanoseconds) {
     began_processor = nanoseconds_of(CLOCK_PROCESS_CPUTIME_ID);
     began = moment = last = now(), until = began + nanoseconds;
@@ -247,7 +247,7 @@ static int rises(const void *a, const void *b) {
     return (x > y) - (x < y);
 }
 
-// The least time that so many in 1,000 did not exceed.
+// The least time that `share` in 1,000 of the times did not exceed.
 static uint64_t time_of(size_t share) {
     return times[(timed * share + 999) / 1000 - 1];
 }
@@ -337,7 +337,7 @@ static void turn(void (*heard)(struct connection *, int, const unsigned char *))
     for (int i = 0; i < ready; i++) hear(events[i].data.ptr, heard);
 }
 
-// The clients that do something lie evenly among the connections.
+// The clients that do something are spread evenly among the connections.
 static void load(int clients, void (*heard)(struct connection *, int, const unsigned char *)) {
     uint64_t nanoseconds = until;
     struct use before = use_of_server();

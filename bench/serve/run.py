@@ -1,17 +1,17 @@
 #!/usr/bin/env python3
-"""Measures `linda serve` under load, by what the same disk can sync, and what the server uses for it.
+"""Measures `linda serve` under load, against what the same disk can sync, and what the server uses for it.
 
-    bench/serve/run.py [ROUNDS] [SECONDS]     rounds (3) over all cells, so many seconds each (1)
+    bench/serve/run.py [ROUNDS] [SECONDS]     rounds (3) over all cells, SECONDS seconds each (1)
         --program 'FILE [WORD..]'   the program, and further words for its `serve`; ./linda if none is given.
                                     Each further one is a further column
         --against                   each program once more, with --threads
         --beside redis              Redis as a further column, if redis-server is here: it appends each write to its
                                     log and syncs that before it answers (`appendfsync always`). A put is RPUSH, a
-                                    take LPOP, and who waits says BLPOP. Only loads and idle connections are played
+                                    take LPOP, and a client that waits says BLPOP. Only loads and idle connections are played
         --only TEXT                 the cells with this text in their names, and those of each further one
         --realtime                  all in a real-time class
 
-The driver, drive.c, is built with cc; it speaks frames over sockets as docs/FORMATS.md has them, from one thread. The
+The driver, drive.c, is built with cc; it speaks frames over sockets as docs/FORMATS.md defines them, from one thread. The
 stores lie in new folders below this repository, so on its disk, and each cell has a new server. In a round each cell is
 measured with each program in turn; in the next round the programs come in the other order. Before and after each cell a
 plain loop appends 64 bytes and syncs them, on the same disk.
@@ -39,7 +39,7 @@ The other cells, with each program:
   process asks for `/tags` each second.
 
 With --realtime server, driver and loop run in a real-time class (which takes root), ahead of all else on the machine.
-If others use the processors, a thread that wakes waits for them otherwise, and the figures say little of the server.
+If others use the processors, a thread that wakes waits for them otherwise, and the figures say little about the server.
 
 It ends with 1 if a cell could not be measured. A cell that needs more open files than a process may have here is left
 out, with a line that says so.
@@ -88,7 +88,7 @@ LOADS = {
     "wake, 1 waits": ["wake", "1"],
     "wake, 64 wait": ["wake", "64"],
 }
-# While this is played, the numbers of the server are asked for so many times a second over HTTP.
+# The load during which the numbers of the server are asked for over HTTP, and how many times a second.
 SCRAPED, SCRAPES = "put and take, 64 clients, scraped", 1_000
 REDIS = "redis"
 IDLE = {"idle connections, 1,000": 1_000, "idle connections, 10,000": 10_000}
@@ -99,9 +99,9 @@ CROWDED = 60_000
 PROBE_SECONDS, PAUSE_SECONDS = "0.5", "6"
 # The log looks for events ten times a second.
 LOG_SECONDS = 0.5
-# So many open files of a process are no connections, at most.
+# The most open files of a process that are no connections.
 OTHER_FILES = 64
-# A client that no connection has, which put what is in a store at first; those after it took a tuple.
+# A client without a connection, which put what is in a store at first; those with the numbers after it took a tuple.
 EARLIER = 1_000_000
 DEEDS_OF_A_RECORD = 64
 SNAPSHOT_TAKEN = re.compile(r" snapshot result taken milliseconds (\d+)")
@@ -109,11 +109,11 @@ PRIORITY = 5
 
 
 class Missing(Exception):
-    """Why a cell was not measured."""
+    """The reason why a cell was not measured."""
 
 
 class Forbidden(Missing):
-    """A limit of the machine is why."""
+    """A limit of the machine is the reason."""
 
 
 @dataclass(frozen=True)
@@ -224,7 +224,7 @@ class Bench:
         return found | {"rate": rates[0], "fast": rates[0] / fast, "mean": rates[1] / mean}
 
     def hold(self, server: Server | redis.Redis, count: int, kind: str = "hold") -> Measures:
-        """The server's memory without connections and with so many, for each of them, and its threads."""
+        """The server's memory for each of `count` connections, beyond that without connections, and its threads."""
         need(count)
         without = memory_of(server)
         with subprocess.Popen([self.driver, kind, str(server.port), str(count)], stdin=subprocess.PIPE,
@@ -257,7 +257,7 @@ def free_port() -> int:
 
 @contextlib.contextmanager
 def asking(port: int, path: str, often: int) -> Iterator[Synchronized]:
-    """While another process asks for the page, so many times a second: how often it had it."""
+    """The counter of another process that asks for the page `often` times a second: how often it had it."""
     count = multiprocessing.Value("L", 0)
     other = multiprocessing.Process(target=scrape, args=(port, path, often, count), daemon=True)
     other.start()
@@ -281,7 +281,7 @@ def scrape(port: int, path: str, often: int, count: Synchronized) -> None:
 
 
 def need(connections: int) -> None:
-    """Raises Forbidden if a process may not have so many connections here."""
+    """Raises Forbidden if a process may not have this number of connections here."""
     limit = resource.getrlimit(resource.RLIMIT_NOFILE)[0]
     if connections + OTHER_FILES > limit:
         raise Forbidden(f"{connections:,} connections, and a process may have {limit:,} open files here")
@@ -309,7 +309,7 @@ def saved_bank() -> bytes:
 
 
 def recorded_bank(clients: int = 0) -> bytes:
-    """A bank with its tuples in records after a snapshot that only keeps replies for so many clients: 1,024 records later its server takes a snapshot."""
+    """A bank with its tuples in records after a snapshot that only keeps replies for `clients` clients: 1,024 records later its server takes a snapshot."""
     def deed(number: int) -> bytes:
         return b"\1" + EARLIER.to_bytes(4, "big") + number.to_bytes(8, "big") + job(number)
 

@@ -1,8 +1,8 @@
 #!/usr/bin/env python3
 """Times workers in threads of their own that share a durable server, on two files and on two disks in memory.
 
-It proves and builds `main.rt.txt` (so named since the gate reads each `.rt` file) over the crates of this repository, in a folder of its own.
-So many workers put as many tuples each, one message after another, and as many others take them, each by an ask and an accept. What waits
+It proves and builds `main.rt.txt` (so named since CI reads each `.rt` file) over the crates of this repository, in a folder of its own.
+Workers put tuples, each as many and one message after another, and as many others take them, each by an ask and an accept. What waits
 is written in one record, of four device calls, two of them data syncs; how many records there are is read off the bank's file. The plain loop writes a record
 of one put and syncs as often, and no more. A time is the least of three runs.
 
@@ -27,7 +27,7 @@ NEEDED = ["linda_map_laws", "linda_rising", "linda_ghost", "linda_tuple", "linda
 
 
 def build(folder):
-    """Lays out a repository of the crates that are needed and of the program, builds it, and answers the program's file."""
+    """Lays out a repository of the crates that are needed and of the program, builds it, and returns the program's file."""
     crates = os.path.join(folder, "crates")
     for name in NEEDED:
         shutil.copytree(os.path.join(TOP, "crates", name), os.path.join(crates, name))

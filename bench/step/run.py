@@ -1,17 +1,17 @@
 #!/usr/bin/env python3
 """Times single steps of a store that has many tuples and many open asks of other clients, and beside many clients that left.
 
-It proves and builds `main.rt.txt` (so named since the gate reads each `.rt` file) over the crates of this repository, in a folder of its own, and runs it for each act (`key`,
-`any`, `out`, `last`, `ask`, `held`, `freed`: see there) at 1,000, 10,000 and 100,000 tuples and at 0, 64, 4,096 and 65,536 open asks. A time
-is the least of four runs, each the mean of some rounds. It prints the table, and the growth from the first size to the
-last, and fails if a take by key or a take of any grows more than twice from 1,000 to 100,000 tuples, any act but
-`last`, `held` and `freed` more than twice from no open ask to 65,536 asks for another tag, `last` more than twice from 64 asks
-for its own tag, each with another key, to 65,536, or `held` or `freed` more than one and a half times from no held tuple of the
-tag to 4,096.
+It proves and builds `main.rt.txt` (so named since CI reads each `.rt` file) over the crates of this repository, in a folder of its own, and runs it for each
+act (`key`, `any`, `out`, `last`, `ask`, `held`, `freed`: see there) at 1,000, 10,000 and 100,000 tuples and at 0, 64, 4,096 and 65,536 open asks. A time is the
+least of four runs, each the mean of some rounds. It prints the table, and the growth from the first size to the last, and fails if a take by key or a take of
+any grows more than twice from 1,000 to 100,000 tuples, any act but `last`, `held` and `freed` more than twice from no open ask to 65,536 asks for another tag,
+`last` more than twice from 64 asks for its own tag, each with another key, to 65,536, or `held` or `freed` more than one and a half times from no held tuple of
+the tag to 4,096.
 
 Then the acts `key`, `any`, `out`, `ask` and `left` at 1,000 tuples and no open ask, beside no client that left (1,000 for `left`) and beside 65,534, which with the
 two at work are all that a server keeps; and `leave`, 20,000 clients one after another, the first of all and the last of all. It fails if one of these grows
-more than twice, `left` more than four times. At last the memory in use among 100,000 tuples: of a process in which 65,534 clients left, less that of one in which none did, for each of them.
+more than twice, `left` more than four times. Finally it prints the memory in use among 100,000 tuples: of a process in which 65,534 clients left, less that of
+one in which none did, for each of them.
 
 `run.py PROGRAM` runs a program that is built already.
 """
@@ -27,12 +27,12 @@ BESIDE_HELD = ["held", "freed"]
 TUPLES = [1_000, 10_000, 100_000]
 ASKS = [0, 64, 4_096, 65_536]
 RUNS = 4
-# Many, so that what is timed is a store at work for a while.
+# Many rounds, so that a store is timed that has been at work for a while.
 ROUNDS = 20_000
 BESIDE_LEFT = ["key", "any", "out", "ask", "left", "leave"]
-# All clients that a server keeps, but for the two at work.
+# All clients that a server keeps, except the two at work.
 MOST_LEFT = 65_534
-# As one of few that left: of so many, so that finding that client takes some levels of the map of all.
+# The few that left: enough that finding one of them takes some levels of the map of all.
 FEW_LEFT = 1_000
 MOST_GROWTH = 2.0
 MOST_BESIDE_HELD = 1.5
@@ -44,7 +44,7 @@ NEEDED = ["linda_map_laws", "linda_rising", "linda_tuple", "linda_codec", "linda
 
 
 def build(folder):
-    """Lays out a repository of the crates that are needed and of the program, builds it, and answers the program's file."""
+    """Lays out a repository of the crates that are needed and of the program, builds it, and returns the program's file."""
     crates = os.path.join(folder, "crates")
     for name in NEEDED:
         shutil.copytree(os.path.join(TOP, "crates", name), os.path.join(crates, name))
@@ -76,7 +76,7 @@ def memory_once(program, left):
 
 
 def beside_left(program):
-    """Tells the acts beside clients that left and the memory of each of these; the growth of each act."""
+    """Prints the times of the acts beside clients that left, and the memory of each such client; returns the growth of each act."""
     growths = {}
     print("| act | few clients that left | many | growth |")
     print("|---|---|---|---|")

@@ -223,7 +223,7 @@ typedef struct {
     linda_items items;
 } linda_frame;
 
-/* Who sent a frame. */
+/* The side that sent a frame. */
 typedef enum { LINDA_CLIENT, LINDA_SERVER } linda_side;
 
 typedef enum {
@@ -236,7 +236,7 @@ typedef enum {
 
 /* ---- writing */
 
-/* Where bytes go: `at` of `room` are written; `ok` is false once one was refused. */
+/* The buffer for bytes that are written: `at` of `room` are written; `ok` is false once one was refused. */
 typedef struct {
     uint8_t *data;
     size_t room;
@@ -368,7 +368,7 @@ static inline size_t linda_encode(const linda_frame *frame, uint8_t *data, size_
 
 /* ---- reading */
 
-/* Where bytes come from: the next is at `at`, and the frame ends at `end`. Once `ok` is false `at` is the offset of the
+/* The bytes that are read: the next is at `at`, and the frame ends at `end`. Once `ok` is false `at` is the offset of the
    first fault. */
 typedef struct {
     const uint8_t *data;
@@ -383,7 +383,7 @@ static inline void linda_fail(linda_reader *from, size_t offset)
     from->ok = false;
 }
 
-/* The next bytes, or NULL if there are not so many before the end of the frame. */
+/* The next `size` bytes, or NULL if there are fewer before the end of the frame. */
 static inline const uint8_t *linda_get(linda_reader *from, size_t size)
 {
     if (!from->ok) return NULL;

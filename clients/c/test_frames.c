@@ -49,7 +49,7 @@ static uint8_t *bytes_of(const char *hex, size_t *size)
     return bytes;
 }
 
-/* ---- words, as examples/client.py has them */
+/* ---- words, as examples/client.py writes them */
 
 static char words[4096];
 static size_t words_size;

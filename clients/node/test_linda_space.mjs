@@ -65,7 +65,7 @@ class Server {
         await this.ended;
     }
 
-    /** It does nothing, and its connections stay, until it goes on. */
+    /** Stops it: it does nothing, and its connections stay, until it goes on. */
     async stop() {
         this.child.kill('SIGSTOP');
         const folder = `/proc/${this.child.pid}/task`;
@@ -115,7 +115,7 @@ class Scene {
         return one;
     }
 
-    /** A peer that says what the program does not say: a function for each connection, one after another. */
+    /** A peer that says what the program never says: a function for each connection, one after another. */
     async fake(...talks) {
         const fake = { talks: [], port: 0 };
         const listener = net.createServer((stream) => {
@@ -127,7 +127,7 @@ class Scene {
         await new Promise((resolve) => { listener.listen(0, '127.0.0.1', resolve); });
         this.closed.push(() => listener.close());
         fake.port = listener.address().port;
-        /** All was said, and nothing else was sent than what was expected. */
+        /** Checks that all was said, and that only what was expected was sent. */
         fake.end = async () => {
             assert.equal(talks.length, 0, 'there were fewer connections');
             await Promise.all(fake.talks);
@@ -164,7 +164,7 @@ class Peer {
         }
     }
 
-    /** Exactly these bytes come next. */
+    /** Checks that exactly these bytes come next. */
     async expect(...data) {
         const wanted = Buffer.concat(data);
         await this.until(() => this.came.length >= wanted.length);
@@ -172,7 +172,7 @@ class Peer {
         this.came = this.came.subarray(wanted.length);
     }
 
-    /** Nothing more comes, and the connection ends. */
+    /** Checks that nothing more comes, and that the connection ends. */
     async end() {
         while (!this.isOver) await new Promise((resolve) => { this.wake = resolve; });
         assert.equal(this.came.toString('hex'), '');
@@ -207,7 +207,7 @@ function framed(...parts) {
     return Buffer.concat([number(body.length, 4), body]);
 }
 
-/** A tuple as bytes: what stands behind the number in an Out. */
+/** A tuple as bytes: what is after the number in an Out. */
 const spelled = (tuple) => frames.out(0, tuple).subarray(13);
 const welcome = (last) => framed(0x11, number(last));
 const stored = (own, id) => framed(0x12, number(own), number(id));
@@ -234,7 +234,7 @@ async function fails(call, type, properties = {}) {
     return fault;
 }
 
-/** What a call ends with, again while a server is slower than a space with short patience waits for. */
+/** The result of a call, which is made again while a server is slower than the short patience of a space. */
 async function patient(call) {
     const end = performance.now() + LONG;
     for (;;) {
@@ -248,7 +248,7 @@ async function patient(call) {
     }
 }
 
-/** The error of a call that takes at least so many milliseconds, and not for ever. The call began before it is given here, so some of its time is
+/** The error of a call that takes at least so many milliseconds, and less than `LONG`. The call began before this function, so some of its time is
  * not seen. */
 async function failsAfter(least, call, type, properties) {
     const begin = performance.now();
@@ -279,7 +279,7 @@ async function encrypted(scene, port) {
     return listener.address().port;
 }
 
-/** What plays it in a folder of its own, and again, four times in all, if what was held is gone: on a busy machine this program may stand still for longer than a lease. */
+/** Plays it in a folder of its own, and again, four times in all, if what was held is gone: a busy machine may stop this program for longer than a lease. */
 const unlessLate = (work) => async (scene) => {
     for (let left = 3; ; left--) {
         try {
@@ -332,7 +332,7 @@ function eventOf([kind, ...parts]) {
     }
 }
 
-/** How a call ended, as the file tells it. */
+/** How a call ended, as the file writes it. */
 function endOf(ended) {
     if (ended instanceof Stored) return ['stored', ended.server, ended.id];
     if (ended instanceof Kept) {
@@ -1096,7 +1096,7 @@ describe('over servers', { concurrency: 4 }, () => {
     });
 });
 
-// ---- what is waited for, and what an error leaves behind
+// ---- waits, and what an error leaves pending
 
 describe('waits', { concurrency: 4 }, () => {
     play('a Hello that is never answered', async (scene) => {
@@ -1180,7 +1180,7 @@ describe('waits', { concurrency: 4 }, () => {
     });
 
     play('what is asked when the time is up', async (scene) => {
-        // A message that is always answered goes behind the Asks; an offer before its answer is accepted, and one
+        // A message that is always answered is sent after the Asks; an offer before its answer is accepted, and one
         // after it is given back.
         const fake = await scene.fake(async (peer) => {
             await greets(peer, 0);
@@ -1751,7 +1751,7 @@ describe('waits', { concurrency: 4 }, () => {
     });
 });
 
-// ---- what is held, and how its loss is said
+// ---- what is held, and how its loss is reported
 
 const RENEWAL = frames.cancel(2n ** 63n - 1n);
 const GAP = 5;
@@ -2200,7 +2200,7 @@ describe('several at once', { concurrency: 4 }, () => {
         await fake.end();
     });
 
-    // A loss behind so many that were answered, and so many that were done.
+    // A loss after some were answered, and some more were done.
     for (const answered of range(0, 4)) {
         for (const done of range(answered, 5)) {
             play(`outs of which ${done} were done and ${answered} answered`, async (scene) => {
@@ -3280,7 +3280,7 @@ describe('client numbers', { concurrency: 4 }, () => {
             return one.client;
         };
         assert.equal(await found(range(100, 120)), 103);
-        // Not if it is behind one that was never used: so far it is looked at.
+        // Not if it comes after one that was never used: the search ends there.
         assert.equal(await found([101, 110, 103]), 101);
         assert.equal(await found([110, 103]), 110);
         assert.equal(await found([100, 102, 103], { fresh: false }), 103);
@@ -3428,7 +3428,7 @@ describe('client numbers', { concurrency: 4 }, () => {
         }
     });
 
-    /** The port of a server that answers the first message of each connection so, and no more. */
+    /** The port of a server that answers the first message of each connection with this, and says no more. */
     const answering = async (scene, answer) => {
         const listener = net.createServer((stream) => { stream.once('data', () => answer(stream)); });
         await new Promise((resolve) => { listener.listen(0, '127.0.0.1', resolve); });
@@ -3548,7 +3548,7 @@ describe('packed values', () => {
     });
 
     test('have limits', async () => {
-        // Each has two quotes more. ASCII fills each field; 'é', of two bytes, leaves one free behind 'x' and a quote.
+        // Each has two quotes more. ASCII fills each field; 'é', of two bytes, leaves one free after 'x' and a quote.
         assert.deepEqual(pack('x'.repeat(8_188), 2).map((text) => text.length), [4_095, 4_095]);
         assert.deepEqual(pack(`x${'é'.repeat(4_093)}`, 2).map((text) => Buffer.byteLength(text)), [4_094, 4_095]);
         assert.equal(Buffer.byteLength(pack('\u{1f600}'.repeat(30_690)).join('')), 122_762);

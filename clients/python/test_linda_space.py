@@ -46,7 +46,7 @@ MOST_CLIENTS = 65_536
 
 
 def setUpModule() -> None:
-    """Ctrl-C raises KeyboardInterrupt, though a shell that begins this in the background has it ignored."""
+    """Makes Ctrl-C raise KeyboardInterrupt, though a shell that begins this in the background lets it be ignored."""
     signal.signal(signal.SIGINT, signal.default_int_handler)
 
 
@@ -72,7 +72,7 @@ class Server:
                 stream.close()
 
     def stop(self) -> None:
-        """It does nothing, and its connections stay, until it goes on."""
+        """Stops it: it does nothing, and its connections stay, until it goes on."""
         self.process.send_signal(signal.SIGSTOP)
         while any(thread.read_text().rsplit(")", 1)[1].split()[0] != "T" for thread in Path(f"/proc/{self.process.pid}/task").glob("*/stat")):
             time.sleep(0.001)
@@ -101,7 +101,7 @@ class Peer:
         return data
 
     def expect(self, data: bytes) -> None:
-        """Exactly these bytes come next; none: the connection ends."""
+        """Checks that exactly these bytes come next; if there are none, that the connection ends."""
         if data:
             found = self.exactly(len(data))
             assert found == data, f"found {found.hex()}, not {data.hex()}"
@@ -185,7 +185,7 @@ class WithServers(unittest.TestCase):
 
     @contextmanager
     def short(self, space: Space) -> Iterator[None]:
-        """The space has little patience for a while."""
+        """Gives the space a short patience for a while."""
         with mock.patch.object(space, "_patience", 0.3):
             yield
 
@@ -205,7 +205,8 @@ class OverServers(WithServers):
             space.out("a")
 
     def test_a_number_is_its_own_while_its_server_is_away(self) -> None:
-        """A server sees only who is connected: another copy of the program would have the number, and what the first puts would be taken for the other's."""
+        """A server knows only which clients are connected: another copy of the program would have the number, and what the first puts would be taken for the
+        other's."""
         server = self.serve()
         for client in (str(self.folder / "numbers"), range(100, 110)):
             first = self.space(server, client=client)
@@ -751,7 +752,7 @@ PROBE = frames.accept(0, 0, 0)
 
 
 class OverPairs(unittest.TestCase):
-    """Servers that say what they do not say over the program, over socket pairs."""
+    """Servers, over socket pairs, that say what servers of the program never say."""
 
     def space(self, *told: bytes, lasts: Tuple[int, ...] = (), **more: Any) -> Space:
         """A space whose server welcomes it and then sends these bytes at the first connection, those at the second, and so on. `lasts` are the last numbers of
@@ -839,7 +840,7 @@ class OverPairs(unittest.TestCase):
 
 
 class Fake:
-    """A server on a port that says what the program does not say: a function for each connection, one after another, and then nobody listens."""
+    """A server on a port that says what the program never says: a function for each connection, one after another, and then nobody listens."""
 
     def __init__(self, *talks: Callable[[Peer], None]) -> None:
         self.talks = talks
@@ -860,7 +861,7 @@ class Fake:
                     talk(Peer(stream=stream))
 
     def end(self) -> None:
-        """All was said, and nothing else was sent than what was expected."""
+        """Checks that all was said, and that only what was expected was sent."""
         self.going.end()
 
 
@@ -913,7 +914,7 @@ class Cutting:
 
 
 class Waits(WithServers):
-    """Every wait has a bound, and an error says what it leaves behind."""
+    """Every wait has a bound, and an error says what it leaves pending."""
 
     def timed(self, least: float, call: Callable[[], Any], fault: type) -> Any:
         """The error of a call that takes at least so many seconds, and less than the patience of these tests."""
@@ -1048,7 +1049,7 @@ class Waits(WithServers):
         self.assertEqual(space.choose(In("a", INT).nack(1), Rd("b").nack(2), timeout=0), Outcome(2, "alarm", (), (1, 2)))
 
     def test_what_is_asked_when_the_time_is_up(self) -> None:
-        """A message that is always answered goes behind the Asks; an offer before its answer is accepted, and one after it is given back."""
+        """A message that is always answered is sent after the Asks; an offer before its answer is accepted, and one after it is given back."""
         def talk(peer: Peer) -> None:
             peer.expect(frames.hello(7, False))
             peer.send(welcome(0))
@@ -1482,7 +1483,7 @@ class Waits(WithServers):
             self.assertEqual((none, no_other), (None, None))
 
     def test_ctrl_c_where_a_hold_begins_or_ends(self) -> None:
-        """Nobody has the tuple in hand then, and so it is free again. Of what else was held Gone tells."""
+        """Nobody has the tuple in hand then, and so it is free again. Gone names what else was held."""
         server = self.serve()
         space, other = self.space(server), self.space(server, client=8)
 
@@ -1506,7 +1507,7 @@ class Waits(WithServers):
     def test_ctrl_c_while_the_gate_is_given_up(self) -> None:
         """A call ends with the interrupt, and leaves the gate of the space as it was: other threads get in."""
         class Gate:
-            """An interrupt comes just before the gate is had by a call of `acquire`, or just after."""
+            """An interrupt comes just before a call of `acquire` has the gate, or just after."""
             def __init__(self, is_after: bool) -> None:
                 self.lock, self.interrupts, self.is_after = threading.RLock(), 1, is_after
                 self.release, self._is_owned = self.lock.release, self.lock._is_owned      # type: ignore[attr-defined]
@@ -1659,7 +1660,7 @@ class Waits(WithServers):
                     offer.accept()
 
     def test_a_held_tuple_that_is_offered_again(self) -> None:
-        """A repeat of the offer is no reason to give it back; another for its ticket is."""
+        """A repeat of the offer is no reason to give it back; another offer for its ticket is."""
         def talk(peer: Peer) -> None:
             peer.expect(frames.hello(7, False))
             peer.send(welcome(0))
@@ -1694,7 +1695,7 @@ class Packed(WithServers):
         self.assertEqual((unpack(pack((1, 2), 1)), unpack(pack({1: 2}, 1)), unpack(["[1", ",2]"])), ([1, 2], {"1": 2}, [1, 2]))
 
     def test_limits_of_packed_values(self) -> None:
-        # Each has two quotes more. ASCII fills each field; "é", of two bytes, leaves one free behind "x" and a quote, and "\U0001f600", of four, up to three.
+        # Each has two quotes more. ASCII fills each field; "é", of two bytes, leaves one free after "x" and a quote, and "\U0001f600", of four, up to three.
         self.assertEqual([len(text) for text in pack("x" * 8_188, 2)], [4_095, 4_095])
         for value in ("x" * 8_189, "x" * 122_849, "x" + "é" * 4_094):
             with self.assertRaises(OutOfRange):
@@ -1731,7 +1732,7 @@ class Packed(WithServers):
 # ---- recorded sessions
 
 class Watched(Space):
-    """A space that tells when it waits."""
+    """A space that sets `waits` when it waits."""
 
     waits: threading.Event
 
@@ -1756,7 +1757,7 @@ def event_of(told: list) -> linda_space.Event:
 
 
 def ends_of(value: Any) -> list:
-    """How a call ended, as the file tells it."""
+    """How a call ended, as the file writes it."""
     if isinstance(value, Refused):
         return ["refused", value.server, value.code, value.detail]
     if isinstance(value, Left):
@@ -1867,7 +1868,7 @@ class Player:
             {"+": self.meet, "-": self.lose, ">": self.expect, "<": self.tell}[word](int(server), *map(bytes.fromhex, digits))
 
     def call(self, words: list) -> None:
-        """The call has begun once the client waits for its end, or has told it."""
+        """Begins a call: it has begun once the client waits for its end, or has returned it."""
         self.waits.clear()
         self.calls.put(words)
         assert self.waits.wait(PATIENCE), "the call does not begin"

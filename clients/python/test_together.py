@@ -98,7 +98,7 @@ class Many(WithServers):
                 space.take_many("a", count=count)       # type: ignore[arg-type]
 
     def test_a_store_without_room(self) -> None:
-        """Full is for the tuple that has no room and those behind it."""
+        """Full is for the tuple that has no room and those after it."""
         server = self.serve()
         space = self.space(server)
         with self.assertRaises(OutOfRange):
@@ -122,7 +122,7 @@ class Many(WithServers):
         self.assertEqual(space.purge("job", INT), 200)
 
     def test_kills_in_the_middle(self) -> None:
-        """A server is killed again and again while many go: each tuple is there once, and what is returned is so."""
+        """A server is killed again and again while many go: each tuple is there once, as the results say."""
         server = self.serve()
         space = self.space(server)
         for turn in range(6):
@@ -154,7 +154,7 @@ class Cut(OverPairs):
         return space
 
     def connections(self, *connections: Tuple[int, Callable[[socket.socket], None]]) -> Callable[[Any], socket.socket]:
-        """What makes these connections; none once they are made, nor before `may_connect` for all but the first."""
+        """A function that makes these connections; it makes none once all are made, nor, but for the first, before `may_connect`."""
         made: List[socket.socket] = []
         self.may_connect = True
         self.faults: List[BaseException] = []
@@ -316,7 +316,7 @@ class Cut(OverPairs):
 
 
     def test_what_was_taken_by_a_call_that_raised_is_put_back(self) -> None:
-        """Of a pool's member."""
+        """It is that of a pool's member."""
         def first(ours: socket.socket) -> None:
             self.expect(ours, frames.ask(1, True, "job", frames.INT))
             ours.sendall(handed(OFFER, 1, 5, "job", 9))
@@ -341,7 +341,7 @@ class Cut(OverPairs):
             self.assertEqual((pool.out("b"), self.faults), ((0, 7), []))
 
     def owing(self, second: Callable[[socket.socket], None]) -> Callable[[Any], socket.socket]:
-        """What connects to a server whose first connection ends when a tuple is just being taken."""
+        """A function that connects to a server whose first connection ends when a tuple is just being taken."""
         def first(ours: socket.socket) -> None:
             self.expect(ours, frames.ask(1, True, "job", frames.INT))
             ours.sendall(handed(OFFER, 1, 5, "job", 9))
@@ -381,7 +381,7 @@ class Cut(OverPairs):
         self.assertEqual((self.puts, words, self.faults), ([9, 9], [], []))
 
     def test_a_pool_that_is_closed_says_what_it_cannot_put_back(self) -> None:
-        """Its server is away; or it does not answer, which is waited for so long and no longer."""
+        """Its server is away; or it does not answer, for which the pool waits for a bounded time."""
         says = ["a pool closes client 7, which has sync pending: its last reply says what became of it"]
         waits = lambda ours: (self.expect(ours, frames.accept(1, 1, 5)), ours.recv(1)) and None     # noqa: E731
         with mock.patch("linda_space.pool.FINISH", 0.6), mock.patch("linda_space.aio.FINISH", 0.6):
@@ -440,7 +440,7 @@ class Pools(WithServers):
         self.assertEqual(late.end()[0], "job")
 
     def test_a_call_that_is_gone_keeps_no_member(self) -> None:
-        """An interrupt may come where a call cannot give its member back any more, or has just begun to make one."""
+        """An interrupt may come when a call cannot give its member back any more, or has just begun to make one."""
         server = self.serve()
         for is_made, number in ((True, 1), (False, 2)):
             pool = self.pool(server, size=2)
@@ -601,7 +601,7 @@ class Pools(WithServers):
         self.assertEqual(other.take_many("job", INT, count=5), [("job", 1), ("job", 2)])
 
     def test_close_while_another_thread_puts_back(self) -> None:
-        """What it had in hand is there, or is said in the log."""
+        """What it had in hand is there, or is named in the log."""
         server = self.serve()
         pool, other = self.pool(server, size=1), self.space(server)
         member = pool._members[0]
@@ -617,7 +617,7 @@ class Pools(WithServers):
         self.assertEqual((words, other.look("job", INT)), ([f"a pool was to put this back, which it took: ('job', {number})" for number in (1, 2)], None))
 
     def test_what_an_interrupt_left_is_put_back_by_the_next_call(self) -> None:
-        """Of any member, though another one was used last."""
+        """This holds for any member, though another one was used last."""
         pool = self.pool(self.serve(), size=2)
         with pool.hold("none", timeout=0):
             pool.look("a")                                      # by a second member
@@ -998,7 +998,7 @@ class Async(WithServers):
         run(course)
 
     def test_what_a_cancelled_call_left_is_put_back_by_the_next_one(self) -> None:
-        """Of any member, though another one was used last."""
+        """This holds for any member, though another one was used last."""
         port = self.serve().port
 
         async def course() -> None:
@@ -1015,7 +1015,7 @@ class Async(WithServers):
         run(course)
 
     async def all_end(self, *tasks: "asyncio.Task[Any]") -> List[Any]:
-        """How they ended, none of which hangs."""
+        """How the tasks ended; none may hang."""
         _, hanging = await asyncio.wait(tasks, timeout=PATIENCE / 3)
         for task in hanging:
             task.cancel()
@@ -1023,7 +1023,7 @@ class Async(WithServers):
         return await asyncio.gather(*tasks, return_exceptions=True)
 
     def test_no_call_of_a_pool_waits_for_a_member_that_is_not_made(self) -> None:
-        """There is no server, or its ports are none: each call raises that."""
+        """There is no server, or its ports are no ports: each call raises that."""
         async def course() -> None:
             for ports, error in (([1], NoConnection), ("none", OutOfRange)):
                 pool = aio.Pool(ports, range(100, 200), size=2)

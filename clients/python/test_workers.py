@@ -46,7 +46,7 @@ def setUpModule() -> None:
 
 
 def in_a_child(call: Callable[[], Any]) -> str:
-    """What the call came to in a forked process: its value, or the error, as words."""
+    """The result of the call in a forked process: its value, or the error, as words."""
     ours, theirs = os.pipe()
     child = os.fork()
     if child == 0:
@@ -64,7 +64,7 @@ def in_a_child(call: Callable[[], Any]) -> str:
 
 
 class Holds(WithServers):
-    """What is lost is told once."""
+    """A loss is reported once."""
 
     def restart(self, server: Any, *words: str) -> Any:
         server.kill()
@@ -99,7 +99,7 @@ class Holds(WithServers):
                 with self.assertRaises(Gone) as caught:
                     call(space)
                 self.assertEqual((caught.exception.offers, space.pending, offer.is_held), ((offer,), None, False))
-                self.assertEqual(space.out("after"), (0, mock.ANY))         # it was told once, and so the block ends in order
+                self.assertEqual(space.out("after"), (0, mock.ANY))         # it was reported once, and so the block ends in order
             self.assertEqual([other.take("lock", INT, timeout=PATIENCE), other.look("done", INT), other.take("after")], [("lock", 1), None, ("after",)])
 
     def test_accept_tells_of_its_own_loss_only(self) -> None:
@@ -357,7 +357,7 @@ def space_out(number: int) -> Any:
 
 
 class Numbers(WithServers):
-    """Who a program is."""
+    """The numbers of programs."""
 
     def kept(self, server: Any, client: int, *what: bytes) -> None:
         peer = Peer(server.port)
@@ -401,7 +401,7 @@ class Numbers(WithServers):
         self.assertEqual(self.free(lambda: Space([server.port], range(100, 110))), (100, None))
 
     def test_as_many_programs_as_numbers(self) -> None:
-        """All begin at once, and none is left without a number by the looks of the others."""
+        """All begin at once, and none stays without a number because others look."""
         server = self.serve()
         for _ in range(3):
             begun = [Going(lambda: Space([server.port], range(200, 212))) for _ in range(12)]
@@ -439,7 +439,7 @@ class Numbers(WithServers):
             Space([server.port], own / "in" / "a" / "file")
 
     def test_a_file_that_was_cut(self) -> None:
-        """A last line without an end is no number, and is ended by who adds the next one; also if two do so at once."""
+        """A last line without an end is no number, and the program that adds the next one ends it; also if two do so at once."""
         server = self.serve()
         own = self.folder / "numbers"
         with Space([server.port], own) as space:

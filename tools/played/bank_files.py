@@ -22,7 +22,7 @@ STRANGE = ["fifo", "device", "link to a device", "link to a fifo", "folder", "so
 
 
 def look_of(path):
-    """What stands there, without opening what is no file."""
+    """What is at the path, without opening what is no file."""
     found = path.lstat()
     return found.st_mode, found.st_ino, os.readlink(path) if path.is_symlink() else path.read_bytes() if stat.S_ISREG(found.st_mode) else b""
 
@@ -32,7 +32,7 @@ def looks_in(folder):
 
 
 def make_strange(kind, path, other):
-    """Makes what stands in the place of a bank; the other bank may be needed. Whether it could be made."""
+    """Makes something in the place of a bank, for which the other bank may be needed; returns whether it could be made."""
     try:
         if kind == "fifo":
             os.mkfifo(path)
@@ -61,7 +61,8 @@ def make_strange(kind, path, other):
 
 
 def banks_that_are_no_files(folder):
-    """Both commands end at once, with `store: disk`, and change nothing; where the other bank is missing `serve` may make an empty file of it, which is the same to all."""
+    """Both commands end at once, with `store: disk`, and change nothing; if the other bank is missing, `serve` may make an empty file of it, which is the same
+    to all."""
     whole = folder / "whole"
     whole.mkdir()
     with Server(whole) as server:
@@ -123,7 +124,7 @@ def locks_of_both_banks(folder):
 
 
 def a_leave_in_an_old_bank(folder):
-    """A bank of the first form has no spelling for it. A server leaves that form soon, so a refusal is met at the start alone, if at all."""
+    """A bank of the first form has no spelling for it. A server leaves that form soon, so a refusal comes only at the start, if at all."""
     left = b"\1LND1" + bytes([0, 0, 0, 0, 0, 0, 0, 1, 0, 0, 0, 16, 0, 0, 0, 0, 0, 0, 0, 1]) + bytes(9)
     (folder / "left.bank").write_bytes(left)
     (folder / "right.bank").write_bytes(b"\0")

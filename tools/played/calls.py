@@ -1,4 +1,4 @@
-"""Calls, each a process that is given lines; and what they are connected to in place of a server: a proxy that loses a reply, and a script."""
+"""Calls, each a process that is given lines; and what they connect to in place of a server: a proxy that loses a reply, and a script."""
 
 import signal
 import socket
@@ -53,7 +53,7 @@ def stop(process):
 
 
 class Proxy:
-    """Stands between clients and a server. In place of the first reply of the name `cut` it does `at_cut` and ends the connection, and the reply is lost."""
+    """Is between clients and a server. In place of the first reply of the name `cut` it does `at_cut` and ends the connection, and the reply is lost."""
 
     def __init__(self, port):
         self.to, self.cut, self.cuts, self.at_cut = port, None, 0, lambda: None
@@ -103,7 +103,7 @@ class Proxy:
 
 
 class Script:
-    """A server of a call that only does what a check says, over sockets: it hears each message, and answers what it is told to."""
+    """A server of a call that only does what a check says, over sockets: it hears each message, and answers as the check says."""
 
     def __init__(self):
         self.listener = socket.create_server(("127.0.0.1", 0))
@@ -145,7 +145,7 @@ class Script:
         self.stream.sendall(frames.frame(bytes([parts[0]]) + b"".join(part if isinstance(part, bytes) else frames.spell_number(part) for part in parts[1:])))
 
     def is_silent(self):
-        """Nothing comes for a while."""
+        """Checks that nothing comes for a while."""
         self.stream.settimeout(0.3)
         try:
             equal(self.stream.recv(100), "nothing")
@@ -153,7 +153,7 @@ class Script:
             self.stream.settimeout(SOON)
 
     def is_over(self):
-        """The call ends the connection, and says no more on it."""
+        """Checks that the call ends the connection, and says no more on it."""
         equal(self.stream.recv(100), b"")
 
     def drop(self):

@@ -12,7 +12,8 @@ SETS_OF_STREAMS = [{0}, {1}, {2}, {0, 1}, {0, 2}, {1, 2}, {0, 1, 2}]
 
 
 def a_served_store_without(closed, folder, is_new, *words):
-    """`serve` without these streams, over a store with three jobs or a new folder: it either serves, and what it is given then is all that changes, or ends and touched nothing."""
+    """`serve` without these streams, over a store with three jobs or a new folder: it either serves, and then changes only what it is given, or ends and has
+    changed nothing."""
     what = (sorted(closed), "a new folder" if is_new else "an old one", *words)
     if not is_new:
         with Server(folder) as server:
@@ -57,7 +58,7 @@ def inspect_without_streams(folder):
 
 
 def traces_without_streams(folder):
-    """The file has the trace, as far as the run went, and nothing else; where nothing can be printed it may be as it was."""
+    """The file has the trace, as far as the run went, and nothing else; if nothing can be printed it may be as it was."""
     script = (TOP / "examples/handout.linda").read_bytes()
     whole = (TOP / "examples/handout.trace").read_text()
     printed = "".join(line.removeprefix("print ") for line in whole.splitlines(True) if line.startswith("print "))

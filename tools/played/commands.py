@@ -1,4 +1,4 @@
-"""Checks of commands of users: `call` with one server and with two, over kills of servers and of itself; its lines, its clock, and how long it tries."""
+"""Checks of what users run: `call` with one server and with two, over kills of servers and of itself; its lines, its clock, and how long it tries."""
 
 import socket
 import subprocess
@@ -145,7 +145,8 @@ def calls_again(folder):
 
 
 def a_worker_in_a_shell(folder):
-    """The call of square.sh, as docs/GUIDE.md has it, ends with a shell that is killed: it takes nothing more, and its number is free. A worker whose server is gone ends with 1."""
+    """The call of square.sh, in docs/GUIDE.md, ends with a shell that is killed: it takes nothing more, and its number is free. A worker whose server is gone
+    ends with 1."""
     lines = next(block.lines for block in blocks.blocks(TOP / "docs/GUIDE.md") if block.file() == "square.sh")
     with Server(folder) as server:
         script, said = folder / "square.sh", folder / "said"
@@ -185,7 +186,7 @@ def last_of_two_servers(folder):
 
 
 def a_server_that_never_answers(folder):
-    """Something listens and says nothing: after ten seconds it is given up."""
+    """Something listens and says nothing: after ten seconds the call gives it up."""
     with Server(folder) as server, socket.create_server(("127.0.0.1", 0)) as silent:
         for number, ports in ((1, [silent.getsockname()[1]]), (2, [server.port, silent.getsockname()[1]])):
             began = time.monotonic()

@@ -1,4 +1,4 @@
-"""Checks of what a call sends, each message once, and of what it does at each reply, at bytes that are none, and at a connection that is lost."""
+"""Checks of what a call sends, each message once, and of what it does at each reply, at bytes that are no reply, and at a connection that is lost."""
 
 import re
 import signal
@@ -16,7 +16,7 @@ IN_USE = (3, "", "server 0: number in use\n")
 
 
 def last_over_a_lost_connection(folder):
-    """The reply that is kept is asked for again where the connection is lost before it comes."""
+    """The reply that is kept is asked for again if the connection is lost before it comes."""
     with Script() as server:
         caller = Call(7, "--again", server.port)
         equal(server.meet(), "Hello version 2, client 7, fresh false")
@@ -198,13 +198,13 @@ def numbers_that_another_uses(folder):
 
 
 def ports_of_no_server(folder):
-    """What answers a Hello as no server does is said to be none, at once: at the first greeting, and at a later one."""
+    """A peer that answers a Hello as no server does is reported to be no server, at once: at the first greeting, and at a later one."""
     no_server = (3, "", "server 0: not a server\n")
 
     def at_once(caller):
         began = time.monotonic()
         equal(caller.end(), no_server)
-        # (one that tries again does so for ten seconds)
+        # (a call that tries again does so for ten seconds)
         equal(time.monotonic() - began < 9, True)
 
     http = b"HTTP/1.1 400 Bad Request\r\nContent-Length: 0\r\n\r\n"
@@ -230,7 +230,7 @@ def ports_of_no_server(folder):
 
 
 def ports_in_their_order(folder):
-    """The server of the first port is 0. A client's puts go to the servers in turn; what comes first is told first."""
+    """The server of the first port is 0. A client's puts go to the servers in turn; what comes first is printed first."""
     with Script() as first, Script() as second, Script() as third:
         servers = first, second, third
         caller = Call(1, *(server.port for server in servers))

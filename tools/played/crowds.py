@@ -77,7 +77,8 @@ def waits_for_others_puts(server):
 
 @in_both_ways
 def sessions_that_come_again(server):
-    """Forty clients whose sessions end and begin again at once, 2,000 times, while others put what they wait for: none hears of its session before, and none is Busy for good."""
+    """Forty clients whose sessions end and begin again at once, 2,000 times, while others put what they wait for: none hears of its session before, and none is
+    Busy for ever."""
     many_files()
     # (so many that the next connections go to both loops in turn)
     idle = [Peer(server.port, client) for client in range(500, 564)]
@@ -151,7 +152,7 @@ def sessions_that_come_again(server):
 
 
 def sessions_of_a_crowd(folder):
-    """A server that ends after a hundred connections serves each of them to its end, whichever loop has it, and none of those behind them."""
+    """A server that ends after a hundred connections serves each of them to its end, whichever loop has it, and none of those after them."""
     for way, words in WAYS.items():
         own = folder / way
         own.mkdir()
@@ -213,7 +214,8 @@ def a_kill_under_a_crowd(folder):
             kept = crowd.stored - crowd.taken
             equal((way, len(crowd.stored) > 100), (way, True))
             equal((way, free & crowd.taken), (way, set()))
-            # (of the tuples that were put or taken by a message that was not answered, some were put so and then taken, and of these both may have been so)
+            # (of the tuples that were put or taken by a message that was not answered, some were put so and then taken, and for these both messages may be
+            # unanswered)
             seen = len(kept - free) + len(free - kept) + len(crowd.taken - crowd.stored)
             equal((way, seen <= done, (done - seen) % 2, done <= 200), (way, True, 0, True))
 

@@ -1,4 +1,4 @@
-"""Checks of devices that take no more: a server that goes down ends all its connections, and then itself."""
+"""Checks of devices that fail: a server that goes down ends all its connections, and then itself."""
 
 import resource
 import socket
@@ -12,7 +12,8 @@ from played.servers import SNAPSHOT_RECORDS, WAYS, Server, each_way, is_refused
 
 @each_way
 def connections_of_a_failed_device(folder):
-    """Where the server goes down, what is not answered is refused Down, every connection ends, one that was never greeted too, and no other is taken: it ends by itself, and one that serves by threads at the next one."""
+    """If the server goes down, what is not answered is refused Down, every connection ends, one that was never greeted too, and no other is accepted: the
+    server ends by itself, and one that serves by threads at the next connection."""
     with Server(folder, before=lambda: most(resource.RLIMIT_FSIZE, 2000)) as server:
         with keys_that_are_free(server.port):
             silent, half, waiting = Peer(server.port), Peer(server.port), Peer(server.port, 8)
@@ -60,7 +61,8 @@ def a_failed_device_beside_a_peer_that_never_reads(folder):
 
 @each_way
 def a_failed_device_is_told_past_a_stuck_peer(folder):
-    """A client does not read the 8 MB that are due to it. The server goes down by the put of another, and all others are told at once, whatever becomes of it."""
+    """A client does not read the 8 MB that are due to it. The server goes down by the put of another, and the connections of all others end at once,
+    whatever becomes of that client."""
     wide = ["x" * 4_095] * 32
     with Server(folder, before=lambda: most(resource.RLIMIT_FSIZE, 200_000)) as server:
         stuck, other, waiting = Peer(server.port, 1), Peer(server.port, 2), Peer(server.port, 3)
@@ -84,9 +86,10 @@ def a_failed_device_is_told_past_a_stuck_peer(folder):
 
 @each_way
 def a_snapshot_ends_a_server(folder):
-    """Where the server goes down in a snapshot, and no message comes after that, every connection ends all the same, one that waits and one that never greeted too."""
+    """If the server goes down in a snapshot, and no message comes after that, every connection ends all the same, one that waits and one that never greeted
+    too."""
     size = len(frames.spell_items("a", ()))
-    # (a snapshot has more bytes of a client with one tuple than the record of its put, so it alone comes to this length)
+    # (a snapshot has more bytes of a client with one tuple than the record of its put, so only the snapshot reaches this length)
     room = 33 + 1_200 * (1 + 4 + 13 + size)
     with Server(folder, before=lambda: most(resource.RLIMIT_FSIZE, room)) as server:
         silent, waiting = Peer(server.port), Peer(server.port, 5_000)
@@ -106,7 +109,7 @@ def a_snapshot_ends_a_server(folder):
 
 
 def a_failed_device_ends_a_crowd(folder):
-    """Where the server goes down by the put of one of a hundred clients, all of them are told no more and end, whichever loop has them."""
+    """If the server goes down by the put of one of a hundred clients, all of them get nothing more, and their connections end, whichever loop has them."""
     for way, words in WAYS.items():
         for who in (0, 99):
             own = folder / f"{way}{who}"

@@ -11,14 +11,14 @@ from played.peers import Peer, again, keys_that_are_free
 from played.program import PATIENCE, TOP, Late, equal, run
 from played.servers import Server, many_files
 
-# So many seconds is a server's lease, and so long it may take until a connection is ended.
+# The seconds of a server's lease, and those until a connection must have ended.
 LEASE, LATE = 1, 10
-# As docs/COMMANDS.md has it: a client is ended so many seconds after its lease, at most.
+# The seconds after its lease in which a client is ended, at most: as docs/COMMANDS.md says.
 MORE = 3
 
 
 def ends_within(peer, seconds):
-    """The server ends the connection in so many seconds, and sends nothing before that; how long it took."""
+    """Checks that the server ends the connection in so many seconds, and sends nothing before that; returns how long it took."""
     peer.stream.settimeout(seconds)
     began = time.monotonic()
     peer.end_comes()
@@ -26,7 +26,7 @@ def ends_within(peer, seconds):
 
 
 def leases(folder):
-    """Who holds a tuple and says nothing is ended, and its tuple is offered to another, who says something and keeps it. Nobody else is ended."""
+    """A client that holds a tuple and says nothing is ended, and its tuple is offered to another, which says something and keeps it. Nobody else is ended."""
     with Server(folder, 0, "--lease", LEASE) as server:
         with keys_that_are_free(server.port):
             putter, holder, second, waiting = (Peer(server.port, client) for client in (1, 2, 3, 4))
@@ -34,7 +34,7 @@ def leases(folder):
         equal(holder.ask(frames.ask(1, True, "job", frames.INT)), 'Offer ticket 1, id 1, tuple ("job", 5)')
         second.send(frames.ask(1, True, "job", frames.INT))
         waiting.send(frames.ask(1, True, "other"))
-        # (half of a message is none)
+        # (half of a message is no message)
         holder.send(frames.accept(1, 1, 1)[:-1])
         took = ends_within(holder, LATE)
         equal(took > LEASE, True)
@@ -47,13 +47,14 @@ def leases(folder):
             time.sleep(0.5)
             second.send(frames.cancel(99))
         equal(second.ask(frames.accept(1, 1, 1)), 'Taken number 1, id 1, tuple ("job", 5)')
-        # Nothing is held: who waits, or only listens, is not late.
+        # Nothing is held: a client that waits, or only listens, is not late.
         equal([putter.ask(frames.out(2, "other")), waiting.hear()], ["Stored number 2, id 2", 'Offer ticket 1, id 2, tuple ("other")'])
         equal(late.ask(frames.out(2, "x")), "Stored number 2, id 3")
 
 
 def leases_end_in_time(folder):
-    """Who says nothing is ended after its lease, and no more than three seconds later; the first of three is looked at, as a slow machine may end one late."""
+    """A client that says nothing is ended after its lease, and no more than three seconds later; the first of three is looked at, as a slow machine may end one
+    late."""
     took = []
     with Server(folder, 0, "--lease", LEASE) as server:
         for client in range(1, 4):
@@ -128,7 +129,7 @@ def a_lease_beside_others(folder):
 
 
 def a_lease_of_a_stopped_server(folder):
-    """A server that is stopped for more than a second ends nobody before the seconds of its lease, and nobody who says something in time."""
+    """A server that is stopped for more than a second ends no client before the seconds of its lease are over, and none that says something in time."""
     with Server(folder, 0, "--lease", LEASE) as server:
         renewing = Peer(server.port, 100)
         equal(renewing.ask(frames.out(1, "own")), "Stored number 1, id 1")

@@ -17,7 +17,7 @@ from played.program import PATIENCE, equal, most, wait_until
 from played.servers import Server, each_way, free_port
 from served import use_of
 
-# Bytes of addresses in which a server begins, and has two threads for each of a few connections.
+# The bytes of address space in which a server can begin, and can have two threads for each of a few connections.
 ROOM_OF_THREADS = 200 * 2**20
 
 
@@ -126,7 +126,7 @@ def logs_of_no_threads(folder):
 
 
 def loops_want_no_room(folder):
-    """In the room in which not all connections have threads of their own, loops serve all of them, with no thread more, and the log says nothing of it."""
+    """In the room in which not all connections can have threads of their own, loops serve all of them, with no further thread, and log nothing."""
     with Server(folder, 0, "--log", before=lambda: most(resource.RLIMIT_AS, ROOM_OF_THREADS)) as server:
         peers = [Peer(server.port, 0)]
         # (it says that it is ready before all its own threads are begun)
@@ -167,7 +167,8 @@ def logs_of_refusals(folder):
                 return json.load(got)["refusals_busy"]
 
         def asks_on():
-            """Asks for the number that is in use until that is counted, which takes a second, or more if others keep it from asking often; how often it was counted."""
+            """Asks for the number that is in use until that is counted, which takes a second, or more if others keep it from asking often; returns how often it
+            was counted."""
             send, receive = connection(server.port)
             before, since, is_counted = counted(), time.monotonic(), threading.Event()
 
@@ -220,7 +221,7 @@ def logs_of_refusals(folder):
 
 @each_way
 def logs_to_the_end(folder):
-    """What happened just before the end is told before the last line."""
+    """What happened just before the end is logged before the last line."""
     for _ in range(4):
         with Server(folder, 0, "--log", "--sessions", "1") as server:
             equal(Peer(server.port).ask(frames.frame(b"")), "Refused Malformed, detail 0")

@@ -17,7 +17,8 @@ LONG = ["x" * 4_000] * 30
 
 
 def sockets_of_loops(server):
-    """How many sockets each loop of the server looks at, in the order of its loops; the first one looks at the listener too. Nothing while some are being closed."""
+    """How many sockets each loop of the server looks at, in the order of its loops; the first one looks at the listener too. It returns nothing while some are
+    being closed."""
     place = Path(f"/proc/{server.process.pid}")
     try:
         links = {name: os.readlink(place / "fd" / name) for name in sorted(os.listdir(place / "fd"), key=int)}
@@ -28,7 +29,8 @@ def sockets_of_loops(server):
 
 
 def loops_share_a_crowd(folder):
-    """The first 32 connections are those of the first loop, and each one behind them goes to the loop that has fewest: again so once they are over."""
+    """The first 32 connections are those of the first loop, and each one after them goes to the loop that has the fewest; the same holds again once all have
+    ended."""
     with Server(folder) as server:
         for turn in range(3):
             peers = [Peer(server.port) for _ in range(100)]
@@ -43,7 +45,8 @@ def loops_share_a_crowd(folder):
 
 
 def keys_that_are_free_at_both_loops(folder):
-    """At both loops, of which the first keys are free: who waits hears of a put and of a leave at the other loop, a lease ends, and so do all connections when the server is down."""
+    """At both loops, of which the first keys are free: a client that waits hears of a put and of a leave at the other loop, a lease ends, and so do all
+    connections when the server is down."""
     with Server(folder, 0, "--lease", LEASE, before=lambda: most(resource.RLIMIT_FSIZE, 2_000)) as server:
         first = [Peer(server.port) for _ in range(60)]
         wait_until(lambda: sockets_of_loops(server), [33, 28])

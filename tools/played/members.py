@@ -18,7 +18,7 @@ class Member(Peer):
         self.number, self.ticket, self.offered, self.since = 0, 0, None, 0.0
 
     def heard(self):
-        """What is there by now, of which something is."""
+        """The frames that have come by now; some bytes must be there."""
         piece = self.stream.recv(65_536)
         if not piece:
             raise AssertionError(f"the connection of client {self.client} ended")
@@ -52,7 +52,7 @@ class Crowd:
         member.send(*said, frames.out(member.number, self.tag, member.client), frames.ask(member.ticket, True, self.tag, frames.ANY))
 
     def hear(self, member, name, parts):
-        """One reply, which is the next that has to come."""
+        """Takes one reply, which must be the next that is due."""
         if not member.wanted or member.wanted.pop(0) != name:
             raise AssertionError(f"client {member.client} hears {frames.words_of(name, parts)}")
         if name == "Offer":

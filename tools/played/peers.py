@@ -39,7 +39,7 @@ class Peer:
     """A connection that is watched to its end: no call waits longer than PATIENCE."""
 
     def __init__(self, port, client=None):
-        """To this port, or to the unix socket at this path."""
+        """Connects to this port, or to the unix socket at this path."""
         if isinstance(port, int):
             self.stream = socket.create_connection(("127.0.0.1", port), timeout=PATIENCE)
             self.stream.setsockopt(socket.IPPROTO_TCP, socket.TCP_NODELAY, 1)
@@ -69,7 +69,7 @@ class Peer:
         return self.hear()
 
     def end_comes(self):
-        """The server ends the connection, and sends nothing before that."""
+        """Checks that the server ends the connection, and sends nothing before that."""
         equal(self.stream.recv(1), b"")
 
     def close(self):
@@ -99,7 +99,7 @@ def keys_that_are_free(port, count=10):
 
 
 def has_by_rest(server, peer):
-    """Something more came to the peer, or its end, by the time that no thread of the server has anything to do, or that it has ended."""
+    """Waits until no thread of the server has anything to do, or it has ended; checks that something, or the end, came to the peer by then."""
     tasks, until, asleep = Path(f"/proc/{server.process.pid}/task"), time.monotonic() + PATIENCE, 0
     while asleep < 5:
         try:
@@ -117,7 +117,7 @@ def has_by_rest(server, peer):
 
 
 def puts(port, client, count):
-    """Puts so many tuples, each for itself."""
+    """Puts `count` tuples, each by itself."""
     send, receive = connection(port)
     send(frames.hello(client, True))
     receive()

@@ -16,13 +16,14 @@ from played.program import PATIENCE, SOON, equal
 from played.servers import Server, in_both_ways
 from served import use_of
 
-# A connection is read in pieces of so many bytes, by a loop.
+# A loop reads a connection in pieces of this many bytes.
 READ_AT_ONCE = 16_384
 
 
 @in_both_ways
 def ends_of_streams(server):
-    """The last bytes and the end of the stream come at once, of pieces that fill what is read at once, or less, or more: all is answered, and then the connection ends."""
+    """The last bytes and the end of the stream come at once, in pieces as long as one read, or shorter, or longer: all is answered, and then the connection
+    ends."""
     dice, client = random.Random(1), 0
     for size in (100, READ_AT_ONCE - 1, READ_AT_ONCE, READ_AT_ONCE + 1, 2 * READ_AT_ONCE, 3 * READ_AT_ONCE - 7):
         for _ in range(25):
@@ -31,7 +32,7 @@ def ends_of_streams(server):
             left, number = size - len(stream[0]), 0
             empty = len(frames.out(0, "e", ""))
             while left:
-                # (texts of any lengths, and the last one makes the whole as long as it is to be)
+                # (texts of any lengths; the last one gives the whole its length)
                 length = dice.choice([0, 9, 300, 4_000])
                 if left < 2 * empty + length:
                     length = min(left - empty, 4_095)
@@ -58,7 +59,7 @@ def ends_of_streams(server):
 
 @in_both_ways
 def faults_of_a_length(server):
-    """A length that no frame has is a fault by itself, behind a Hello too: the client sends not a byte more, and does not end its side."""
+    """A length that no frame has is a fault by itself, after a Hello too: the client sends not a byte more, and does not end its side."""
     client = 0
     for length in (0, 262_145, 2**31, 2**32 - 1):
         for cut in (0, 1, 2, 3, 4):
@@ -105,7 +106,7 @@ def many_messages_at_once(server):
         except TimeoutError:
             raise AssertionError(f"of {count} messages at once not all are answered") from None
         equal(found, wanted)
-        # (Asks alone, which make no deed)
+        # (only Asks, which make no deed)
         peer.send(*[frames.ask(1_000 + at, False, "m", client, 1) for at in range(count)], frames.out(0, "m"))
         found = [re.sub(r", id \d+", "", peer.hear()) for _ in range(count + 1)]
         equal(found, [f'Read ticket {1_000 + at}, tuple ("m", {client}, 1)' for at in range(count)] + [f"Refused Old, detail {number}"])
@@ -114,7 +115,7 @@ def many_messages_at_once(server):
 
 @in_both_ways
 def asks_behind_puts(server):
-    """An Ask sees what came before it on its connection in the same piece, and not what comes behind it, while others put and take."""
+    """An Ask sees what came before it on its connection in the same piece, and not what comes after it, while others put and take."""
     others, faults = Crowd(server.port, range(100, 112)), []
 
     def work():
@@ -147,7 +148,7 @@ def asks_behind_puts(server):
 
 
 def queued(port, other):
-    """How many bytes the system has at this port of a connection that it has not sent on, or that were not taken there yet; and how many came there that were not read."""
+    """How many bytes at this port of a connection the system has not sent, or the other side has not taken yet; and how many came there and were not read."""
     for line in Path("/proc/net/tcp").read_text().splitlines()[1:]:
         words = line.split()
         if words[1:3] == [f"0100007F:{port:04X}", f"0100007F:{other:04X}"]:
@@ -191,7 +192,7 @@ def a_peer_that_never_reads(server):
 
 
 def a_greeting_on_a_broken_connection(folder):
-    """A client whose replies of before wait in the loop greets, and breaks its connection before it is greeted: its session ends, and it may come again."""
+    """A client whose earlier replies wait in the loop greets, and breaks its connection before it is greeted: its session ends, and it may come again."""
     early, refused, said = frames.out(1, "a"), 14, 0
     with Server(folder) as server:
         stream = socket.socket()
@@ -199,7 +200,7 @@ def a_greeting_on_a_broken_connection(folder):
         stream.setsockopt(socket.SOL_SOCKET, socket.SO_RCVBUF, 4_096)
         stream.connect(("127.0.0.1", server.port))
         here, there = (stream.getsockname()[1], server.port), (server.port, stream.getsockname()[1])
-        # (until more replies are due than the system takes, and fewer than those behind which a loop takes nothing)
+        # (until more replies are due than the system takes, and fewer than those after which a loop reads no more)
         while refused * said - queued(*here)[1] - queued(*there)[0] < 1_000:
             equal(said < 1_000_000, True)
             stream.sendall(early * 10_000)

@@ -16,7 +16,7 @@ SOON = 15
 
 
 class Late(Exception):
-    """The machine was too slow for what a check wants to see."""
+    """The machine was too slow for a check."""
 
 
 def run(*words, given=""):

@@ -16,7 +16,7 @@ from served import listing
 
 @each_way
 def a_burst_is_one_record(folder):
-    """Messages that come at once are one record, 64 at most, a Leave among them; a Hello goes by itself, and so does a message alone."""
+    """Messages that come at once are one record, 64 at most, a Leave among them; a Hello goes by itself, and so does a single message."""
     with Server(folder) as server:
         peer = Peer(server.port, 7)
         done = 0
@@ -94,7 +94,8 @@ def large_records_over_a_kill(folder):
 
 
 def room_is_written_ahead(folder):
-    """While records come fast, the file of the bank has room ahead of them, of closed gates; a put now and then leaves it as it is. Who opens it reads what was put."""
+    """While records come fast, the file of the bank has room ahead of them, of closed gates; a put now and then leaves it as it is. A server that opens it
+    reads what was put."""
     with Server(folder) as server:
         peer, number = Peer(server.port, 1), 1
         equal(peer.ask(frames.out(1, "a", 1)), "Stored number 1, id 1")

@@ -9,7 +9,7 @@ from pathlib import Path
 
 from played.program import PATIENCE, PROGRAM, SOON
 
-# A snapshot is due after so many records.
+# The records after which a snapshot is due.
 SNAPSHOT_RECORDS = 1_024
 # The ways of serving, each with the words for it.
 WAYS = {"loops": (), "threads": ("--threads",)}

@@ -134,7 +134,7 @@ def ends_of_connections(folder):
 
 @each_way
 def replies_of_a_batch(folder):
-    """What comes at once is answered in its order: deeds, refusals, offers and greetings, and a frame that is none behind them."""
+    """What comes at once is answered in its order: deeds, refusals, offers and greetings, and a malformed frame after them."""
     with Server(folder) as server:
         peer = Peer(server.port)
         peer.send(frames.out(1, "a"), frames.hello(7, True), frames.out(1, "a"), frames.out(2, "b"), frames.ask(4, True, "b"), frames.ask(5, False, "a"), frames.hello(8, True),
@@ -148,7 +148,7 @@ def replies_of_a_batch(folder):
 
 @each_way
 def news_before_the_last_word(folder):
-    """What another's message sent goes out before the word with which a connection ends, however close both come."""
+    """What another's message sent goes out before the word with which a connection ends, however close together both come."""
     with Server(folder) as server:
         other = Peer(server.port, 100)
         for number in range(1, 13):

@@ -1,4 +1,4 @@
-"""Checks of snapshots: when a server takes one, in which steps, and a copy of the banks meanwhile."""
+"""Checks of snapshots: when a server takes one, its steps, and a copy of the banks meanwhile."""
 
 import json
 import os
@@ -24,7 +24,8 @@ def snapshots_of_a_server(folder):
 
 
 def a_snapshot_is_put_off(folder):
-    """After a start beside a snapshot that was cut off its room is given back, and the next one, though there are records enough, waits for half as many bytes of them."""
+    """A start gives back the room of a snapshot that was cut off; and the next snapshot, though there are records enough, waits for half as many bytes of
+    records."""
     with Server(folder) as server:
         puts(server.port, 7, 1_023)
     equal(records_in(folder), (1, 1_023))

@@ -87,7 +87,7 @@ def statuses_of_run(folder):
 
 
 def statuses_of_serve(folder):
-    """What is not here is in refused_stores, refused_calls and refused_words."""
+    """Those that are not here are in refused_stores, refused_calls and refused_words."""
     serve = "serve", "--port", 0, "--dir", folder
     status, out, err = run(*serve, "--sessions", 0)
     equal((status, bool(re.fullmatch(r"ready \d+\n", out)), err), (0, True, ""))
@@ -113,7 +113,7 @@ def statuses_of_inspect(folder):
 
 
 def statuses_of_call(folder):
-    """What is not here is in refused_calls, refused_words, greetings and calls_that_leave."""
+    """Those that are not here are in refused_calls, refused_words, greetings and calls_that_leave."""
     with Server(folder) as server:
         equal(run("call", "--client", 1, server.port), (0, "", ""))
         equal(run("call", "--client", 1, server.port, given='sync always 1\nout ("a"\n'), (4, "1 always 1 labels [] raised []\n", "line 2: not a command\n"))
@@ -134,7 +134,8 @@ def listened():
 
 
 def explained_faults(folder):
-    """With --explain a second line says where a line is no command and what was expected there, or what the system says; without it there is only the first."""
+    """With --explain a second line says at which place a line is no command and what was expected there, or what the system says; without it there is only the
+    first."""
     def said(words, text=""):
         done = subprocess.run([PROGRAM, *map(str, words)], input=text, capture_output=True, text=True, errors="surrogateescape", timeout=PATIENCE)
         return done.returncode, done.stderr

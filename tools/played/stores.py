@@ -102,7 +102,7 @@ TAKES = 1_200
 
 
 def full_bank(room):
-    """A bank of the second form whose snapshot leaves some so many bytes of what a bank may have: tuples ("x", so many letters), and one client."""
+    """A bank of the second form whose snapshot leaves about `room` bytes of what a bank may have: tuples ("x", so many letters), and one client."""
     row = frames.spell_items("x", ("y" * LETTERS,))
     count = (MOST_BYTES - room - 100) // (8 + len(row))
     snapshot = bytearray(frames.spell_number(count + 1) + frames.spell_number(count, 4))

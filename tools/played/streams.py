@@ -7,7 +7,7 @@ from played.program import BUILT, PATIENCE, PROGRAM, SOON, equal
 
 
 def status_of(*words, given=b"", out=None):
-    """The status of the program and what it says on standard error, where standard input is these bytes or this file, and standard output is this file."""
+    """The status of the program and what it prints on standard error, with these bytes or this file as standard input, and this file as standard output."""
     is_bytes = isinstance(given, bytes)
     done = subprocess.run([PROGRAM, *map(str, words)], input=given if is_bytes else None, stdin=None if is_bytes else given, stdout=out or subprocess.DEVNULL,
                           stderr=subprocess.PIPE, timeout=PATIENCE)
@@ -43,7 +43,7 @@ def begin_closed(closed, *words, given=b""):
 
 
 def end_closed(process):
-    """Its status, and what came on both streams; where it does not end it is killed, and its status is none."""
+    """Its status, and what came on both streams; if it does not end it is killed, and its status is none."""
     try:
         out, err = process.communicate(timeout=SOON)
         return process.returncode, out.decode(), err.decode()

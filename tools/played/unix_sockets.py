@@ -23,7 +23,7 @@ def listed(folder):
 
 
 def is_left(path):
-    """A unix socket is there, and nobody listens on it."""
+    """Checks that a unix socket is there, and that nobody listens on it."""
     equal(stat.S_ISSOCK(path.lstat().st_mode), True)
     try:
         connected_to(path).close()
@@ -41,7 +41,7 @@ def tcp_sockets_of(process):
 
 
 def serves_at_a_socket(folder):
-    """A server at a socket alone, and one that has a port too: what is printed, what clients of both see of each other, and that the file is gone at the end."""
+    """A server at only a socket, and one that has a port too: what is printed, what clients of both see of each other, and that the file is gone at the end."""
     path, store = folder / "s", folder / "store"
     store.mkdir()
     with Server(store, None, "--socket", path, "--sessions", 2, "--log") as server:
@@ -276,7 +276,8 @@ def calls_at_two_sockets(folder):
 
 
 def calls_at_no_socket(folder):
-    """Where nobody listens `call` ends as at a port: at no file, a file, a folder, a socket that is left, a path that is too long. Else the words are none."""
+    """If nobody listens `call` ends as at a port: at no file, a file, a folder, a socket that is left, a path that is too long. Command lines with
+    wrong sockets are refused."""
     served, left, plain, store, other = (folder / name for name in ("served", "left", "plain", "store", "other"))
     store.mkdir()
     other.mkdir()

@@ -132,7 +132,7 @@ class CallClient(Client):
         return self.line()
 
     def has_ended(self) -> None:
-        """It has ended by itself, as it may where a server was away."""
+        """Checks that it ended by itself, as it may if a server was away."""
         assert self.process
         process, self.process = self.process, None
         _, said = process.communicate()

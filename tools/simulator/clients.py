@@ -1,7 +1,7 @@
 """What all clients of tools/simulate share: a client works, one request after another, on servers that stop and
-connections that end, and compares what it is told with the model.
+connections that end, and compares what it gets with the model.
 
-Each is a thread with dice of its own. When it is told to pause it brings what it has in hand to its end, stays
+Each is a thread with dice of its own. When it must pause it brings what it has in hand to its end, stays
 connected, and waits.
 """
 
@@ -76,7 +76,7 @@ class Client(threading.Thread):
             self.end()
 
     def rest(self) -> None:
-        """With no request in hand: nothing is held for it then, whether it has just been connected anew or not."""
+        """Called with no request in hand: nothing is held for it then, whether it has just been connected anew or not."""
         if self.is_broken() or self.dice.random() < 0.5:
             self.settle()
         self.is_idle.set()
@@ -88,11 +88,11 @@ class Client(threading.Thread):
         """Another thread ends what it is waiting for."""
 
     def is_broken(self) -> bool:
-        """Whether it was ended in the middle of a request, and has to begin a new life to know what became of it."""
+        """Whether it was ended in the middle of a request, and must begin a new life to know what became of it."""
         return False
 
     def check_time(self, began: float, what: str) -> None:
-        """Ends what goes on for too long, or where the round has ended."""
+        """Ends a request that takes too long, or is made after the end of the round."""
         if self.around.is_over.is_set():
             raise Over
         if time.monotonic() - began > PATIENCE:
@@ -107,7 +107,7 @@ class Client(threading.Thread):
         most, often = self.around.plenty
         return there < most and self.dice.random() < often
 
-    # ---- what was told, against what went over the connections
+    # ---- what a client got, against what went over the connections
 
     def was_put(self, server: int, place: int, what: tuple) -> None:
         with self.around.network.lock:

@@ -1,16 +1,16 @@
-/* The disk below a server of tools/simulate: preloaded into `linda serve`, it stands between the program and the two
+/* The disk below a server of tools/simulate: preloaded into `linda serve`, it is between the program and the two
    files of its banks.
 
    It keeps an undo log for each bank, SIDE.undo in the folder that SIMULATED names: before each write and cut it writes
    down what is overwritten, and when a sync has succeeded the log is emptied. So whatever kills the process, the file
    and its log say what the file held at its last sync and which calls came since (disk.py reads them). Nothing is
-   synced in truth: a kill keeps what the system has, and it is disk.py that loses it. SIDE.new is there while a new
+   really synced: a kill keeps what the system has, and it is disk.py that loses it. SIDE.new is there while a new
    file's name is in no folder that was synced. SIDE.lost is there once a sync has failed: the system may have forgotten
-   what that sync was to bring, so the log is never emptied again, whatever a later sync reports.
+   what that sync should have written, so the log is never emptied again, whatever a later sync reports.
 
-   The file `plan` there names calls that are to go wrong, a line each: WHICH NUMBER ACTION PART. WHICH is `change`
+   The file `plan` there names calls that must go wrong, a line each: WHICH NUMBER ACTION PART. WHICH is `change`
    (writes, cuts and syncs of both banks, syncs of the folder, counted from 1) or `read`; ACTION is `die` (the process
-   is killed when PART thousandths of the call are done), `eio` or `enospc` (the call fails when so many are done).
+   is killed when PART thousandths of the call are done), `eio` or `enospc` (the call fails when that part is done).
    `slow 0 MICROSECONDS 0` makes each sync take so long. A call that went wrong is written to the file `fired`, with the
    side of its bank (`none` of the folder) and its name. SIDE.early is there if a bank was last read while its log was
    not empty: what was read then may be gone after a power cut. The file `said` has a line for each name of a log that
@@ -120,7 +120,7 @@ static const struct plan *planned(char which, int file, const char *call) {
     return NULL;
 }
 
-/* Ends a call that is to go wrong: the process, or with an error. */
+/* Ends a call that must go wrong: with the end of the process, or with an error. */
 static int go_wrong(const struct plan *it) {
     if (is(it, "die")) syscall(SYS_kill, syscall(SYS_getpid), SIGKILL);
     errno = is(it, "enospc") ? ENOSPC : EIO;

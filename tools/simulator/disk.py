@@ -1,7 +1,7 @@
 """The disk below a server: its folder, what is planned to go wrong, and what a stop leaves of it.
 
-disk.c, which is preloaded into the server, keeps for each bank the calls since its last sync. A stop of the process
-alone leaves the files as the system has them, and those calls are still not synced in the next life. A power cut leaves
+disk.c, which is preloaded into the server, keeps for each bank the calls since its last sync. A stop of only the process
+leaves the files as the system has them, and those calls are still not synced in the next life. A power cut leaves
 what docs/DISK.md allows: from what was synced, each call since is done, left out, or done in part, with any bytes in
 its range.
 """
@@ -110,7 +110,7 @@ class Disk:
     def unsynced_when_ready(self) -> list[str]:
         """What was not synced when this life said that it is ready: `SIDE.undo` for what is in a bank, `SIDE.new` for its name.
 
-        A server may begin a snapshot as soon as it has said so: whoever looks at the banks then comes too late.
+        A server may begin a snapshot as soon as it has said so: a look at the banks then comes too late.
         """
         file = self.side / "said"
         return file.read_text().splitlines() if file.exists() else []

@@ -15,7 +15,7 @@ from simulator.clients import JOB
 from simulator.wire import Fault, lines_of
 
 PATIENCE = 60.0
-# So many tuples and records an earlier server left at most. A large store has so many tuples more, each with so many letters: its bank has more than
+# The most tuples and records that an earlier server left. A large store has LARGE tuples more, each with LETTERS letters: its bank has more than
 # 256 KiB, so its snapshots are written in steps.
 MOST_TUPLES, MOST_RECORDS = 20, 40
 LARGE, LETTERS = 1_100, 250

@@ -175,7 +175,7 @@ class HandClient(Client):
         return list(range(len(self.ports))) if self.dice.random() < 0.6 else [self.dice.randrange(len(self.ports))]
 
     def first_offer(self, remove: bool, servers: list[int], seconds: float) -> tuple[int, dict] | None:
-        """What comes first for a new ticket, and where it is from; None if nothing came in that time, or a connection
+        """What comes first for a new ticket, and the server it is from; None if nothing came in that time, or a connection
         was lost."""
         self.ticket += 1
         until = time.monotonic() + seconds

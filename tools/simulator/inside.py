@@ -19,7 +19,7 @@ LIMIT = 600
 
 
 class Kind(NamedTuple):
-    """What plays runs, the option of tools/simulate that asks for it, and what a line that says a run begins with."""
+    """A program that plays runs, the option of tools/simulate that asks for it, and the first words of a line that says a run."""
 
     crate: str
     option: str = ""
@@ -29,7 +29,7 @@ class Kind(NamedTuple):
 SERVER = Kind("linda_test_simulator")
 SCARCE = Kind("linda_test_simulator", " --scarce", "scarce ")
 CLIENTS = Kind("linda_test_simulator_clients", " --clients")
-# With --all each has so much of the time.
+# The share of the time that each has with --all.
 SHARES = ((SERVER, 0.5), (SCARCE, 0.25), (CLIENTS, 0.25))
 
 
@@ -74,7 +74,7 @@ def first_that_differs(said: list[str]) -> int | None:
 
 
 def play_all(seed: int, seconds: float, shrinks: bool) -> None:
-    """Runs of each kind, as `play` has them. Those with scarce memory are left out if there is no compiler."""
+    """Runs of each kind, as `play` does them. Those with scarce memory are left out if there is no compiler."""
     for kind, share in SHARES:
         if kind is not SCARCE or shutil.which("cc"):
             play(seed, seconds * share, shrinks, kind)

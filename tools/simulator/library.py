@@ -18,8 +18,8 @@ from linda_space import INT, TEXT, In, Nack, Rd, Space, SpaceError, Wrap  # noqa
 
 PAUSE = 0.02
 FITS = JOB, INT, INT, TEXT
-# One that waits without a time has its tuple so many seconds after it was put, at the latest. It is put so many seconds
-# after the wait began, and another one each so many seconds after that, since others may take it.
+# A client that waits without a time has its tuple SOON seconds after it was put, at the latest. It is put BEFORE_A_PUT
+# seconds after the wait began, and another one every BETWEEN_PUTS seconds after that, since others may take it.
 SOON = 40.0
 BEFORE_A_PUT, BETWEEN_PUTS = [0.0, 0.1, 0.5, 1.0], 0.2
 

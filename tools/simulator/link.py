@@ -1,4 +1,4 @@
-"""A connection of a client to a server through the network: the two ways of it, and what is to happen to it."""
+"""A connection of a client to a server through the network: its two ways, and what will happen to it."""
 
 from __future__ import annotations
 

@@ -1,4 +1,4 @@
-"""What a server may answer, from what went over its connections: docs/FORMATS.md, told from outside.
+"""What a server may answer, from what went over its connections: docs/FORMATS.md, as it is seen from outside.
 
 The network hands over each message before it reaches the server, and each reply as it comes from there. An answered
 message stays answered; an unanswered one may be done or not, and the banks say which at each stop (states.py). All else
@@ -19,7 +19,7 @@ REPLIES = ("Stored", "Taken", "Gone", "Left")
 KNOWN, BUSY, OLD, GAP, FULL, DOWN, LEFT, NO_HELLO = 2, 3, 4, 5, 6, 8, 11, 12
 REFUSED = {"old": OLD, "gap": GAP, "left": LEFT, "no hello": NO_HELLO}
 MOST_EVENTS = 4_000
-# So many seconds after its lease has run out a connection has ended, beside all other work.
+# The seconds in which a connection ends after its lease has run out, beside all other work.
 LATE = 8.0
 
 
@@ -57,7 +57,7 @@ class Model:
         return self.records.setdefault(client or 0, Record())
 
     def bag(self) -> dict[int, tuple]:
-        """What has to be there if nothing is unanswered."""
+        """What must be there if nothing is unanswered."""
         return {place: what for place, what in self.ids.items() if place not in self.taken}
 
     # ---- connections
@@ -88,7 +88,7 @@ class Model:
         self.note("the server has stopped")
 
     def oldest(self) -> float | None:
-        """Since when a reply is due."""
+        """The time since which a reply is due."""
         return min((wire.owed[0].when for wire in self.wires if wire.owed), default=None)
 
     # ---- messages
@@ -124,7 +124,7 @@ class Model:
             wire.asks[parts["ticket"]] = Ask(parts["remove"], parts["template"], self.clock)
 
     def numbered(self, wire: Wire, name: str, parts: dict) -> str:
-        """What has to come for a numbered message."""
+        """What must come for a numbered message."""
         record, number = self.record(wire.client), parts["number"]
         pending = record.pending
         if pending and number == pending.number:
@@ -256,7 +256,7 @@ class Model:
     # ---- leases
 
     def ends_late(self, wire: Wire) -> bool:
-        """Whether the lease of a connection may have run out. If so it ends, of which nothing is seen yet, and its holds
+        """Whether the lease of a connection may have run out. If so the server ends it, which is not seen yet, and its holds
         are free."""
         if self.lease is None or time.monotonic() - wire.heard < self.lease:
             return False
@@ -265,16 +265,16 @@ class Model:
         return True
 
     def check_leases(self) -> None:
-        """No connection is there whose lease ran out some seconds ago."""
+        """Checks that there is no connection whose lease ran out some seconds ago."""
         if self.lease is not None:
             for wire, _ in self.holds.values():
                 if time.monotonic() - wire.heard > self.lease + LATE:
                     self.fail(f"client {wire.client} holds a tuple, and has said nothing for {LATE} s more than it may")
 
-    # ---- what they come to
+    # ---- what became of messages
 
     def seen(self, place: int, what: tuple) -> None:
-        """A tuple that is there under an id: it was put."""
+        """Notes a tuple that is there under an id: it was put."""
         if place not in self.ids:
             pending = [it.pending for it in self.records.values() if it.pending and it.pending.name == "Out"]
             if what not in [it.parts["tuple"] for it in pending]:

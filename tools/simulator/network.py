@@ -1,7 +1,7 @@
 """The network between clients and servers: a proxy for each server, all in one thread.
 
-Clients connect to the port of a gate, which stays the same when the server behind it is started again. What goes over a
-connection arrives in order and unchanged, as TCP has it; but it is delayed, cut into pieces, and the connection is
+Clients connect to the port of a gate, which stays the same when its server is started again. What goes over a
+connection arrives in order and unchanged, as TCP delivers it; but it is delayed, cut into pieces, and the connection is
 ended at any byte, at both ends at once or at one before the other. A repeat is what clients send again after that.
 The model hears of each message before its last byte goes to the server, and of each reply as it comes from there.
 """
@@ -86,7 +86,7 @@ class Network(threading.Thread):
             time.sleep(0.002)
 
     def calm(self, is_calm: bool) -> None:
-        """Whether nothing goes wrong from now on."""
+        """Sets whether nothing goes wrong from now on."""
         with self.lock:
             self.is_calm = is_calm
             for gate in self.gates:
@@ -255,8 +255,8 @@ class Network(threading.Thread):
             self.close(link)
 
     def hand_over(self, link: Link, way: Way, target: socket.socket, piece: bytes) -> int:
-        """Sends what the system takes; what goes to the server is told to the model before. To an end that is gone all
-        goes, into nothing."""
+        """Sends what the system takes; what goes to the server is reported to the model before. To an end that is gone all
+        is sent, and lost."""
         if way is link.up:
             while way.ends and way.ends[0][0] <= way.left + len(piece):
                 _, frame = way.ends.popleft()

@@ -1,4 +1,4 @@
-"""Bugs that are planted behind the servers, between them and what looks at them, to see that each is found."""
+"""Bugs that are planted between the servers and what looks at them; each must be found."""
 
 from __future__ import annotations
 
@@ -95,7 +95,7 @@ class Plant:
         return [line] if line else []
 
     def before_look(self, folder: Path) -> None:
-        """On the banks of a server that has stopped, before they are read: closes the gate of the last record."""
+        """Changes the banks of a server that has stopped, before they are read: closes the gate of the last record."""
         found = banks.verdict(*banks.folder_bytes(folder))
         if found.records and self.is_due("lost", 0.5):
             with open(folder / f"{found.side}.bank", "r+b") as file:
@@ -103,7 +103,7 @@ class Plant:
                 file.write(b"\0")
 
     def after_look(self, folder: Path, taken: dict[int, bytes]) -> None:
-        """On the banks that were found right."""
+        """Changes the banks that were found right."""
         found = banks.verdict(*banks.folder_bytes(folder))
         state = found.state
         if state is None or not found.side:

@@ -24,7 +24,7 @@ PATIENCE = 60.0
 TICK = 0.01
 KINDS: list[type[Client]] = [HandClient, LibraryClient, CallClient]
 FIRST_NUMBER = 10
-# Each so many rounds have a server with a large store.
+# One of this many rounds has a server with a large store.
 LARGE_ONCE = 4
 # How often a round is crowded, and by how many more clients.
 CROWDED, CROWD = 0.15, 10
@@ -37,7 +37,7 @@ LOOKER = 1_999_999
 
 
 class Round:
-    """What clients have around them, and who stops the servers."""
+    """What clients have around them; it also stops the servers."""
 
     def __init__(self, top: Path, library: Path, seed: int, plant: str) -> None:
         self.top, self.seed = top, seed
@@ -193,7 +193,7 @@ class Round:
         return all(server.lives() for server in self.servers)
 
     def look_at_rest(self) -> None:
-        """Nothing is unanswered, nothing is asked, each tuple is free, and one who asks all servers gets one. A server
+        """Nothing is unanswered, nothing is asked, each tuple is free, and a client that asks all servers gets one. A server
         that ends meanwhile, as planned, is looked at when it is started again."""
         until = time.monotonic() + SECONDS_FREE
         while open_now := self.open_now():
@@ -225,12 +225,12 @@ class Round:
         return found
 
     def last_tickets(self, client: Client) -> list[int]:
-        """The last ticket of a client at each server that it has asked for something over the connection of now."""
+        """The last ticket of a client at each server that it has asked for something over its present connection."""
         wires = [wire for model in self.models if (wire := model.greeted.get(client.number))]
         return [max(wire.asks) for wire in wires if wire.asks]
 
     def look_at_all(self) -> None:
-        """One who asks all servers sees a tuple, and is given one to hold, if any of them has one, and else not: at once,
+        """A client that asks all servers sees a tuple, and is given one to hold, if any of them has one, and else not: at once,
         or when the servers have read the ends of those that held all tuples just before."""
         with self.network.lock:
             is_there = any(model.bag() for model in self.models)

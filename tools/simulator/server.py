@@ -1,4 +1,4 @@
-"""A server under tools/simulate: its lives, each on the disk that the last one left, and what is looked at between."""
+"""A server under tools/simulate: its lives, each on the disk that the last one left, and what is looked at between them."""
 
 from __future__ import annotations
 
@@ -28,15 +28,15 @@ from simulator.wire import Fault, Mark, Wire, differing, lines_of
 PATIENCE = 60.0
 LOOKERS = 2_000_000
 SECONDS_FREE, SILENCE = 5.0, 20.0
-# After so many records of a life a snapshot is taken; so many changes of the disk they are.
+# The records of a life after which a snapshot is taken, and the changes of the disk for each of them.
 HARD, CHANGES_A_RECORD = 1_024, 4
 HARD_LETTERS = 255
 # Microseconds that a sync takes.
 SLOW = [0, 0, 300, 2_000, 5_000, 20_000]
-# How often the power is cut soon after a start, how often if the last life left what is not synced, and the seconds
+# How often the power is cut soon after a start, how often if the last life left something that is not synced, and the seconds
 # after the start in which that comes.
 SHORT, SHORT_UNSYNCED, SOON = 0.2, 0.6, 0.05
-# So many changes the first start in a new folder makes.
+# The changes that the first start in a new folder makes.
 FIRST_CHANGES = 9
 # Seconds for which a client that holds a tuple may say nothing, if that is limited.
 LEASE = 1
@@ -71,7 +71,7 @@ class Simulated:
         self.process: subprocess.Popen[str] | None = None
         self.copies: list[tuple[str, list[str], Mark, Mark]] = []
         self.has_plan = self.works_hard = self.was_unsynced = False
-        # Whether this life is to be short, and when the power is cut then.
+        # Whether this life must be short, and when the power is cut then.
         self.is_short, self.cut_at = False, 0.0
         self.worker: threading.Thread | None = None
         self.idle: list[socket.socket] = []
@@ -164,11 +164,11 @@ class Simulated:
         return self.process is not None and self.process.poll() is None
 
     def is_over(self) -> bool:
-        """Whether it has ended, or is to end now by a power cut."""
+        """Whether it has ended, or must end now by a power cut."""
         return not self.lives() or (self.is_short and time.monotonic() >= self.cut_at)
 
     def has_ended(self, *words: str) -> None:
-        """It has ended by itself: as planned, or with one of these lines after a call that failed."""
+        """Checks how it ended by itself: as planned, or with one of these lines after a call that failed."""
         assert self.process
         _, said = self.process.communicate(timeout=PATIENCE)
         status, fired = self.process.returncode, self.disk.fired()
@@ -200,7 +200,7 @@ class Simulated:
         self.leave_disk()
 
     def leave_disk(self) -> None:
-        """What is left of its disk has to be what was answered."""
+        """Checks that what is left of its disk is what was answered."""
         fired, is_short, self.is_short = self.disk.fired(), self.is_short, False
         # (after a call that failed the system's view of a file is not promised)
         if self.dice.random() < 0.5 or is_short or (fired and not is_death(fired)):
@@ -241,7 +241,7 @@ class Simulated:
         self.copies.clear()
 
     def look(self, port: int) -> None:
-        """Before clients are let in: all that is to be there is offered, so nothing is held."""
+        """Before clients are let in: all that must be there is offered, so nothing is held."""
         self.check_free(port, 0.0)
         self.note("clients are let in")
         self.is_short = self.dice.random() < (SHORT_UNSYNCED if self.was_unsynced else SHORT)
@@ -310,7 +310,7 @@ class Simulated:
             raise ConnectionError
 
     def check_free(self, port: int, seconds: float) -> None:
-        """Each tuple that is to be there is offered to one who asks, at once or within so many seconds."""
+        """Each tuple that must be there is offered to a client that asks, at once or within so many seconds."""
         until = time.monotonic() + seconds
         with self.network.lock:
             wanted = self.model.bag()
@@ -324,7 +324,7 @@ class Simulated:
                 # (it has ended, or says that it is down, as planned: then the stop is looked at)
                 if self.has_plan:
                     return
-                # (a machine that stalls may let the lease of one who asks run out)
+                # (a machine that stalls may let the lease of a client that asks run out)
                 if self.model.lease is not None and began + self.model.lease < time.monotonic() < until + SILENCE:
                     continue
                 raise

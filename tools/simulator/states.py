@@ -56,7 +56,7 @@ def reply_now(model: Model, client: int, record: Record, book: dict[int, tuple[i
 
 
 def lines(model: Model) -> list[str]:
-    """The state that has to be there if nothing is unanswered."""
+    """The state that must be there if nothing is unanswered."""
     following = max(model.told, default=0) + 1
     if never := set(range(1, following)) - set(model.told):
         model.fail("ids that were never given, below", following, sorted(never)[:10])
@@ -95,7 +95,7 @@ def check_copy(model: Model, what: str, found: list[str], before: Mark, after: M
 
 
 def after_deeds(model: Model, deeds: list[tuple[tuple, tuple | None]]) -> tuple[int, dict[int, tuple]]:
-    """The next id and the tuples after deeds, each told by its reply and, if its id does not say it, by its tuple."""
+    """The next id and the tuples after deeds, each given by its reply and, if its id does not say it, by its tuple."""
     first = model.first[0]
     following, bag = first.next, bag_of(first)
     for reply, what in deeds:
@@ -113,7 +113,7 @@ def tuple_put(pending: Pending) -> tuple | None:
 
 
 def unanswered(model: Model, words: list[str]) -> tuple:
-    """The reply to a message that was unanswered, as the words of a line have it."""
+    """The reply to a message that was unanswered, as the words of a line give it."""
     name = words[3].capitalize()
     if name == "Taken":
         return name, int(words[4]), model.ids.get(int(words[4]), ())

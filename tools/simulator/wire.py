@@ -19,7 +19,7 @@ class Fault(Exception):
 
 @dataclass
 class Pending:
-    """A numbered message that is not answered. `floor` is the greatest id that was told before it was sent; `is_sure`
+    """A numbered message that is not answered. `floor` is the greatest id that was known before it was sent; `is_sure`
     says that what it accepts was held for it, `is_done` that a Welcome had its number."""
 
     number: int
@@ -74,7 +74,7 @@ class Owed(NamedTuple):
 
 @dataclass(eq=False)
 class Wire:
-    """A connection as the server has it."""
+    """A connection as the server sees it."""
 
     name: str
     client: int | None = None
@@ -119,7 +119,7 @@ def short(value: object) -> str:
 
 
 def differing(found: list, wanted: list) -> str:
-    """Where two lists of lines differ."""
+    """The lines in which two lists differ."""
     more, lacking = [it for it in found if it not in wanted], [it for it in wanted if it not in found]
     return f"{short(more)} but should have {short(lacking)}"
 

@@ -27,7 +27,7 @@ export class OutOfRange extends SpaceError {
 }
 
 /**
- * A server refused: `server` is its number, `code` and `reason` say why, `detail` is as docs/FORMATS.md has it for that
+ * A server refused: `server` is its number, `code` and `reason` say why, `detail` is what docs/FORMATS.md gives for that
  * code. `client` is the number of this client. Of `Space.outMany` it has `stored`: what was put, null in the place of
  * what was not.
  */

@@ -1,12 +1,12 @@
-/** What a pool and the loop of a worker may do with a space, and others may not. */
+/** What only a pool and the loop of a worker may do with a space. */
 
 /**
- * - `call`: one call, as all calls are made; `begin` says to the machine what it begins with. `isQuiet`: it says
+ * - `call`: one call, as all calls are made; `begin` begins it at the machine. `isQuiet`: it says
  *   nothing of holds that were lost.
- * - `finish`: finishes what is pending after an error, in so many milliseconds, `patience` at most. What was taken by that
+ * - `finish`: finishes what is pending after an error, in the milliseconds given, `patience` at most. What was taken by that
  *   is in hand: the next take gets it.
  * - `isOver`: whether all calls throw. `onOver`: is called once an offer was taken or released, or Gone was thrown.
- * - `keep`: renews an offer every so many milliseconds.
+ * - `keep`: renews an offer at this interval of milliseconds.
  * @typedef {{
  *     call: (begin: (machine: import('./machine.mjs').Machine) => void,
  *         limits: { timeout: number | null, signal: AbortSignal | null },

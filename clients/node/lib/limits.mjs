@@ -31,7 +31,7 @@ export function plain(integer) {
 }
 
 /**
- * A value as a text of so many characters at most, whatever it is.
+ * Any value as a text of `most` characters at most.
  * @param {unknown} value @param {number} [most] @returns {string}
  */
 export function shown(value, most = MOST_SHOWN) {

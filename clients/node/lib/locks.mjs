@@ -27,7 +27,7 @@ export class Lock {
 }
 
 /**
- * What the locks of the numbers of a file are named after: its real path. The file and its folder may not be there yet.
+ * The name for the locks of the numbers of a file, by its real path. The file and its folder may not be there yet.
  * @param {string} file
  */
 export function keyOfFile(file) {
@@ -35,7 +35,7 @@ export function keyOfFile(file) {
 }
 
 /**
- * What the locks of given numbers are named after: the servers, in any order.
+ * The name for the locks of given numbers, by the servers in any order.
  * @param {readonly (number | string)[]} ports
  */
 export function keyOfPorts(ports) {
@@ -45,7 +45,7 @@ export function keyOfPorts(ports) {
 }
 
 /**
- * That of a socket, if it is there: programs in other folders have other paths to it.
+ * The real path of a socket, if it is there: programs in other folders have other paths to it.
  * @param {string} path
  */
 function realPath(path) {
@@ -72,7 +72,7 @@ function realFolder(folder) {
 }
 
 /**
- * A lock of that number, null if there can be none, or 'held' if another space has it, of this program or of another one.
+ * A lock of that number, null if this system has no such sockets, or 'held' if another space has it, of this program or of another one.
  * @param {string} key @param {number} number @returns {Promise<Lock | 'held' | null>}
  */
 export async function lockOf(key, number) {
@@ -81,7 +81,7 @@ export async function lockOf(key, number) {
 }
 
 /**
- * Whether there are such sockets. An earlier version of Node.js gives each of them one and the same other name.
+ * Whether this system has such sockets. An earlier version of Node.js gives each of them one and the same other name.
  * @type {Promise<boolean> | undefined}
  */
 let areThere;

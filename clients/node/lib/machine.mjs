@@ -1,4 +1,4 @@
-/** The client as docs/EVENTS.md has it: a machine that says what is to be sent, and hears what arrives. */
+/** The client that docs/EVENTS.md describes: a machine that says what must be sent, and is given what arrives. */
 
 import { Busy, Gone, Idle, Left, NumberInUse, Refused, Spent } from './errors.mjs';
 import { basesAndNacks } from './events.mjs';
@@ -28,8 +28,8 @@ import { bindsOf, matches, range } from './values.mjs';
  * as what their train has, or as the Refused that ended them.
  * @typedef {Stored | Kept | Outcome | Offer | Gone | Refused | Taken | Many | 'left' | 'passed'} Ended
  *
- * `hasLimit`: the last base is the alarm of the call's own time. `isPoll`, `isHold`: see Sync. `isOwn`: the loss of
- * what is held so is seen by who holds it, and no call says so.
+ * `hasLimit`: the last base is the alarm of the call's own time. `isPoll`, `isHold`: see Sync. `isOwn`: the caller
+ * that holds the tuple sees its loss itself, and no call reports it.
  * @typedef {{ hasLimit?: boolean, isPoll?: boolean, isHold?: boolean, isOwn?: boolean }} Ways
  *
  * @typedef {import('./values.mjs').Value} Value
@@ -122,13 +122,13 @@ export class Sync {
 }
 
 /**
- * The client: its clock, its next numbers, and what is pending. What a call leads to is appended to `sent`, as pairs of
- * a server and a frame; if what was pending has ended, `ended` is how.
+ * The client: its clock, its next numbers, and what is pending. What a call sends is appended to `sent`, as pairs of
+ * a server and a frame; if what was pending has ended, `ended` says how.
  *
  * - `isUp`, `probes`: for each server whether it is greeted, and how many answers to messages with number 0 it owes.
  * - `kept`: for each server what answered the last numbered message of this life there, null if there was none.
- * - `held`: the offers that are held, by server and ticket. `own` are those whose loss no call says.
- * - `untold`: the offers that were lost, and no call has said so.
+ * - `held`: the offers that are held, by server and ticket. `own` are those whose loss no call reports.
+ * - `untold`: the offers that were lost, and no call has reported it.
  * - `inHand`: what was taken for calls that ended by an error before.
  * - `dropped`: the nack numbers of a synchronization that ended by an error, until the next one.
  */
@@ -170,7 +170,7 @@ export class Machine {
         this.kept = /** @type {(Kept['kind'] | null)[]} */ (this.servers.map(() => null));
     }
 
-    // ---- what one asks for
+    // ---- calls
 
     /**
      * The j-th out of client c, from 0, goes to server (c + j) mod S.
@@ -184,7 +184,7 @@ export class Machine {
     }
 
     /**
-     * The server of the out that comes after so many others.
+     * The server of the out that comes after `others` further ones.
      * @param {number} others
      */
     serverOf(others) {
@@ -205,7 +205,7 @@ export class Machine {
     }
 
     /**
-     * Takes what matches and is there now, so many at most; what is in hand first, if it is to be kept.
+     * Takes what matches and is there now, `count` at most; what is in hand comes first, if the tuples are kept.
      * @param {'takeMany' | 'purge'} kind @param {Template} template @param {number} count @returns {TakeTrain}
      */
     takeMany(kind, template, count) {
@@ -217,7 +217,7 @@ export class Machine {
     }
 
     /**
-     * Asks for the kept reply to the last number, if there is one. What is sent under it does not matter.
+     * Asks for the kept reply to the last number, if there is one. The message that is sent under that number does not matter.
      * @param {number} server
      */
     lastReply(server) {
@@ -234,7 +234,7 @@ export class Machine {
     }
 
     /**
-     * Accepts an offer that is held, or goes on with that.
+     * Accepts an offer that is held, or goes on with its Accept.
      * @param {Offer} offer
      */
     takeHeld(offer) {
@@ -249,7 +249,7 @@ export class Machine {
     }
 
     /**
-     * Sends what changes nothing: an Accept of nothing, whose reply is kept.
+     * Sends a message that changes nothing: an Accept of nothing, whose reply is kept.
      * @param {number} server
      */
     pass(server) {
@@ -263,7 +263,7 @@ export class Machine {
         this.renewAt(offer.server);
     }
 
-    /** Sends each server that holds something what changes nothing. */
+    /** Sends a message that changes nothing to each server that holds something. */
     renewAll() {
         for (const server of new Set(Array.from(this.held.values(), (offer) => offer.server))) this.renewAt(server);
     }
@@ -277,7 +277,7 @@ export class Machine {
     }
 
     /**
-     * Gives what is held free again, if it is held and no Accept of it is unanswered. If it was lost no call says so.
+     * Gives what is held free again, if it is held and no Accept of it is unanswered. If it was lost no call reports that.
      * @param {Offer} offer
      */
     release(offer) {
@@ -290,7 +290,7 @@ export class Machine {
     }
 
     /**
-     * Gone of these offers, which no other call says.
+     * The Gone of these offers, whose loss no other call reports.
      * @param {readonly Offer[]} offers
      */
     told(offers) {
@@ -300,7 +300,7 @@ export class Machine {
     }
 
     /**
-     * What a server held is not held any more.
+     * The tuples that a server held are not held any more.
      * @param {number} server
      */
     loseHolds(server) {
@@ -356,7 +356,7 @@ export class Machine {
     }
 
     /**
-     * The next number at that server, if there are so many.
+     * The next number at that server, if `count` numbers are left.
      * @param {number} server @param {number} [count]
      */
     nextNumber(server, count = 1) {
@@ -365,7 +365,7 @@ export class Machine {
     }
 
     /**
-     * The next tickets, so many.
+     * The next `count` tickets.
      * @param {number} count
      */
     newTickets(count) {
@@ -429,7 +429,7 @@ export class Machine {
     }
 
     /**
-     * Keeps how something ended whose call is over.
+     * Keeps how a task ended whose call is over.
      * @param {Ended} ended
      */
     file(ended) {
@@ -493,7 +493,7 @@ export class Machine {
     }
 
     /**
-     * How many numbered messages to that server are not answered, beside those of numbers that were answered.
+     * How many numbered messages to that server are not answered; a request for a kept reply does not count.
      * @param {number} server
      */
     unansweredAt(server) {
@@ -541,7 +541,7 @@ export class Machine {
     }
 
     /**
-     * That server is greeted, and says which number was its last.
+     * That server has welcomed the client, with this last number.
      * @param {number} server @param {bigint} last
      */
     reconnected(server, last) {
@@ -622,7 +622,7 @@ export class Machine {
     }
 
     /**
-     * Whether it says that what is unanswered at that server was not done, nor what was sent there after it.
+     * Whether the reply says that what is unanswered at that server was not done, nor what was sent there after it.
      * @param {number} server @param {Reply} reply
      */
     isJudged(server, reply) {
@@ -678,7 +678,7 @@ export class Machine {
     }
 
     /**
-     * A Refused ends the call. It changes nothing but this: a numbered message that was judged and not done is not
+     * A Refused ends the call. It changes only this: a numbered message that was judged and not done is not
      * pending any more, and its number is still the next one.
      * @param {number} server @param {number} code @param {bigint} detail
      */
@@ -736,7 +736,7 @@ export class Machine {
     }
 
     /**
-     * An offer is accepted, or held as it is; a copy is what its base gets.
+     * An offer is accepted, or held as it is; a copy ends the synchronization by its base.
      * @param {Sync} sync @param {Base} base @param {Arrival} arrival
      */
     takeUp(sync, base, arrival) {
@@ -809,7 +809,7 @@ export class Machine {
     }
 
     /**
-     * Nothing was taken for a synchronization that ended by an error.
+     * Ends a synchronization that ended by an error, and for which nothing was taken.
      * @param {Sync} sync
      */
     endDropped(sync) {
@@ -844,7 +844,7 @@ export class Machine {
 }
 
 /**
- * A server and a ticket, as one key.
+ * The key for a server and a ticket.
  * @param {{ server: number, ticket: bigint }} pair
  */
 function placeOf(pair) {
@@ -853,7 +853,7 @@ function placeOf(pair) {
 
 
 /**
- * Whether it is several messages under way.
+ * Whether the task is several messages under way.
  * @param {Task | null} task @returns {task is OutTrain | TakeTrain}
  */
 function isTrain(task) {

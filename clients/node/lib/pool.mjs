@@ -36,7 +36,7 @@ import { checkedLimits, checkedTemplate, matches, within } from './values.mjs';
 
 const SIZE = 16;
 const GROWN_AFTER = 1_000;              // milliseconds after which a member is made again, if none could be
-/** A call with less time waits for so many milliseconds all the same for a member that is made or finished for it. */
+/** The milliseconds that a call waits at least for a member that is made or finished for it, even if its time is less. */
 const MAKING = 2_000;
 
 /**
@@ -325,7 +325,7 @@ export class Pool {
         this.#serve();
     }
 
-    /** Lends what is there to who waits; else makes a member, and finishes others, one for each that waits. */
+    /** Lends the members that are there to the calls that wait; else makes a member, and finishes others, one for each such call. */
     #serve() {
         for (let { first } = this.#waiting; first !== undefined; { first } = this.#waiting) {
             const place = this.#placeFor(first.inputs);
@@ -341,7 +341,7 @@ export class Pool {
     }
 
     /**
-     * What was tried since then, for the calls that wait, has failed: so do those that waited for half of that time.
+     * What was tried since `begin` for the calls that wait has failed: those that waited for half of that time fail too.
      * @param {number} begin @param {unknown} fault
      */
     #failed(begin, fault) {
@@ -368,7 +368,7 @@ export class Pool {
         return place >= 0 ? place : machines.findLastIndex(({ task }) => task === null);
     }
 
-    /** Makes a member. If that cannot be, the calls wait for those that there are, or fail so if there is none. */
+    /** Makes a member. If that fails, the calls wait for the members that there are, or fail with this error if there is none. */
     async #grow() {
         const begin = performance.now();
         this.#isGrowing = true;
@@ -388,8 +388,8 @@ export class Pool {
     }
 
     /**
-     * Finishes what a member that is not lent has pending, in the time that the calls have that wait. If that cannot be,
-     * and none is lent, they fail so.
+     * Finishes what a member that is not lent has pending, in the time of the calls that wait. If that fails, and no
+     * member is lent, they fail with that error.
      */
     async #finish() {
         const begin = performance.now();

@@ -19,7 +19,7 @@ import { bindsOf, matches } from './values.mjs';
  * @typedef {import('./values.mjs').Tuple} Tuple
  * @typedef {import('./values.mjs').Template} Template
  *
- * Where a tuple was put: `id` is null if it was put, and the answer was lost with a connection.
+ * The place of a tuple that was put: `id` is null if it was put, and the answer was lost with a connection.
  * @typedef {{ server: number, id: number | bigint | null }} Put
  */
 
@@ -100,7 +100,7 @@ export class OutTrain {
     }
 
     /**
-     * The first one under way at that server has this answer.
+     * The first message under way at that server has this answer.
      * @param {number} server @param {Reply} reply
      */
     answered(server, reply) {
@@ -118,7 +118,7 @@ export class OutTrain {
     }
 
     /**
-     * The first one under way at that server was not done.
+     * The first message under way at that server was not done.
      * @param {number} server @param {Refused} fault
      */
     refused(server, fault) {
@@ -136,7 +136,7 @@ export class OutTrain {
     probed() {}
 
     /**
-     * Those before `last` were done, and no server keeps their replies. That with `last` is sent again for its reply,
+     * The messages before `last` were done, and no server keeps their replies. That with `last` is sent again for its reply,
      * and what is after it because it was not done: but not after one that was refused.
      * @param {number} server @param {bigint} last
      */
@@ -152,13 +152,13 @@ export class OutTrain {
 }
 
 /**
- * Takes that are pending, at one server after another. It is asked for as many tuples as may be open, and then for what
+ * Takes that are pending, at one server after another. Each is asked for as many tuples as may be open, and then for what
  * is always answered: what was not offered until then is not there, and is cancelled. What is offered is accepted at
  * once. An Accept over the connection of its Offer is always answered by Taken.
  *
  * - `tickets`: those that are asked under, and were not offered anything. `isAsking`: the answer after them is due.
  * - `isEmpty`: the server has no more. `got`, `taken`: how many were taken, and which, if they are kept.
- * - `told`: how many of `taken` an error has said. `isDropped`: it ended by an error, and only answers are waited for.
+ * - `told`: how many of `taken` an error has reported. `isDropped`: it ended by an error, and only answers are waited for.
  */
 export class TakeTrain {
     server = 0;
@@ -236,7 +236,7 @@ export class TakeTrain {
     }
 
     /**
-     * Whether it is for this what arrived: an offer is accepted.
+     * Whether what arrived is for these takes: an offer is accepted.
      * @param {Arrival} arrival
      */
     arrived({ server, ticket, id, tuple, isOffer }) {
@@ -253,7 +253,7 @@ export class TakeTrain {
     }
 
     /**
-     * What the server has not offered until now is not there.
+     * All asks were answered: what the server has not offered until now is not there.
      * @param {number} server
      */
     probed(server) {
@@ -276,7 +276,7 @@ export class TakeTrain {
     }
 
     /**
-     * The first one under way at that server has this answer.
+     * The first Accept under way at that server has this answer.
      * @param {number} server @param {Reply} reply
      */
     answered(server, reply) {
@@ -291,7 +291,7 @@ export class TakeTrain {
     }
 
     /**
-     * The first one under way at that server was not done, and is held no more.
+     * The first Accept under way at that server was not done, and its tuple is held no more.
      * @param {number} server @param {Refused} fault
      */
     refused(server, fault) {
@@ -320,7 +320,7 @@ export class TakeTrain {
     }
 
     /**
-     * Those up to `last` were taken, and no others.
+     * The tuples of the Accepts up to `last` were taken, and no others.
      * @param {number} server @param {bigint} last
      */
     reconnected(server, last) {
@@ -337,7 +337,7 @@ export class TakeTrain {
     }
 
     /**
-     * What was taken, and no error has said, as takes.
+     * What was taken and no error has reported, as the outcomes of takes.
      * @returns {Outcome[]}
      */
     outcomes() {

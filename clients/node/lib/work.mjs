@@ -16,7 +16,7 @@ import {
  *     signal?: AbortSignal | null, keep?: number, timeout?: number | null,
  *     onerror?: ((fault: Error) => void) | null }} WorkOptions
  *
- * A job that waits for its next try: when that is, and what is put then.
+ * A job that waits for its next try: the time of that, and what is put then.
  * @typedef {{ offer: Offer, due: number, next: Tuple }} Waiting
  */
 
@@ -35,7 +35,7 @@ export async function worked(space, template, work, options) {
 }
 
 /**
- * The inputs of which each is a job: that of a template, or those that are given, the first of which goes first.
+ * The inputs that ask for a job: that of a template, or those that are given, in the order in which they are preferred.
  * @param {unknown} template @returns {import('./events.mjs').SpaceEvent[]}
  */
 function inputsOf(template) {
@@ -257,7 +257,7 @@ class Work {
     }
 
     /**
-     * Whether a server without room is tried again; if the work has to end the job is free.
+     * Whether a server without room is tried again; if the work must end the job is free.
      * @param {unknown} fault @param {Offer} offer
      */
     async #bearsFull(fault, offer) {
@@ -301,7 +301,7 @@ class Work {
         }
     }
 
-    /** Some time, or less if the work has to end. */
+    /** Waits for some time, or less if the work must end. */
     async #pause() {
         const { signal } = this.#stopper;
         if (signal.aborted) return;
@@ -316,7 +316,7 @@ class Work {
         });
     }
 
-    /** A server that keeps the last job as taken keeps something else, so that nobody takes it for unfinished. */
+    /** Makes each server that keeps the last job as taken keep another reply, so that nobody takes the job for unfinished. */
     async #forgetLast() {
         const machine = this.#inside.machine(), limits = { timeout: this.#inside.patience, signal: null };
         for (const server of machine.servers) {
@@ -333,14 +333,14 @@ class Work {
 }
 
 /**
- * Whether it says that a server is away, or that it has another connection under this number still.
+ * Whether the error says that a server is away, or that it still has another connection under this number.
  * @param {unknown} fault
  */
 function isAway(fault) {
     return fault instanceof NoConnection || fault instanceof TimedOut || fault instanceof Refused && fault.reason === 'Busy';
 }
 
-/** A function returned what is no result. */
+/** A function returned something that is no result. */
 class WrongResult extends Error {}
 
 /**
@@ -366,7 +366,7 @@ function textOf(fault) {
 }
 
 /**
- * A text of so many bytes at most, cut at the border of a character.
+ * A text, cut to `MOST_DEAD_TEXT` bytes at most, at the border of a character.
  * @param {string} text
  */
 function cut(text) {

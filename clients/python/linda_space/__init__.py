@@ -1,11 +1,11 @@
-"""A client of a tuple space: of 1 to 16 servers (`linda serve`) that listen on ports of this machine, or on unix sockets. It needs nothing but Python 3.8 and its
+"""A client of a tuple space: of 1 to 16 servers (`linda serve`) that listen on ports of this machine, or on unix sockets. It needs only Python 3.8 and its
 own library.
 
     from linda_space import ANY, INT, TEXT, In, Rd, Space
 
     with Space([7000, 7001], client=7) as space:
         space.out("job", 1)                                # (server, id), once the tuple is there for good
-        space.look("job", INT)                             # ("job", 1), which stays where it is; None if there is none now
+        space.look("job", INT)                             # ("job", 1), which stays there; None if there is none now
         space.read("job", INT)                             # the same, but waits until there is one
         space.take("job", INT, timeout=2.5)                # ("job", 1), which nobody else gets; None after 2.5 seconds
         with space.hold("job", INT) as offer:              # held for this client, and not taken before offer.accept()

@@ -136,7 +136,7 @@ class Space:
         if not self._waiter.done():
             self._waiter.set_result(None)
 
-    # ---- what one asks for
+    # ---- calls
 
     @property
     def client(self) -> int:
@@ -154,7 +154,7 @@ class Space:
         return self._inner.settled
 
     def after(self, seconds: float) -> Alarm:
-        """An alarm that is ready so many seconds from now."""
+        """An alarm that is ready `seconds` seconds from now."""
         return self._inner.after(seconds)
 
     def clock(self) -> int:
@@ -386,7 +386,7 @@ class Space:
 
 
 def _call_soon(loop: asyncio.AbstractEventLoop, method: WeakMethod[Callable[[], None]]) -> None:
-    """In the loop, from any thread."""
+    """Calls the method in the loop, from any thread."""
     call = method()
     if call is not None and not loop.is_closed():
         loop.call_soon_threadsafe(call)
@@ -417,7 +417,7 @@ class Pool:
         self._making = 0
         self._process = os.getpid()
         self._is_closed = False
-        self._waiting: Deque[asyncio.Future[None]] = deque()       # those who wait for a member, or for room for one
+        self._waiting: Deque[asyncio.Future[None]] = deque()       # the calls that wait for a member, or for room for one
 
     async def __aenter__(self) -> Pool:
         return self
@@ -444,11 +444,11 @@ class Pool:
             self._end_close(members, free)
 
     def close(self) -> None:
-        """Closes all members: calls that wait raise Closed. What an error or a cancelled task left pending, and what was to be put back, is said in the log."""
+        """Closes all members: calls that wait raise Closed. What an error or a cancelled task left pending, and what was not put back, is logged."""
         self._end_close(*self._begin_close())
 
     def _begin_close(self) -> Tuple[List[Space], List[Space]]:
-        """From now on no call begins, and those that wait end. All members, and those that are not in use."""
+        """From now on no call begins, and those that wait end. Returns all members, and those that are not in use."""
         self._inherit()
         self._is_closed = True
         members, free = self._members, [member for member in (*self._cut, *self._free) if not member._inner._is_inherited]
@@ -478,7 +478,7 @@ class Pool:
             log.warning("a pool is closed: %s", fault)
 
     def _inherit(self) -> None:
-        """In a process that was forked: what the pool owes its parent puts back."""
+        """In a process that was forked: the parent puts back what the pool owes."""
         if os.getpid() != self._process:
             self._process = os.getpid()
             self._owed.clear()
@@ -534,7 +534,7 @@ class Pool:
             return member
 
     async def _change(self, until: float) -> None:
-        """Waits until a member is free, or there is room for one, or it is this time. Who is cancelled when it was its turn lets the next one have it."""
+        """Waits until a member is free, or there is room for one, or it is this time. A call that is cancelled in its turn gives the turn to the next one."""
         loop = asyncio.get_running_loop()
         waiter = loop.create_future()
         self._waiting.append(waiter)
@@ -552,13 +552,13 @@ class Pool:
                 bell.cancel()
 
     def _ring(self, waiter: asyncio.Future[None]) -> None:
-        """The time is up of a call that waits."""
+        """Called when the time of a call that waits is up."""
         if not waiter.done():
             self._waiting.remove(waiter)
             waiter.set_result(None)
 
     def _notify(self) -> bool:
-        """Wakes one who waits; whether there was one."""
+        """Wakes a call that waits; returns whether there was one."""
         while self._waiting:
             waiter = self._waiting.popleft()
             if not waiter.done():
@@ -593,7 +593,7 @@ class Pool:
                 return
 
     def _give_back(self, member: Space, is_last: bool = False) -> None:
-        """It waits for nothing: a task that were cancelled meanwhile would lose what its call returned."""
+        """It waits for nothing: a task that was cancelled meanwhile would lose what its call returned."""
         if self._is_closed:
             say_left(member._inner, self._owed.pop(member, ()))
             member.close()
@@ -607,7 +607,7 @@ class Pool:
         self._notify()
 
     def _drop(self, member: Space) -> None:
-        """A member that is of no use any more."""
+        """Drops a member that is of no use any more."""
         if member in self._members:
             self._members.remove(member)
         owed = self._owed.pop(member, deque())
@@ -620,7 +620,7 @@ class Pool:
 
     @asynccontextmanager
     async def _lent(self, timeout: Optional[float]) -> AsyncIterator[Tuple[Space, Optional[float]]]:
-        """A member for a call of so many seconds, and how many are left of them."""
+        """A member for a call with this timeout, and the seconds that are left of it."""
         until = math.inf if timeout is None else time.monotonic() + as_seconds("a timeout", timeout)
         member = await self._lend(until)
         is_last = is_useless = False

@@ -36,8 +36,8 @@ class OutOfRange(SpaceError, ValueError):
 
 
 class Refused(SpaceError):
-    """A server refused: `server` is its number, `code` and `name` say why, `detail` is as docs/FORMATS.md has it for that code. `client` is the number of this
-    client. `stored` is of `out_many` only: for each tuple where it was put, or None if it was not."""
+    """A server refused: `server` is its number, `code` and `name` say why, `detail` is what docs/FORMATS.md gives for that code. `client` is the number of this
+    client. `stored` is of `out_many` only: for each tuple its place, or None if it was not put."""
 
     stored: Optional[List[Optional[Tuple[int, Optional[int]]]]] = None
 
@@ -77,8 +77,8 @@ class Restored(SpaceError):
 
 class NumberInUse(SpaceError):
     """Another program uses this client's number: the server `server` keeps `last` as its last number, or an answer that is not to what this client asked, and
-    `answered` is the last number that it has answered this client. Who is right cannot be known, so all calls but `close` raise it from now on. What was pending may
-    be done or not; what was held is free again. Begin again under a number of its own."""
+    `answered` is the last number that it has answered this client. Which of the programs is right cannot be known, so all calls but `close` raise it from now
+    on. What was pending may be done or not; what was held is free again. Begin again under a number of its own."""
 
     def __init__(self, server: int, last: int, answered: int, client: int) -> None:
         self.server, self.last, self.answered, self.client = server, last, answered, client

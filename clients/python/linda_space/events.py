@@ -30,7 +30,7 @@ class Asking(Event):
     template: Template
 
     def __init__(self, tag: Value, *patterns: Pattern) -> None:
-        """Raises OutOfRange if the tag or a pattern is none, or if there are too many."""
+        """Raises OutOfRange if the tag or a pattern is not valid, or if there are too many."""
         object.__setattr__(self, "template", (as_value(tag), *(item if isinstance(item, Formal) else as_value(item) for item in few_enough(patterns))))
 
     def fits(self, values: Values) -> bool:
@@ -78,7 +78,7 @@ class Never(Event):
 
 @dataclass(frozen=True, init=False)
 class Choose(Event):
-    """`Choose(*events)`: at most one of them, of any number, is chosen."""
+    """`Choose(*events)`: at most one of these events, of which there may be any number, is chosen."""
 
     events: Tuple[Event, ...]
 

@@ -1,4 +1,4 @@
-"""Frames, as docs/FORMATS.md has them: those that a client sends are spelled, those of a server are read."""
+"""The frames of docs/FORMATS.md: those that a client sends are spelled, those of a server are read."""
 
 from __future__ import annotations
 
@@ -81,7 +81,7 @@ def is_left(reply: Reply) -> bool:
 
 
 class Reader:
-    """Reads what is in a frame after its length, from left to right; ValueError if it is none."""
+    """Reads what is in a frame after its length, from left to right; ValueError if it is no frame."""
 
     def __init__(self, data: bytes) -> None:
         self.data, self.at = data, 0

@@ -24,7 +24,7 @@ class Keeper:
         self.gate = threading.Lock()
 
     def keep(self, offer: Offer, seconds: float) -> None:
-        """Renews the offer every so many seconds from now on, until it is accepted, released or lost."""
+        """Renews the offer every `seconds` seconds from now on, until it is accepted, released or lost."""
         with self.gate:
             self.kept.append((offer, seconds, time.monotonic() + seconds))
             if self.thread is None:
@@ -44,7 +44,7 @@ class Keeper:
             self.more.wait(max(0.0, wake - time.monotonic()))
 
     def renew(self) -> Optional[float]:
-        """Renews what is due; when the next one is, or None if there is nothing any more: then the thread ends."""
+        """Renews what is due; returns when the next renewal is due, or None if nothing is left: then the thread ends."""
         now = time.monotonic()
         with self.gate:
             due = [offer for offer, _, at in self.kept if at <= now]
@@ -58,7 +58,7 @@ class Keeper:
             return min(at for _, _, at in self.kept)
 
     def is_renewed(self, offer: Offer) -> bool:
-        """Whether it was held, and is for longer."""
+        """Renews the offer; returns whether it is still held."""
         space = self.space()
         if space is None or offer.is_taken:
             return False

@@ -19,7 +19,7 @@ Port = Union[int, str]                  # of this machine; or the path of a unix
 
 
 def as_port(port: object) -> Port:
-    """A port: 7000, "localhost:7000" or "127.0.0.1:7000"; or the path of a unix socket. Raises OutOfRange if it is none of these."""
+    """A port: 7000, "localhost:7000" or "127.0.0.1:7000"; or the path of a unix socket. Raises OutOfRange for anything else."""
     if isinstance(port, str):
         if "/" in port and "\0" not in port:
             return port
@@ -49,7 +49,7 @@ def connect_to(port: Port) -> socket.socket:
 
 
 def waits(fault: OSError) -> bool:
-    """Whether a stream can only not be read or written now; one with TLS says so in its own words, by an error of the module ssl."""
+    """Whether an error says only that a stream cannot be read or written now; a stream with TLS says that by an error of the module ssl."""
     return isinstance(fault, BlockingIOError) or type(fault).__name__ in ("SSLWantReadError", "SSLWantWriteError")
 
 
@@ -57,7 +57,7 @@ class Link:
     """The connection to a server: there is none, or it is being made, or the Hello is not answered, or it is up.
 
     - `fresh`: how it is greeted next; `is_new`: whether the number was said to be one that was never used.
-    - `due`: when it is to be made, if there is none; `pause`: how long after that the next time is.
+    - `due`: when it will be made, if there is none; `pause`: how long after that it is tried again.
     - `until`: when it has been away for too long; `busy_until`: when Busy has been answered for too long, once it was answered.
     - `fault`: why the last connection could not be had, or ended.
     - `last_sent`: the highest number that was sent on a connection that was up, or that Welcome had at the very first. A later Welcome has no higher one, unless

@@ -1,4 +1,4 @@
-"""The client as docs/EVENTS.md has it: it says what is to be sent, and is given what came. It knows only the connections and the time that it is given."""
+"""The client that docs/EVENTS.md describes: it says what must be sent, and is given what came. It knows only the connections and the time that it is given."""
 
 from __future__ import annotations
 
@@ -23,8 +23,8 @@ JUDGED = ("Old", "Gap", "Full", "TooManyClients", "Left")      # how a server re
 
 
 class Machine:
-    """The client: its clock, its next numbers, and what is pending. What a call leads to is appended to `sent`, as pairs of a server and a frame; if what was
-    pending has ended, `ended` is how.
+    """The client: its clock, its next numbers, and what is pending. What a call sends is appended to `sent`, as pairs of a server and a frame; if what was
+    pending has ended, `ended` says how.
 
     - `is_up`, `probes`: for each server whether it is greeted, and how many answers to messages with number 0 it owes.
     - `held`: the offers that are held, by server and ticket; `lost_offers`: those that were lost, which no error has reported yet.
@@ -52,7 +52,7 @@ class Machine:
         self.is_interrupted = False
         self.settled: Settled = None
 
-    # ---- what one asks for
+    # ---- calls
 
     def out(self, values: Values) -> None:
         """The j-th out of client c, from 0, goes to server (c + j) mod S."""
@@ -65,7 +65,7 @@ class Machine:
         self.outs += 1
 
     def repeat(self, server: int) -> None:
-        """Asks for the kept reply to the last number, if there is one. What is sent under it does not matter."""
+        """Asks for the kept reply to the last number, if there is one. The message that is sent under that number does not matter."""
         self.be_idle()
         if self.numbers[server] > 1:
             self.begin(Repeat(server, self.numbers[server] - 1))
@@ -103,7 +103,7 @@ class Machine:
         self.begin(Passing(server, number))
 
     def take_held(self, offer: Offer) -> None:
-        """Accepts an offer that is held, or goes on with that."""
+        """Accepts an offer that is held, or goes on with its Accept."""
         if offer.is_taken:
             return
         if isinstance(self.task, Taking) and self.task.offer is offer:
@@ -119,7 +119,7 @@ class Machine:
         self.begin(Taking(offer.server, number, offer))
 
     def renew(self, offer: Offer) -> None:
-        """Sends what changes nothing to the server that holds it: a Cancel of a ticket that is never open."""
+        """Sends a message that changes nothing to the server that holds it: a Cancel of a ticket that is never open."""
         if self.held.get((offer.server, offer.ticket)) is not offer:
             self.tell_lost(offer)
             raise Gone((offer,))
@@ -130,7 +130,7 @@ class Machine:
         self.sent += [(server, spell_cancel(NUMBER_LIMIT - 1)) for server in servers]
 
     def tell_lost(self, offer: Offer) -> bool:
-        """The loss of this offer is reported now. True if it was lost and this was not reported before."""
+        """Notes that the loss of this offer is reported now. True if it was lost and that was not reported before."""
         was_lost = any(lost is offer for lost in self.lost_offers)
         self.lost_offers = [lost for lost in self.lost_offers if lost is not offer]
         return was_lost
@@ -188,7 +188,7 @@ class Machine:
 
     def go_on(self) -> None:
         """Sends what is unanswered once more, to the servers that are up, since one of them may have refused it; but no Accept of a synchronization, which is
-        over if it was refused. What goes together is under way, or its connection was ended."""
+        over if it was refused. Messages that go together are still under way, or their connection has ended."""
         if isinstance(self.task, Takes):
             self.task.go_on(self)
         elif not isinstance(self.task, (Syncing, Outs)):
@@ -226,7 +226,7 @@ class Machine:
             self.is_interrupted = True
 
     def file(self, ended: Ended) -> None:
-        """Keeps how something ended whose call is over."""
+        """Keeps how a task ended whose call is over."""
         self.task = None
         if isinstance(ended, Outcome):
             if ended.kind == "took" and not any(had is ended for had in self.in_hand):
@@ -239,7 +239,7 @@ class Machine:
 
     @staticmethod
     def result(ended: Union[Stored, Kept, Gone, HasLeft, Took, ManyStored, ManyTaken]) -> Settled:
-        """What `again` returns of a call that ended so."""
+        """What `again` returns for a call that ended so."""
         if isinstance(ended, HasLeft):
             return None
         if isinstance(ended, Took):
@@ -363,7 +363,7 @@ class Machine:
             self.task.lost(server)
 
     def reconnected(self, server: int, last: int) -> None:
-        """The server welcomed the client, again perhaps, with its last number."""
+        """The server has welcomed the client, perhaps again, with its last number."""
         self.is_up[server] = True
         if isinstance(self.task, (Outs, Takes)):
             self.task.welcomed(self, server, last)
@@ -428,7 +428,7 @@ class Machine:
         del task.numbers[server]
 
     def refused(self, server: int, reply: Reply) -> None:
-        """A Refused ends the call. It changes nothing but this: a numbered message that was judged and not done is not pending any more, and its number is still
+        """A Refused ends the call. It changes only this: a numbered message that was judged and not done is not pending any more, and its number is still
         the next one."""
         name, task = REFUSALS.get(reply.number), self.task
         if name == "Old" and self.probes[server]:
@@ -477,7 +477,7 @@ class Machine:
             self.take_up(sync, base, arrival)
 
     def take_up(self, sync: Syncing, base: Base, arrival: Arrival) -> None:
-        """An offer is accepted, or held as it is; a copy is what its base gets."""
+        """An offer is accepted, or held as it is; a copy ends the synchronization by its base."""
         if not arrival.is_offer:
             self.commit(sync, base, "read", got=arrival)
             return

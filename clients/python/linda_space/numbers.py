@@ -4,8 +4,8 @@ The file of a program has a number a line. It is in the folder `$LINDA_STATE`, e
 program's, with the first 12 digits of the SHA-256 of the program's whole path: `square-1f0c9b3a7d52.numbers`. The server says which of them are in use, so
 several copies of a program may run at once. A last line without an end was cut when it was added, and is passed over.
 
-A server sees only who is connected now. So a number of a file, or of several, is claimed on this machine too (`Claim`): a program that has no connection for a
-while, as when its server is started again, keeps its number.
+A server knows only which clients are connected now. So a number of a file, or of several, is claimed on this machine too (`Claim`): a program that has no
+connection for a while, as when its server is started again, keeps its number.
 """
 
 from __future__ import annotations
@@ -66,7 +66,7 @@ class Numbers:
             self.first = within("a client", client, 0, MOST_CLIENT)
 
     def key(self, ports: Sequence[object]) -> str:
-        """Under which name these numbers are claimed: those of one file, or of a list for these servers, in any order."""
+        """The name under which these numbers are claimed: one for each file, or for a list for these servers, in any order."""
         if self.path is not None:
             whole = os.fsencode(os.path.join(os.path.realpath(self.path.parent), self.path.name))
         else:
@@ -82,7 +82,7 @@ class Numbers:
             whole, _, cut = text.rpartition("\n")
             if cut:
                 log.warning("the last line of %s has no end, and is passed over: %s", self.path, cut)
-            lines = [line for line in whole.split("\n") if not line.endswith("x")]         # those were cut, and ended so by who added the next one
+            lines = [line for line in whole.split("\n") if not line.endswith("x")]         # cut, and ended so by the program that added the next one
             return list(dict.fromkeys(within("a client", int(word), 0, MOST_CLIENT) for line in lines for word in line.split()))
         except FileNotFoundError:
             return []
@@ -110,8 +110,8 @@ class Numbers:
 
 class Claim:
     """A number that this process has until it ends, or `end` is called: no other process of this machine claims it meanwhile. It is the name of a unix socket in
-    Linux's abstract namespace, which needs no file and goes with the process; elsewhere, or if the system refuses that, nothing is claimed. Raises FileExistsError
-    if another one has it."""
+    Linux's abstract namespace, which needs no file and ends with the process; elsewhere, or if the system refuses that, nothing is claimed. Raises
+    FileExistsError if another process has it."""
 
     def __init__(self, key: str, number: int) -> None:
         self._socket: Optional[socket.socket] = None
@@ -130,13 +130,13 @@ class Claim:
                 made.close()
 
     def end(self) -> None:
-        """Others may claim it."""
+        """Ends the claim: others may claim the number."""
         if self._socket is not None:
             self._socket.close()
 
 
 def choose_number(space: Space, numbers: Numbers, fresh: bool) -> Course:
-    """Greets each server under a number that is to be had."""
+    """Greets each server under a number that is free."""
     if numbers.path is not None:
         yield from _of_file(space, numbers)
     elif numbers.several is None:
@@ -151,7 +151,7 @@ def choose_number(space: Space, numbers: Numbers, fresh: bool) -> Course:
 
 
 def _of_file(space: Space, numbers: Numbers) -> Course:
-    """Under a number of the file, or under a new one."""
+    """Greets under a number of the file, or under a new one."""
     key = numbers.key(space._ports)
     if (yield from _of_several(space, key, numbers.read(), False, False)):
         return
@@ -164,8 +164,8 @@ def _of_file(space: Space, numbers: Numbers) -> Course:
 
 
 def _of_several(space: Space, key: str, numbers: Sequence[int], fresh: bool, stops: bool) -> Generator[float, None, bool]:
-    """Under the first number whose last reply is Taken, else under the first that is to be had; if `stops` none is looked at after one that was never used.
-    Whether there was one. A number that was found is kept, with its connections, while others are looked at."""
+    """Greets under the first number whose last reply is Taken, else under the first that is free; if `stops` none is looked at after one that was never used.
+    Returns whether there was one. A number that was found is kept, with its connections, while others are looked at."""
     found: Optional[Tuple[Machine, List[Link], Optional[Claim]]] = None
     try:
         for number in numbers:
@@ -198,8 +198,8 @@ def _of_several(space: Space, key: str, numbers: Sequence[int], fresh: bool, sto
 
 
 def _try(space: Space, key: str, number: int, fresh: bool) -> Generator[float, None, Optional[List[Optional[Kept]]]]:
-    """Greets each server under this number: the replies that they keep, with `fresh` only that there are none. None, and no connection, if it is in use, was given
-    up, or with `fresh` was used."""
+    """Greets each server under this number; returns the replies that they keep, with `fresh` only that there are none. None, and no connection, if it is in
+    use, was given up, or with `fresh` was used."""
     try:
         space._claim = Claim(key, number)
     except FileExistsError:

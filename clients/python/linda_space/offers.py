@@ -28,7 +28,7 @@ class Offer:
         return f"Offer(server={self.server}, id={self.id}, tuple={self.tuple!r}, is_taken={self.is_taken})"
 
     def __getstate__(self) -> Dict[str, Any]:
-        """In another process it is held by nobody."""
+        """In another process it counts as not held."""
         return {**self.__dict__, "_space": None}
 
     @property
@@ -62,8 +62,8 @@ class Offer:
             self._space._renew(self)
 
     def release(self) -> None:
-        """Gives the tuple free again, if it is held and was not accepted. It waits for nothing, raises nothing, and may be called by any thread. That it was lost
-        before is not raised by later calls any more."""
+        """Gives the tuple free again, if it is held and was not accepted. It waits for nothing, raises nothing, and may be called by any thread. If it was lost
+        before, later calls do not raise that any more."""
         if self._space is not None and not self.is_taken:
             self._space._release(self)
 

@@ -26,14 +26,14 @@ from .values import Pattern, Value, Values, as_seconds, within
 MOST_MEMBERS = 1_024
 AWAY = 0.5                  # seconds until a member whose server is away is tried again
 FINISH = 2.0                # seconds, `patience` at most, for which the end of what a member has pending is waited for before a call, whatever its timeout
-LOOK = 1.0                  # seconds until a call that waits for a member looks whether one belongs to a call that is gone
+LOOK = 1.0                  # seconds until a call that waits for a member looks whether a member belongs to a call that is gone
 Got = TypeVar("Got")
 
 log = logging.getLogger("linda_space")
 
 
 class Lent(List[Space]):
-    """What a call has of a pool: its member, if it has one, and its time. Once nobody refers to it the call is over, however it was interrupted."""
+    """What a call has from a pool: its member, if it has one, and its time. Once nobody refers to it the call is over, however it was interrupted."""
     __slots__ = ("__weakref__", "until")
 
     def __init__(self, members: Iterable[Space] = (), timeout: Optional[float] = None) -> None:
@@ -55,7 +55,7 @@ def has_left(member: Any, owed: Mapping[Any, Deque[Values]]) -> bool:
 
 
 def say_left(member: Optional[Space], owed: Iterable[Values]) -> None:
-    """Says in the log what a member that is closed has pending, or was to put back. No call may be under way by it."""
+    """Logs what a member that is closed has pending, or has not put back. No call may be under way by it."""
     left = list(owed)
     if member is not None:
         if member._is_inherited:
@@ -85,17 +85,17 @@ class Pool:
             raise OutOfRange(f"a pool needs several client numbers: {client!r}")
         self._make: Callable[[], Space] = lambda: Space(ports, client, **how)
         self._size = within("a size", size, 1, MOST_MEMBERS)
-        self._gate = threading.Lock()                       # entered by `with` only: nothing interrupts between that and its block
+        self._gate = threading.Lock()                       # entered only by `with`: nothing interrupts between that and its block
         self._waiting: Deque[threading.Lock] = deque()      # calls that wait for a member, each by a lock that is released for it
         self._process = os.getpid()
         self._is_closed = False
         self._members: List[Space] = []
         self._making: List[weakref.ref[Lent]] = []          # calls that make a member
         self._free: List[Tuple[Space, float]] = []          # each with the time from which on it may be tried
-        self._users: Dict[Space, weakref.ref[Lent]] = {}    # by member the call that has it: so one that is interrupted anywhere gives it back, once
+        self._users: Dict[Space, weakref.ref[Lent]] = {}    # by member the call that has it: so a call that is interrupted anywhere gives it back, once
         self._cut: Set[Space] = set()                       # those of them whose last call was interrupted and left something: they are lent first
-        self._owed: Dict[Space, Deque[Values]] = {}         # by member what is to be put back
-        self._left: Deque[Values] = deque()                 # what members that were of no use any more had to put back
+        self._owed: Dict[Space, Deque[Values]] = {}         # by member what must be put back
+        self._left: Deque[Values] = deque()                 # what members had to put back that were of no use any more
         first = self._make()
         self._members.append(first)
         self._free.append((first, 0.0))
@@ -108,7 +108,8 @@ class Pool:
 
     def close(self) -> None:
         """Closes all members: calls that wait raise Closed. What an error left pending at members that are not in use is finished first, and what was taken is put
-        back, for two seconds at most; what is not is said in the log. It may be called twice, and by any thread. In a forked process it ends what that made."""
+        back, for two seconds at most; what is not is logged. It may be called twice, and by any thread. In a forked process it ends only what that process
+        made."""
         self._inherit()
         with self._gate:
             self._is_closed = True
@@ -137,7 +138,7 @@ class Pool:
             say_left(None, left)
 
     def _inherit(self) -> None:
-        """In a process that was forked: what the pool owes its parent puts back, and a thread of the parent may have had the gate."""
+        """In a process that was forked: the parent puts back what the pool owes, and a thread of the parent may have had the gate."""
         if os.getpid() != self._process:
             self._process, self._gate = os.getpid(), threading.Lock()
             self._waiting.clear()
@@ -147,7 +148,7 @@ class Pool:
     # ---- members
 
     def _lend(self, lent: Lent) -> Space:
-        """A member that is not in use, and has nothing pending. What the call had on the way is in `lent`."""
+        """A member that is not in use, and has nothing pending. What the call has by then is in `lent`."""
         self._inherit()
         while True:
             member = self._next_member(lent)
@@ -243,7 +244,7 @@ class Pool:
                         self._waiting.remove(turn)
 
     def _wake(self, count: int) -> None:
-        """Has so many of the calls look again that wait for a member. The gate is closed meanwhile."""
+        """Makes `count` of the calls that wait for a member look again. The gate is closed meanwhile."""
         for _ in range(min(count, len(self._waiting))):
             self._waiting.popleft().release()
 
@@ -288,7 +289,7 @@ class Pool:
         return member
 
     def _end_making(self, lent: Lent) -> None:
-        """The call makes no member any more: another one may. The gate is closed meanwhile."""
+        """The call makes no member any more: another call may. The gate is closed meanwhile."""
         self._making = [user for user in self._making if user() is not lent]
         self._wake(len(self._waiting))
 
@@ -297,7 +298,7 @@ class Pool:
         return user is not None and user() is lent
 
     def _give_back(self, member: Space, lent: Lent, since: float = 0.0) -> None:
-        """Unless another call has it by now, or it is free already."""
+        """Gives the member back, unless another call has it by now, or it is free already."""
         with self._gate:
             if not self._has(lent, member):
                 return
@@ -314,7 +315,7 @@ class Pool:
         member.close()
 
     def _drop(self, member: Space, lent: Lent) -> None:
-        """A member that is of no use any more."""
+        """Drops a member that is of no use any more."""
         with self._gate:
             if self._has(lent, member):
                 self._users.pop(member)
@@ -330,7 +331,7 @@ class Pool:
 
     @contextmanager
     def _lent(self, timeout: Optional[float]) -> Iterator[Tuple[Space, Optional[float]]]:
-        """A member for a call of so many seconds, and how many are left of them. Raises TimedOut if no member is free by then."""
+        """A member for a call with this timeout, and the seconds that are left of it. Raises TimedOut if no member is free by then."""
         lent = Lent(timeout=timeout)
         try:
             member = self._lend(lent)
@@ -346,7 +347,7 @@ class Pool:
             self._end_call(lent)
 
     def _end_call(self, lent: Lent) -> None:
-        """What the call has yet is given back."""
+        """Gives back what the call still has."""
         for member in lent:
             self._give_back(member, lent)
         if any(user() is lent for user in self._making):    # it was interrupted when it was about to make one

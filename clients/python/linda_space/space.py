@@ -55,7 +55,7 @@ class Space:
     """A client of servers, numbered 0, 1, .. in the order of their ports. Use it in a `with`, or call `close` at the end. `client` is its number.
 
     **Time.** A call waits for as long as its `timeout` says, in seconds, without end if that is None; then TimedOut says which servers did not answer. A
-    server that cannot be greeted for `patience` seconds raises NoConnection earlier than that, if the call needs it. `patience` also bounds what has to come
+    server that cannot be greeted for `patience` seconds raises NoConnection earlier than that, if the call needs it. `patience` also bounds what must come
     at once: the answer to a Hello, and what is still to be known when the time of a `take`, `read`, `choose` or `hold` is up. So a call ends `patience`
     seconds after its `timeout` at the latest.
 
@@ -68,7 +68,7 @@ class Space:
       undone. `again` sends them again, under their number, and returns how they ended. Nothing is done twice by that. After an error of this module all other
       calls raise Busy until then. After KeyboardInterrupt, or another exception that is not of this module, they do not: the next call finishes first what was
       interrupted, for which it waits `patience` seconds at most, and `settled` is its answer. So do not put a tuple again whose `out` was interrupted, if
-      `pending` is "out" or `settled` has it: it is there, or will be by the next call. If neither is so `last_reply` says what became of it: the
+      `pending` is "out" or `settled` has it: it is there, or will be by the next call. If neither holds, `last_reply` says what became of it: the
       interrupt may have come when the call had just ended.
     - `take_many` and `purge` are pending if something was taken, or may have been: `again` returns what.
 
@@ -80,7 +80,7 @@ class Space:
     call waits, what is held is renewed.
 
     **Threads and processes.** A space is for one call at a time, and not for signal handlers: a call while another thread is in one raises Busy (`Pool` is for
-    several threads). `renew` and `release` of an offer, and `close`, may be called by any thread at any time. A process that was forked has to make spaces of
+    several threads). `renew` and `release` of an offer, and `close`, may be called by any thread at any time. A process that was forked must make spaces of
     its own: each call of an inherited one raises Forked.
     """
 
@@ -104,7 +104,7 @@ class Space:
         range.
 
         Raises NoConnection if nobody listens at a port or path, or this user may not connect, or no Hello is answered in `patience` seconds, Refused if a server
-        refuses (Busy: another connection has this number; Known, TooManyClients, Version), NoNumber if none of several numbers is to be had, or the file of numbers
+        refuses (Busy: another connection has this number; Known, TooManyClients, Version), NoNumber if none of several numbers is free, or the file of numbers
         cannot be read or written. A server may need some milliseconds to see that an earlier connection ended: Busy is tried again for two seconds, or `patience`
         if that is less, but not with `fresh`; several numbers are gone through again for as long. After an error nothing is connected.
         """
@@ -247,7 +247,7 @@ class Space:
 
     def out(self, tag: Value, *fields: Value, timeout: Optional[float] = None) -> Tuple[int, int]:
         """Puts a tuple, and returns its server and its id there, once it is stored for good. The j-th call of this space, from 0, goes to server (c + j) mod S,
-        where c is the client's number and S the count of servers; the others need not be there.
+        in which c is the client's number and S the count of servers; the others need not be there.
 
         Raises OutOfRange, Busy, Spent, Gone: nothing was sent. Refused with Full, TooManyClients, Gap, Old or Left: it was not put, and nothing is pending (Gap and
         Old say that another program used this client's number; with Old it may have been put before that; Left that an earlier life of this client left).
@@ -259,12 +259,12 @@ class Space:
         return ended.server, ended.id
 
     def out_many(self, tuples: Iterable[Sequence[Value]], timeout: Optional[float] = None) -> List[Optional[Tuple[int, Optional[int]]]]:
-        """Puts these tuples, each a tag and its fields, in order and as `out` would, but up to 64 are under way to a server at once: so many clients' worth of
-        puts share each sync of its disk. Returns for each its server and its id there; the id is None if the tuple was put and the answer to that was lost with
-        a connection.
+        """Puts these tuples, each a tag and its fields, in order and as `out` would, but up to 64 are under way to a server at once: so they share
+        syncs of its disk, as the puts of many clients do. Returns for each its server and its id there; the id is None if the tuple was put and the answer to
+        that was lost with a connection.
 
-        Raises as `out` does. Refused: `stored` of it has for each tuple where it was put, or None if it was not; nothing is pending. NoConnection, TimedOut, and all others: `pending` is
-        "out_many", and `again` goes on and returns as this call would have.
+        Raises as `out` does. Refused: `stored` of it has for each tuple its place, or None if it was not put; nothing is pending. NoConnection, TimedOut, and
+        all others: `pending` is "out_many", and `again` goes on and returns as this call would have.
         """
         many = [as_tuple(values) for values in tuples]
         if not many:
@@ -363,7 +363,7 @@ class Space:
                     work_on(offer.tuple)            # other calls of the space may be made here
                     offer.accept()                  # takes it; or raises Gone
 
-        None if none was there in `timeout` seconds, as `take` does. With `keep` a thread of this module renews the hold every so many seconds, until it is
+        None if none was there in `timeout` seconds, as `take` does. With `keep` a thread of this module renews the hold every `keep` seconds, until it is
         accepted, released or lost: for work that is longer than the server's lease (`linda serve --lease S`). At the end of the block what was not accepted is
         free again. What is held is lost with its connection, as by the end of this program, or of the server: then another client may have it, and Gone is raised
         once, by the next call or by the end of the block. Each hold counts to the 64 that a client may ask for at once.
@@ -379,7 +379,7 @@ class Space:
         return working.work(self, working.Plan(template, tries, delay, dead, stop, keep, timeout), function)
 
     def after(self, seconds: float) -> Alarm:
-        """An alarm that is ready so many seconds from now, rounded up to milliseconds. Raises OutOfRange if that is below 0, no number, or too late."""
+        """An alarm that is ready `seconds` seconds from now, rounded up to milliseconds. Raises OutOfRange if that is below 0, no number, or too late."""
         return Alarm(self.clock() + math.ceil(as_seconds("a time", seconds) * 1000))
 
     def clock(self) -> int:
@@ -772,7 +772,7 @@ class Space:
         yield wake
 
     def _renew_all(self, now: float) -> float:
-        """Renews what is held at servers to which nothing went for a while; when that has to be looked at again."""
+        """Renews what is held at servers to which nothing was sent for a while; returns the time at which to look again."""
         holders = {server for server, _ in self._machine.held}
         quiet = [server for server in sorted(holders) if self._links[server].said + RENEWAL <= now]
         if quiet:
@@ -792,7 +792,8 @@ class Space:
                 self._read(link)
 
     def _latest(self, task: Syncing, now: float) -> float:
-        """When a synchronization has to end one of whose alarms is ready: it waits for an answer only. If the call's own time is up and a server is away, that
+        """The time at which a synchronization must end of which an alarm is ready: it waits only for an answer. If the call's own time is up and a server is
+        away, that
         is now."""
         base = task.ringing(self._machine.clock)
         if base is None:

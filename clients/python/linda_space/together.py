@@ -30,7 +30,7 @@ class ManyStored:
 
 @dataclass(frozen=True)
 class ManyTaken:
-    """What was taken together, and how many they were; `is_counted`: only these count, the tuples were not kept."""
+    """What was taken together, and how many tuples; `is_counted`: only their count is wanted, the tuples were not kept."""
 
     tuples: List[Values]
     count: int
@@ -40,7 +40,7 @@ class ManyTaken:
 class Outs:
     """Outs that are under way together.
 
-    - `places`: for each tuple where it was put, as far as is known.
+    - `places`: for each tuple its place, as far as is known.
     - `waiting`: by server the places in `tuples` that are not sent yet, `going`: those that are not answered, with their numbers.
     - `owed`: how many refusals a server still sends for what went to it after a message that it refused.
     - `fault`: the first refusal. Nothing more is sent then.
@@ -76,7 +76,7 @@ class Outs:
             machine.sent.append((server, spell_out(number, self.tuples[place])))
 
     def welcomed(self, machine: Machine, server: int, last: int) -> None:
-        """What was done is known to be done; the last one of it is sent again for its reply, and the rest to be done."""
+        """Records what was done; the last message of it is sent again for its reply, and the rest to be done."""
         self.owed[server] = 0
         going = self.going[server]
         while going and going[0][0] < last:
@@ -114,7 +114,7 @@ class Outs:
         self.owed[server] = 0
 
     def end(self, machine: Machine) -> None:
-        """It has ended once nothing is under way any more."""
+        """Ends the call once nothing is under way any more."""
         if any(map(self.needs, range(machine.servers))):
             return
         machine.task = None
@@ -180,7 +180,7 @@ class Takes:
         return True
 
     def offered(self, machine: Machine, arrival: Arrival) -> bool:
-        """Accepts an offer that was asked for; whether it was."""
+        """Accepts an offer if it was asked for; returns whether it was."""
         if arrival.server != self.server or arrival.ticket not in self.tickets or not self.event.fits(arrival.tuple):
             return False
         number = machine.numbers[self.server] + len(self.going)
@@ -231,7 +231,7 @@ class Takes:
             self.is_round = False
 
     def welcomed(self, machine: Machine, server: int, last: int) -> None:
-        """What was done was taken; what was not is free again, and is asked for anew."""
+        """The tuples of Accepts that were done were taken; the others are free again, and are asked for anew."""
         if server != self.server:
             return
         while self.going:

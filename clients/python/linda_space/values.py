@@ -82,7 +82,7 @@ PACKED: Tuple[Formal, ...] = (TEXT,) * PACKED_FIELDS
 
 
 def pack(value: Any, fields: int = PACKED_FIELDS) -> Tuple[str, ...]:
-    """A JSON value as so many texts, 30 if nothing else is said; those that are not needed are empty. So a template has as many places:
+    """A JSON value as `fields` texts, 30 if nothing else is said; those that are not needed are empty. So a template has as many places:
 
         space.out("doc", 7, *pack(value))
         unpack(space.take("doc", 7, *PACKED)[2:])
@@ -117,7 +117,7 @@ def pack(value: Any, fields: int = PACKED_FIELDS) -> Tuple[str, ...]:
 
 
 def unpack(fields: Iterable[Value]) -> Any:
-    """The JSON value that `pack` made these fields of. A tuple comes back as a list, and a key of a dict as a str, as `json` has it. Raises OutOfRange if
+    """The JSON value that `pack` made these fields of. A tuple comes back as a list, and a key of a dict as a str, as with `json`. Raises OutOfRange if
     they are no texts, or make no JSON value together."""
     try:
         return json.loads("".join(fields))      # type: ignore[arg-type]

@@ -133,7 +133,7 @@ class Stopped(Exception):
     """The end was asked for while a server was away."""
 
 
-Steps = Generator[Callable[[], Any], Any, Any]      # it yields what is to be done next, is sent what that returned, and returns how it ended
+Steps = Generator[Callable[[], Any], Any, Any]      # it yields what must be done next, is sent what that returned, and returns how it ended
 
 
 def play(steps: Steps) -> Any:

@@ -4,7 +4,7 @@
  */
 export function plain(integer: bigint): number | bigint;
 /**
- * A value as a text of so many characters at most, whatever it is.
+ * Any value as a text of `most` characters at most.
  * @param {unknown} value @param {number} [most] @returns {string}
  */
 export function shown(value: unknown, most?: number | undefined): string;

@@ -5,7 +5,7 @@
 export function connectTo(port: number | string): any;
 /**
  * A port from 1 to 65,535, as a number or as in 'localhost:7000' or '127.0.0.1:7000', or the path of a unix socket: a
- * text with a slash in it. Throws OutOfRange if it is none.
+ * text with a slash in it. Throws OutOfRange for anything else.
  * @param {unknown} port @returns {number | string}
  */
 export function checkedPort(port: unknown): number | string;
@@ -16,7 +16,7 @@ export const LONGEST_PAUSE: 50;
  *
  * - `isOver`: the stream has ended or failed. It is heard to its end before it counts as lost.
  * - `fresh`: how it is greeted next; `isNew`: whether the number was said to be one that was never used.
- * - `due`: when it is to be made, if there is none; `pause`: how long after that the next time is.
+ * - `due`: when it will be made, if there is none; `pause`: how long after that it is tried again.
  * - `until`: when it has been away for too long; `busyUntil`: when Busy has been answered for too long, once it was.
  * - `lastSent`: the highest number that was handed to a stream that was up. No higher one can have been done.
  */

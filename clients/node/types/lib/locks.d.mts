@@ -1,15 +1,15 @@
 /**
- * What the locks of the numbers of a file are named after: its real path. The file and its folder may not be there yet.
+ * The name for the locks of the numbers of a file, by its real path. The file and its folder may not be there yet.
  * @param {string} file
  */
 export function keyOfFile(file: string): any;
 /**
- * What the locks of given numbers are named after: the servers, in any order.
+ * The name for the locks of given numbers, by the servers in any order.
  * @param {readonly (number | string)[]} ports
  */
 export function keyOfPorts(ports: readonly (number | string)[]): any;
 /**
- * A lock of that number, null if there can be none, or 'held' if another space has it, of this program or of another one.
+ * A lock of that number, null if this system has no such sockets, or 'held' if another space has it, of this program or of another one.
  * @param {string} key @param {number} number @returns {Promise<Lock | 'held' | null>}
  */
 export function lockOf(key: string, number: number): Promise<Lock | 'held' | null>;

@@ -18,8 +18,8 @@
  * as what their train has, or as the Refused that ended them.
  * @typedef {Stored | Kept | Outcome | Offer | Gone | Refused | Taken | Many | 'left' | 'passed'} Ended
  *
- * `hasLimit`: the last base is the alarm of the call's own time. `isPoll`, `isHold`: see Sync. `isOwn`: the loss of
- * what is held so is seen by who holds it, and no call says so.
+ * `hasLimit`: the last base is the alarm of the call's own time. `isPoll`, `isHold`: see Sync. `isOwn`: the caller
+ * that holds the tuple sees its loss itself, and no call reports it.
  * @typedef {{ hasLimit?: boolean, isPoll?: boolean, isHold?: boolean, isOwn?: boolean }} Ways
  *
  * @typedef {import('./values.mjs').Value} Value
@@ -84,13 +84,13 @@ export class Sync {
     outcome(base: Base, kind: Outcome['kind'], got?: Outcome | Arrival | null | undefined): Outcome;
 }
 /**
- * The client: its clock, its next numbers, and what is pending. What a call leads to is appended to `sent`, as pairs of
- * a server and a frame; if what was pending has ended, `ended` is how.
+ * The client: its clock, its next numbers, and what is pending. What a call sends is appended to `sent`, as pairs of
+ * a server and a frame; if what was pending has ended, `ended` says how.
  *
  * - `isUp`, `probes`: for each server whether it is greeted, and how many answers to messages with number 0 it owes.
  * - `kept`: for each server what answered the last numbered message of this life there, null if there was none.
- * - `held`: the offers that are held, by server and ticket. `own` are those whose loss no call says.
- * - `untold`: the offers that were lost, and no call has said so.
+ * - `held`: the offers that are held, by server and ticket. `own` are those whose loss no call reports.
+ * - `untold`: the offers that were lost, and no call has reported it.
  * - `inHand`: what was taken for calls that ended by an error before.
  * - `dropped`: the nack numbers of a synchronization that ended by an error, until the next one.
  */
@@ -139,7 +139,7 @@ export class Machine {
      */
     out(tuple: import("./values.mjs").Tuple): void;
     /**
-     * The server of the out that comes after so many others.
+     * The server of the out that comes after `others` further ones.
      * @param {number} others
      */
     serverOf(others: number): number;
@@ -149,30 +149,30 @@ export class Machine {
      */
     outMany(tuples: readonly import("./values.mjs").Tuple[]): void;
     /**
-     * Takes what matches and is there now, so many at most; what is in hand first, if it is to be kept.
+     * Takes what matches and is there now, `count` at most; what is in hand comes first, if the tuples are kept.
      * @param {'takeMany' | 'purge'} kind @param {Template} template @param {number} count @returns {TakeTrain}
      */
     takeMany(kind: 'takeMany' | 'purge', template: import("./values.mjs").Template, count: number): TakeTrain;
     /**
-     * Asks for the kept reply to the last number, if there is one. What is sent under it does not matter.
+     * Asks for the kept reply to the last number, if there is one. The message that is sent under that number does not matter.
      * @param {number} server
      */
     lastReply(server: number): void;
     /** Gives the number up at all servers. */
     leave(): void;
     /**
-     * Accepts an offer that is held, or goes on with that.
+     * Accepts an offer that is held, or goes on with its Accept.
      * @param {Offer} offer
      */
     takeHeld(offer: Offer): void;
     /**
-     * Sends what changes nothing: an Accept of nothing, whose reply is kept.
+     * Sends a message that changes nothing: an Accept of nothing, whose reply is kept.
      * @param {number} server
      */
     pass(server: number): void;
     /** @param {Offer} offer */
     renew(offer: Offer): void;
-    /** Sends each server that holds something what changes nothing. */
+    /** Sends a message that changes nothing to each server that holds something. */
     renewAll(): void;
     /**
      * A Cancel of a ticket that is never open.
@@ -180,17 +180,17 @@ export class Machine {
      */
     renewAt(server: number): void;
     /**
-     * Gives what is held free again, if it is held and no Accept of it is unanswered. If it was lost no call says so.
+     * Gives what is held free again, if it is held and no Accept of it is unanswered. If it was lost no call reports that.
      * @param {Offer} offer
      */
     release(offer: Offer): void;
     /**
-     * Gone of these offers, which no other call says.
+     * The Gone of these offers, whose loss no other call reports.
      * @param {readonly Offer[]} offers
      */
     told(offers: readonly Offer[]): Gone;
     /**
-     * What a server held is not held any more.
+     * The tuples that a server held are not held any more.
      * @param {number} server
      */
     loseHolds(server: number): void;
@@ -207,12 +207,12 @@ export class Machine {
      */
     begin(task: Task): void;
     /**
-     * The next number at that server, if there are so many.
+     * The next number at that server, if `count` numbers are left.
      * @param {number} server @param {number} [count]
      */
     nextNumber(server: number, count?: number | undefined): bigint;
     /**
-     * The next tickets, so many.
+     * The next `count` tickets.
      * @param {number} count
      */
     newTickets(count: number): bigint[];
@@ -232,7 +232,7 @@ export class Machine {
      */
     giveUp(): void;
     /**
-     * Keeps how something ended whose call is over.
+     * Keeps how a task ended whose call is over.
      * @param {Ended} ended
      */
     file(ended: Ended): void;
@@ -247,7 +247,7 @@ export class Machine {
      */
     unanswered(): [number, Uint8Array][];
     /**
-     * How many numbered messages to that server are not answered, beside those of numbers that were answered.
+     * How many numbered messages to that server are not answered; a request for a kept reply does not count.
      * @param {number} server
      */
     unansweredAt(server: number): number;
@@ -264,7 +264,7 @@ export class Machine {
      */
     lost(server: number): void;
     /**
-     * That server is greeted, and says which number was its last.
+     * That server has welcomed the client, with this last number.
      * @param {number} server @param {bigint} last
      */
     reconnected(server: number, last: bigint): void;
@@ -289,7 +289,7 @@ export class Machine {
      */
     receive(server: number, reply: Reply): void;
     /**
-     * Whether it says that what is unanswered at that server was not done, nor what was sent there after it.
+     * Whether the reply says that what is unanswered at that server was not done, nor what was sent there after it.
      * @param {number} server @param {Reply} reply
      */
     isJudged(server: number, reply: Reply): boolean;
@@ -309,7 +309,7 @@ export class Machine {
      */
     left(server: number, task: Leaving, isNew: boolean): void;
     /**
-     * A Refused ends the call. It changes nothing but this: a numbered message that was judged and not done is not
+     * A Refused ends the call. It changes only this: a numbered message that was judged and not done is not
      * pending any more, and its number is still the next one.
      * @param {number} server @param {number} code @param {bigint} detail
      */
@@ -320,7 +320,7 @@ export class Machine {
      */
     arrive(arrival: Arrival): void;
     /**
-     * An offer is accepted, or held as it is; a copy is what its base gets.
+     * An offer is accepted, or held as it is; a copy ends the synchronization by its base.
      * @param {Sync} sync @param {Base} base @param {Arrival} arrival
      */
     takeUp(sync: Sync, base: Base, arrival: Arrival): void;
@@ -338,7 +338,7 @@ export class Machine {
     /** @param {Single} task @param {Ended} ended */
     end(task: Single, ended: Ended): void;
     /**
-     * Nothing was taken for a synchronization that ended by an error.
+     * Ends a synchronization that ended by an error, and for which nothing was taken.
      * @param {Sync} sync
      */
     endDropped(sync: Sync): void;
@@ -442,8 +442,8 @@ export type Accepted = {
     tuple: readonly import("./values.mjs").Value[];
 };
 /**
- * `hasLimit`: the last base is the alarm of the call's own time. `isPoll`, `isHold`: see Sync. `isOwn`: the loss of
- * what is held so is seen by who holds it, and no call says so.
+ * `hasLimit`: the last base is the alarm of the call's own time. `isPoll`, `isHold`: see Sync. `isOwn`: the caller
+ * that holds the tuple sees its loss itself, and no call reports it.
  */
 export type Ended = Stored | Kept | Outcome | Offer | Gone | Refused | Taken | Many | 'left' | 'passed';
 /**

@@ -1,5 +1,5 @@
 /**
- * A JSON value as so many texts, 30 if nothing else is said; those that are not needed are empty. So a template has as
+ * A JSON value as `fields` texts, 30 if nothing else is said; those that are not needed are empty. So a template has as
  * many places:
  *
  *     await space.out(['doc', 7, ...pack(value)]);

@@ -14,7 +14,7 @@ export let connectedBut: (ports: readonly (number | string)[], options: ConnectO
  *
  * **Time.** A call waits for as long as its `timeout` says, without end if there is none; then TimedOut says which
  * servers did not answer. A server that cannot be greeted for `patience` throws NoConnection earlier than that, if the
- * call needs it. `patience` also bounds what has to come at once: the answer to a Hello, and what is still to be known
+ * call needs it. `patience` also bounds what must come at once: the answer to a Hello, and what is still to be known
  * when the time of a `take`, `read`, `choose` or `hold` is up. So a call ends `patience` after its `timeout` at the
  * latest. A `signal` ends a call at any time with Aborted.
  *
@@ -70,7 +70,7 @@ export class Space {
      *
      * Throws NoConnection if nobody listens at a port or path, or this user may not connect, or no Hello is answered in
      * `patience`, Refused if a server refuses (Busy: another connection has this number; Known, TooManyClients,
-     * Version), NoNumber if none of several numbers is to be had, or the file cannot be read or written. A server may
+     * Version), NoNumber if none of several numbers is free, or the file cannot be read or written. A server may
      * need some milliseconds to see that an earlier connection ended: Busy is tried again for two seconds, or
      * `patience` if that is less, but not with `fresh`, nor with several numbers, of which the next one is tried. After
      * an error nothing is connected.
@@ -94,7 +94,7 @@ export class Space {
     get client(): number;
     /**
      * Puts a tuple, and returns its server and its id there, once it is stored for good. The j-th call of this space,
-     * from 0, goes to server (c + j) mod S, where c is the client's number and S the count of servers; the others need
+     * from 0, goes to server (c + j) mod S, in which c is the client's number and S the count of servers; the others need
      * not be there.
      *
      * Throws OutOfRange, Busy, Spent: nothing was sent. Refused with Full, TooManyClients, Gap, Old or Left: it was not
@@ -106,8 +106,8 @@ export class Space {
      */
     out<T extends import("./values.mjs").Values, L extends import("./values.mjs").Limits = {}>(tuple: T & import("./values.mjs").Whole<T>, limits?: Only<L, import("./values.mjs").Limits> | undefined): Promise<Stored>;
     /**
-     * Puts these tuples, in order, each as `out` does, up to 64 of them under way at once. It returns where each of
-     * them is, once all are stored for good: `id` is null if one was stored and the answer was lost with a connection.
+     * Puts these tuples, in order, each as `out` does, up to 64 of them under way at once. It returns the place of each of
+     * them, once all are stored for good: `id` is null if one was stored and the answer was lost with a connection.
      *
      * Throws as `out` does. If a server refuses one, the answers to those under way are waited for, nothing more is
      * sent, and the Refused has `stored`: the same list, null in the place of what was not put. NoConnection, TimedOut,
@@ -214,7 +214,7 @@ export class Space {
      * lease: then another client may have it, and the next call throws Gone (see the class). Each hold counts to the 64
      * that a client may ask for at once.
      *
-     * `keep`: the library says every so many milliseconds that this client is at work, until the offer is accepted,
+     * `keep`: the library says every `keep` milliseconds that this client is at work, until the offer is accepted,
      * released or lost. Work that does not let other events run meanwhile does not let that run.
      *
      * Throws as `choose` does.
@@ -229,7 +229,7 @@ export class Space {
      *
      *     await space.holding(['lock'], {}, async (offer) => {
      *         await workOn(..);                   // other calls of the space may be made here
-     *         await offer.accept();               // if it is to be taken
+     *         await offer.accept();               // takes it; else it is free again
      *     });
      *
      * Throws what the function throws; Gone if the hold was lost, no call has said so, and the function threw nothing;
@@ -250,7 +250,7 @@ export class Space {
      *   tuple, or an array of tuples; anything else is a TypeError, which ends the work. A tuple with a value that is out
      *   of range is an error of the function. If the hold was lost meanwhile its result is not put, for another worker has
      *   the job.
-     * - `tries`: the last field of a job is how often it failed, 0 at first, and the last pattern has to be INT. A job
+     * - `tries`: the last field of a job is how often it failed, 0 at first, and the last pattern must be INT. A job
      *   whose function throws stays held for `delay` * 2 ** failed milliseconds (1,000 if nothing else is said), while
      *   other jobs are done, and is then put again with that count + 1. If that is `tries`, it is put at once as
      *   `[dead, ...fields but the last, failed + 1, 'Error: text']` instead; `dead` is 'dead' if nothing else is said.
@@ -262,7 +262,7 @@ export class Space {
      *   try.
      * - `keep`: milliseconds between two signs that this client is at work, 500 if nothing else is said.
      * - `onerror`: is called with each error after which the work goes on. A server that is away, that has another
-     *   connection under this number still (Busy), or has no room, is tried again; once the work has to end, it throws
+     *   connection under this number still (Busy), or has no room, is tried again; once the work must end, it throws
      *   NoConnection, TimedOut or Refused if something is not known then.
      *
      * It makes calls of the space, and waits in them: what else waits for long needs a space of its own.
@@ -272,7 +272,7 @@ export class Space {
      */
     work<T_10 extends import("./values.mjs").Patterns>(template: import("./events.mjs").SpaceEvent | import("./events.mjs").SpaceEvent[] | (T_10 & import("./values.mjs").Whole<T_10>), work: (job: any) => unknown, options?: import("./work.mjs").WorkOptions | undefined): Promise<number>;
     /**
-     * An alarm that is ready so many milliseconds from now. Throws OutOfRange if that is below 0, or no number.
+     * An alarm that is ready `time` milliseconds from now. Throws OutOfRange if that is below 0, or no number.
      * @param {number} time
      */
     after(time: number): import("./events.mjs").SpaceEvent;
@@ -345,7 +345,7 @@ export type Put = import('./trains.mjs').Put;
  */
 export type WorkOptions = import('./work.mjs').WorkOptions;
 /**
- * `keep`: the library says every so many milliseconds that this client is at work.
+ * `keep`: the milliseconds after which the library says, again and again, that this client is at work.
  */
 export type ConnectOptions = {
     client?: number | readonly number[] | undefined;

@@ -6,7 +6,7 @@
  * @typedef {import('./values.mjs').Tuple} Tuple
  * @typedef {import('./values.mjs').Template} Template
  *
- * Where a tuple was put: `id` is null if it was put, and the answer was lost with a connection.
+ * The place of a tuple that was put: `id` is null if it was put, and the answer was lost with a connection.
  * @typedef {{ server: number, id: number | bigint | null }} Put
  */
 /** Several outs or takes have ended. */
@@ -46,12 +46,12 @@ export class OutTrain {
     /** Sends what there is room for; ends if nothing is left. */
     goOn(): void;
     /**
-     * The first one under way at that server has this answer.
+     * The first message under way at that server has this answer.
      * @param {number} server @param {Reply} reply
      */
     answered(server: number, reply: Reply): void;
     /**
-     * The first one under way at that server was not done.
+     * The first message under way at that server was not done.
      * @param {number} server @param {Refused} fault
      */
     refused(server: number, fault: Refused): void;
@@ -60,7 +60,7 @@ export class OutTrain {
     lost(): void;
     probed(): void;
     /**
-     * Those before `last` were done, and no server keeps their replies. That with `last` is sent again for its reply,
+     * The messages before `last` were done, and no server keeps their replies. That with `last` is sent again for its reply,
      * and what is after it because it was not done: but not after one that was refused.
      * @param {number} server @param {bigint} last
      */
@@ -68,13 +68,13 @@ export class OutTrain {
     #private;
 }
 /**
- * Takes that are pending, at one server after another. It is asked for as many tuples as may be open, and then for what
+ * Takes that are pending, at one server after another. Each is asked for as many tuples as may be open, and then for what
  * is always answered: what was not offered until then is not there, and is cancelled. What is offered is accepted at
  * once. An Accept over the connection of its Offer is always answered by Taken.
  *
  * - `tickets`: those that are asked under, and were not offered anything. `isAsking`: the answer after them is due.
  * - `isEmpty`: the server has no more. `got`, `taken`: how many were taken, and which, if they are kept.
- * - `told`: how many of `taken` an error has said. `isDropped`: it ended by an error, and only answers are waited for.
+ * - `told`: how many of `taken` an error has reported. `isDropped`: it ended by an error, and only answers are waited for.
  */
 export class TakeTrain {
     /** @param {Machine} machine @param {'takeMany' | 'purge'} kind @param {Template} template @param {number} count */
@@ -111,22 +111,22 @@ export class TakeTrain {
     /** Asks the server, or the next one, if all that it was asked for is answered; ends if nothing is left. */
     goOn(): void;
     /**
-     * Whether it is for this what arrived: an offer is accepted.
+     * Whether what arrived is for these takes: an offer is accepted.
      * @param {Arrival} arrival
      */
     arrived({ server, ticket, id, tuple, isOffer }: Arrival): boolean;
     /**
-     * What the server has not offered until now is not there.
+     * All asks were answered: what the server has not offered until now is not there.
      * @param {number} server
      */
     probed(server: number): void;
     /**
-     * The first one under way at that server has this answer.
+     * The first Accept under way at that server has this answer.
      * @param {number} server @param {Reply} reply
      */
     answered(server: number, reply: Reply): void;
     /**
-     * The first one under way at that server was not done, and is held no more.
+     * The first Accept under way at that server was not done, and its tuple is held no more.
      * @param {number} server @param {Refused} fault
      */
     refused(server: number, fault: Refused): void;
@@ -135,12 +135,12 @@ export class TakeTrain {
     /** @param {number} server */
     lost(server: number): void;
     /**
-     * Those up to `last` were taken, and no others.
+     * The tuples of the Accepts up to `last` were taken, and no others.
      * @param {number} server @param {bigint} last
      */
     reconnected(server: number, last: bigint): void;
     /**
-     * What was taken, and no error has said, as takes.
+     * What was taken and no error has reported, as the outcomes of takes.
      * @returns {Outcome[]}
      */
     outcomes(): Outcome[];
@@ -152,7 +152,7 @@ export type Refused = import('./errors.mjs').Refused;
 export type Reply = import('./frames.mjs').Reply;
 export type Tuple = import('./values.mjs').Tuple;
 /**
- * Where a tuple was put: `id` is null if it was put, and the answer was lost with a connection.
+ * The place of a tuple that was put: `id` is null if it was put, and the answer was lost with a connection.
  */
 export type Template = import('./values.mjs').Template;
 export type Put = {

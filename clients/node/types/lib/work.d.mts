@@ -7,7 +7,7 @@ export function worked(space: import('./space.mjs').Space, template: unknown, wo
 export type Value = import('./values.mjs').Value;
 export type Tuple = import('./values.mjs').Tuple;
 /**
- * A job that waits for its next try: when that is, and what is put then.
+ * A job that waits for its next try: the time of that, and what is put then.
  */
 export type WorkOptions = {
     tries?: number | null | undefined;
