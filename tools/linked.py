@@ -14,7 +14,7 @@ MARK = "†"
 NAMED = re.compile(r'`([\w/]+\.md)`, "([^"]+)"')
 FOLDERS = ("docs", "tools", "examples", "crates", "bench", "clients", "audit", "packaging", "src", "specs", "proofs", ".ci")
 CRATES = tuple(path.name for path in (Path(__file__).resolve().parent.parent / "crates").iterdir())
-PATH = re.compile(rf"(?:{'|'.join(map(re.escape, (*FOLDERS, *CRATES)))})/[\w./*-]*|[A-Z]+\.md")
+PATH = re.compile(rf"(?:{'|'.join(map(re.escape, (*FOLDERS, *CRATES)))})/[\w./*-]*|[A-Z]+\.md|\./test_\w+(?:\.\w+)?|test_\w+\.(?:py|mjs)")
 ENDINGS = ("", ".rt", ".antt")
 
 
@@ -40,8 +40,8 @@ def is_there(name: str, page: Path, top: Path) -> bool:
 
 
 def lacks(span: str, page: Path, top: Path) -> str | None:
-    """The path that these words between back quotes begin with, if there is no such file."""
-    path = span.split(" ")[0]
+    """The path that these words between back quotes begin with, after values of the environment, if there is no such file."""
+    path = next((word for word in span.split(" ") if not re.fullmatch(r"[A-Z]+=\S+", word)), "")
     return path if PATH.fullmatch(path) and ".." not in path and not is_there(path, page, top) else None
 
 

@@ -133,7 +133,11 @@ def synopsis_of(form: Form) -> list[str]:
     while at < len(form.words):
         word = form.words[at]
         if word.startswith("--"):
-            shown.append(f".BI {escaped(word)}\\~ {form.words[at + 1].replace('<', '').replace('>', '')}")
+            value = form.words[at + 1].replace("<", "").replace(">", "")
+            one = value.removesuffix("...")
+            shown.append(f".BI {escaped(word)}\\~ {one}")
+            # (the program takes one value after each option, so it is the option that may come again)
+            shown += [f".RB [ {escaped(word)}\\~\\fI{one}\\fP ]..."] if one != value else []
             at += 1
         else:
             shown.append(f".IR {word.replace('<', '').replace('>', '')}")
@@ -190,6 +194,7 @@ def misspelled(program: Path, forms: list[Form]) -> list[str]:
             see([*words, "--threads"], False)
         if form.command == "call":
             see([*words, *("--socket s".split() if "--socket" not in form.words else ["7000"])], False)
+            see([*words, *("7001" if "--socket" not in form.words else "--socket s").split()], True)
         for at, word in enumerate(form.words):
             if word.startswith("--"):
                 see([form.command, *(it for place, it in enumerate(played_words(form)) if place not in (at, at + 1))], False)
