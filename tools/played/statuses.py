@@ -141,11 +141,12 @@ def explained_faults(folder):
         return done.returncode, done.stderr
 
     anything = "a text in double quotes, a number, true or false"
+    events = "in or rd, alarm, always, choose, wrap or nack, never"
     for line, byte, words in (
             ("out ('job', 1)", 6, f"expected {anything}, found \"'\""),
             ('out("job" 1)', 11, 'expected ")", ",", found "1"'),
             ('take ("job", ?i)', 1, 'expected out, sync, abandon or leave, found "take"'),
-            ('out ("job", 1.5)', 14, 'expected ")", ",", a number, found "."'),
+            ('out ("job", 1.5)', 14, 'expected ")", ",", found "."'),
             ('out ("job", 99999999999999999999)', 5, "an integer of more than 64 bits"),
             ('sync in ("job", ?x)', 18, 'expected i, s or b, found "x"'),
             ('out ("job", ?i)', 13, f'expected {anything}, found "?"'),
@@ -158,11 +159,44 @@ def explained_faults(folder):
             ('out ("job", tru', 13, f'expected {anything}, found "tru"'),
             ("sync chose [alarm 1]", 6, 'expected in or rd, alarm, always, choose, wrap or nack, never, found "chose"'),
             ('out ("caf\udce9", 1)', 10, "expected UTF-8, found byte 233"),
+            ("sync alarm", 11, "expected a number, found the end of the line"),
+            ("sync wrap", 10, "expected a number, found the end of the line"),
+            ("sync always", 12, "expected a text in double quotes, a number, true or false, found the end of the line"),
+            ("sync nack 3", 12, f"expected {events}, found the end of the line"),
+            ("sync nack 3x", 12, f'expected {events}, found "x"'),
+            ("sync alarm5", 11, 'expected a blank, found "5"'),
+            ("sync alarms 5", 6, f'expected {events}, found "alarms"'),
+            ("sync never1", 11, 'expected the end of the line, found "1"'),
+            ("sync choose [never", 19, 'expected ",", "]", found the end of the line'),
             ("leave now", 7, 'expected the end of the line, found "now"')):
         fault = "line 3: not a command\n"
         script = f'# a comment\n1 out ("a")\n1 {line}\n'
         equal(said(["run", "--servers", 1], script), (4, fault))
         equal(said(["run", "--servers", 1, "--explain"], script), (4, f"{fault}line 3, byte {byte + 2}: {words}\n"))
+    for line, byte, words in (
+            ("step 3", 1, "expected a client's number, tick, snapshot, stop, repeat or state, found \"step\""),
+            ("4294967296 leave", 1, "a client's number of more than 32 bits"),
+            ("99999999999999999999 leave", 1, "a client's number of more than 32 bits"),
+            ("00 leave", 2, 'expected a blank, found "0"'),
+            ("1leave", 2, 'expected a blank, found "leave"'),
+            ("1 ", 3, "expected out, sync, abandon or leave, found the end of the line"),
+            ("tick", 5, "expected a number, found the end of the line"),
+            ("tick 18446744073709551616", 6, "a number of more than 64 bits"),
+            ("tick 1x", 7, 'expected the end of the line, found "x"'),
+            ("snapshot x", 10, 'expected a number, found "x"'),
+            ("state 0 1", 9, 'expected the end of the line, found "1"'),
+            ("stop", 5, "expected a number, found the end of the line"),
+            ("stop 0 x", 8, 'expected a number or the end of the line, found "x"'),
+            ("stop 0 3", 9, "expected a byte, from 0 to 255, found the end of the line"),
+            ("stop 0 3 256", 10, "a byte above 255"),
+            ("stop 0 3 255 1", 14, 'expected the end of the line, found "1"'),
+            (" repeat x", 9, 'expected the end of the line, found "x"')):
+        equal(said(["run", "--servers", 1, "--explain"], line), (4, f"line 1: not a command\nline 1, byte {byte}: {words}\n"))
+    gone = folder / "gone" / "trace"
+    for path, shown in ((gone, gone), ("", '""')):
+        words = ["run", "--servers", 1, "--trace", path]
+        equal(said(words), (3, "io\n"))
+        equal(said([*words, "--explain"]), (3, f"io\n{shown}: No such file or directory (os error 2)\n"))
     with listened() as port:
         pass
     equal(said(["call", "--client", 7, port]), (3, "server 0: no connection\n"))
@@ -177,5 +211,9 @@ def explained_faults(folder):
     (twins / "right.bank").symlink_to("left.bank")
     for words in (["serve", "--port", 0, "--dir", twins], ["inspect", twins]):
         equal(said([*words, "--explain"]), (3, f"store: disk\n{twins}: left.bank and right.bank are one file\n"))
+    with listened() as port:
+        pass
+    for words, place in ((["--port", port, "--status", port], port), (["--socket", folder / "both", "--status", folder / "both"], folder / "both")):
+        equal(said(["serve", *words, "--dir", folder, "--explain"]), (3, f"io\n{place}: given for clients and for the status\n"))
     with listened() as port:
         equal(said(["serve", "--port", port, "--dir", folder, "--explain"]), (3, f"io\n{port}: Address already in use (os error 98)\n"))

@@ -3,8 +3,10 @@
 ghost use Rattle.std.specs.Prelude.{◌≤◌, ◌+◌, length};
 
 use crate::expected::{push_expected, wrong_from};
+use crate::numbers::{Wrong, skip_client};
 use crate::reading::{Reading, ReadingKind, read};
-use linda_shell_text::{behind_word, number_in};
+use crate::server_command::wrong_part;
+use linda_shell_text::behind_word;
 use linda_text::skip_blanks;
 use std::alloc::{AllocError, Global};
 
@@ -38,10 +40,43 @@ pub fn explain(
     let text = skip_blanks(line);
     match lines {
         LineSource::OfCall => explain_request(alloc, number, line, text, OF_CALL),
-        LineSource::OfScript => match number_in(text) {
-            Some((_, rest)) => explain_request(alloc, number, line, rest, OF_CLIENT),
+        LineSource::OfScript => explain_command(alloc, number, line, text),
+    }
+}
+
+// Explains a command of a script: of a client after its number, or of servers.
+fn explain_command(
+    alloc: Global,
+    number: u64,
+    line: &[u8],
+    text: &[u8],
+) -> Result<String, AllocError> {
+    match text {
+        [first, ..] if first.is_ascii_digit() => match skip_client(text) {
+            Ok(rest) => explain_request(alloc, number, line, rest, OF_CLIENT),
+            Err(wrong) => explain_part(alloc, number, line, wrong),
+        },
+        _ => match wrong_part(text) {
+            Some(wrong) => explain_part(alloc, number, line, wrong),
             None => placed(alloc, number, line, text, OF_SCRIPT),
         },
+    }
+}
+
+// Explains what is wrong with a part of a command.
+fn explain_part(
+    alloc: Global,
+    number: u64,
+    line: &[u8],
+    wrong: Wrong<'_>,
+) -> Result<String, AllocError> {
+    match wrong {
+        Wrong::Expected(rest, wanted) => placed(alloc, number, line, rest, wanted),
+        Wrong::Beyond(rest, what) => {
+            let mut said = begun(alloc, number, line, rest)?;
+            said.push_str(what)?;
+            Ok(said)
+        }
     }
 }
 
@@ -100,7 +135,7 @@ fn explain_text(
             };
             let mut said = begun(alloc, number, line, rest.as_bytes())?;
             said.push_str("expected ")?;
-            push_expected(alloc, &mut said, kind, front)?;
+            push_expected(alloc, &mut said, kind, front, rest)?;
             push_found(alloc, &mut said, rest.as_bytes())?;
             Ok(said)
         }

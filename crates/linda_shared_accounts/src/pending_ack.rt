@@ -37,7 +37,7 @@ impl<A: Drop, L: Ledger> PendingAck<A, L> {
         &self.address
     }
 
-    /// Writes what is reported into the ledger. There is no other way back.
+    /// Writes what is reported into the ledger. A message becomes an `Ack` in no other way.
     pub fn answered(self, accounts: &mut Accounts<L>, told: Effect<SharedReceipt>) -> Ack<A, L>
         requires { accounts.old.total + weight told < 2 ^ 64 }
         ensures accounts { accounts.new ≡ accounts_of (accounts.old.total + weight told)
