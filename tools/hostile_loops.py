@@ -26,7 +26,7 @@ import time
 from pathlib import Path
 from typing import Callable, Iterator
 
-from served import PIECE, PROGRAM, Peer, frames
+from served import PIECE, PROGRAM, Peer, frames, free_port
 
 MIB = 1 << 20
 # The longest tuple: 32 texts of 4,095 bytes.
@@ -555,7 +555,7 @@ def few_files() -> None:
 
 def a_status_without_files(play: Play) -> str:
     """A server that may have no file more answers what is asked of its status."""
-    status = play.port() or 7_999
+    status = play.port() or free_port()
     with play.server("--status", str(status), before=few_files) as server:
         peers = []
         for _ in range(80):

@@ -25,6 +25,20 @@ PIECE = 65_536
 RENEWAL, NO_TICKET = 0.2, 1_000_000
 
 
+# The sockets of `free_port`.
+HELD: list[socket.socket] = []
+
+
+def free_port() -> int:
+    """A port that nobody listens on, and that the system gives to no other process while this one lives: it is bound here, and never listened on. Who is
+    told its number may listen there, as a server does, and once nobody listens any more, connections are refused."""
+    held = socket.socket()
+    held.setsockopt(socket.SOL_SOCKET, socket.SO_REUSEADDR, 1)
+    held.bind(("127.0.0.1", 0))
+    HELD.append(held)
+    return int(held.getsockname()[1])
+
+
 class Server:
     """A server on a folder, which is ready once this is made."""
 

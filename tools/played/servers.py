@@ -8,6 +8,7 @@ import subprocess
 from pathlib import Path
 
 from played.program import PATIENCE, PROGRAM, SOON
+from served import free_port  # noqa: F401
 
 # A snapshot is due after so many records.
 SNAPSHOT_RECORDS = 1_024
@@ -82,13 +83,6 @@ def in_both_ways(check):
                 except (AssertionError, OSError) as fault:
                     raise AssertionError(f"{way}: {fault}") from fault
     return whole
-
-
-def free_port():
-    """A port that nobody listens on now."""
-    with socket.socket() as found:
-        found.bind(("127.0.0.1", 0))
-        return found.getsockname()[1]
 
 
 def is_refused(port, host="127.0.0.1"):
