@@ -86,6 +86,7 @@ def in_both_ways(check):
 
 
 def is_refused(port, host="127.0.0.1"):
+    """Nobody listens there. (If the port is a server's that ended, it is one of `free_port`: any other one may be another process's by now.)"""
     try:
         socket.create_connection((host, port), timeout=SOON).close()
         raise AssertionError(f"{host} takes connections on port {port}")

@@ -172,7 +172,7 @@ def sessions_of_a_server(folder):
     for words in ([], ["--log"]):
         own = folder / f"store{len(words)}"
         own.mkdir()
-        with Server(own, 0, "--sessions", "2", *words) as server:
+        with Server(own, free_port(), "--sessions", "2", *words) as server:
             first, second = Peer(server.port, 1), Peer(server.port, 2)
             first.close()
             equal((words, second.ask(frames.out(1, "a"))), (words, "Stored number 1, id 1"))
