@@ -89,6 +89,30 @@ def use_of(pid: int) -> Use:
                (int(times[11]) + int(times[12])) / os.sysconf("SC_CLK_TCK"))
 
 
+def threads_of(pid: int) -> dict[str, tuple[str, ...]]:
+    """Of each thread of a process its state, and how often it went to sleep; none of a process that has ended."""
+    found = {}
+    for task in Path(f"/proc/{pid}/task").iterdir():
+        try:
+            words = dict(line.split(":", 1) for line in (task / "status").read_text().splitlines() if ":" in line)
+        except (FileNotFoundError, ProcessLookupError):
+            # (it has ended meanwhile)
+            continue
+        found[task.name] = words["State"].split()[0], words["voluntary_ctxt_switches"]
+    return {} if {state for state, _ in found.values()} == {"Z"} else found
+
+
+def rest(pid: int) -> None:
+    """Waits until no thread of a process has anything to do, or it has ended: each is asleep, and none ran between two looks at all of them. So what came to it
+    before that is done, however long it took."""
+    until, before = time.monotonic() + PATIENCE, None
+    while (now := threads_of(pid)) and (now != before or {state for state, _ in now.values()} != {"S"}):
+        if time.monotonic() > until:
+            raise TimeoutError(f"process {pid} is at work for {PATIENCE} s: {now}")
+        before = now
+        time.sleep(0.002)
+
+
 def begin(folder: Path, port: int, program: Path = PROGRAM, words: tuple[str, ...] = ()) -> "subprocess.Popen[str]":
     return subprocess.Popen([program, "serve", "--port", str(port), "--dir", str(folder), *words], stdin=subprocess.DEVNULL,
                             stdout=subprocess.PIPE, stderr=subprocess.PIPE, text=True)
