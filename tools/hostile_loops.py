@@ -338,9 +338,10 @@ def leases_of_a_stopped_server(play: Play) -> str:
             peer = server.peer(10 + turn)
             peer.ask(frames.out(1, "job", turn))
             time.sleep(0.13 * turn)
+            # (its lease begins after this moment)
+            began = time.monotonic()
             if peer.ask(frames.ask(1, True, "job", turn))[0] != "Offer":
                 raise Difference("no offer")
-            began = time.monotonic()
             time.sleep(0.02)
             server.process.send_signal(signal.SIGSTOP)
             time.sleep(1.0 + 0.13 * turn)
