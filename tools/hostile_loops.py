@@ -26,7 +26,7 @@ import time
 from pathlib import Path
 from typing import Callable, Iterator
 
-from served import PIECE, PROGRAM, Peer, frames
+from served import PIECE, PROGRAM, Peer, frames, free_port
 
 MIB = 1 << 20
 # The longest tuple: 32 texts of 4,095 bytes.
@@ -338,9 +338,10 @@ def leases_of_a_stopped_server(play: Play) -> str:
             peer = server.peer(10 + turn)
             peer.ask(frames.out(1, "job", turn))
             time.sleep(0.13 * turn)
+            # (its lease begins after this moment)
+            began = time.monotonic()
             if peer.ask(frames.ask(1, True, "job", turn))[0] != "Offer":
                 raise Difference("no offer")
-            began = time.monotonic()
             time.sleep(0.02)
             server.process.send_signal(signal.SIGSTOP)
             time.sleep(1.0 + 0.13 * turn)
@@ -555,7 +556,7 @@ def few_files() -> None:
 
 def a_status_without_files(play: Play) -> str:
     """A server that may have no file more answers what is asked of its status."""
-    status = play.port() or 7_999
+    status = play.port() or free_port()
     with play.server("--status", str(status), before=few_files) as server:
         peers = []
         for _ in range(80):

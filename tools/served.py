@@ -25,6 +25,20 @@ PIECE = 65_536
 RENEWAL, NO_TICKET = 0.2, 1_000_000
 
 
+# The sockets of `free_port`.
+HELD: list[socket.socket] = []
+
+
+def free_port() -> int:
+    """A port that nobody listens on, and that the system gives to no other process while this one lives: it is bound here, and never listened on. Who is
+    told its number may listen there, as a server does, and once nobody listens any more, connections are refused."""
+    held = socket.socket()
+    held.setsockopt(socket.SOL_SOCKET, socket.SO_REUSEADDR, 1)
+    held.bind(("127.0.0.1", 0))
+    HELD.append(held)
+    return int(held.getsockname()[1])
+
+
 class Server:
     """A server on a folder, which is ready once this is made."""
 
@@ -73,6 +87,30 @@ def use_of(pid: int) -> Use:
     times = Path(f"/proc/{pid}/stat").read_text().rsplit(")", 1)[1].split()
     return Use(int(words["VmRSS"].split()[0]), int(words["VmHWM"].split()[0]), int(words["Threads"]), len(os.listdir(f"/proc/{pid}/fd")),
                (int(times[11]) + int(times[12])) / os.sysconf("SC_CLK_TCK"))
+
+
+def threads_of(pid: int) -> dict[str, tuple[str, ...]]:
+    """Of each thread of a process its state, and how often it went to sleep; none of a process that has ended."""
+    found = {}
+    for task in Path(f"/proc/{pid}/task").iterdir():
+        try:
+            words = dict(line.split(":", 1) for line in (task / "status").read_text().splitlines() if ":" in line)
+        except (FileNotFoundError, ProcessLookupError):
+            # (it has ended meanwhile)
+            continue
+        found[task.name] = words["State"].split()[0], words["voluntary_ctxt_switches"]
+    return {} if {state for state, _ in found.values()} == {"Z"} else found
+
+
+def rest(pid: int) -> None:
+    """Waits until no thread of a process has anything to do, or it has ended: each is asleep, and none ran between two looks at all of them. So what came to it
+    before that is done, however long it took."""
+    until, before = time.monotonic() + PATIENCE, None
+    while (now := threads_of(pid)) and (now != before or {state for state, _ in now.values()} != {"S"}):
+        if time.monotonic() > until:
+            raise TimeoutError(f"process {pid} is at work for {PATIENCE} s: {now}")
+        before = now
+        time.sleep(0.002)
 
 
 def begin(folder: Path, port: int, program: Path = PROGRAM, words: tuple[str, ...] = ()) -> "subprocess.Popen[str]":

@@ -77,6 +77,19 @@ class Server:
         while any(thread.read_text().rsplit(")", 1)[1].split()[0] != "T" for thread in Path(f"/proc/{self.process.pid}/task").glob("*/stat")):
             time.sleep(0.001)
 
+    def rest(self) -> None:
+        """Waits until no thread of it has anything to do: each is asleep, and none ran between two looks at all of them."""
+        until, before = time.monotonic() + PATIENCE, ""
+        while True:
+            lines = "".join(status.read_text() for status in Path(f"/proc/{self.process.pid}/task").glob("*/status")).splitlines()
+            now = "".join(line for line in lines if line.startswith(("State:", "Pid:", "voluntary_ctxt_switches:")))
+            if now == before and now.count("State:") == now.count("S (sleeping)"):
+                return
+            if time.monotonic() > until:
+                raise TimeoutError(f"the server is at work: {now}")
+            before = now
+            time.sleep(0.002)
+
     def go_on(self) -> None:
         self.process.send_signal(signal.SIGCONT)
 
@@ -1423,13 +1436,16 @@ class Waits(WithServers):
                 pass
 
     def test_two_threads(self) -> None:
-        space = self.space(self.serve())
-        taking = Going(lambda: space.take("a", timeout=1))
-        time.sleep(0.3)
+        server = self.serve()
+        space, other = self.space(server), self.space(server, client=8)
+        taking = Going(lambda: space.take("a", timeout=PATIENCE))
+        while space._thread is None:                            # it is not in its call yet
+            time.sleep(0.001)
         with self.assertRaisesRegex(Busy, "another thread"):
             space.out("b")
-        self.assertIsNone(taking.end())
-        self.assertEqual(space.out("b"), (0, 1))
+        other.out("a")
+        self.assertEqual(taking.end(), ("a",))
+        self.assertEqual(space.out("b"), (0, 2))
 
     # ---- an Ask that was sent again
 

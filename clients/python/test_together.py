@@ -502,7 +502,7 @@ class Pools(WithServers):
             began = time.monotonic()
             with self.assertRaises(TimedOut):
                 pool.out("job", 2, timeout=0.1)
-            self.assertLess(time.monotonic() - began, 1.5)
+            self.assertLess(time.monotonic() - began, 8)            # (without a patience of its own a pool waits for ten seconds)
 
     def test_fewer_numbers_than_members(self) -> None:
         server = self.serve()

@@ -157,10 +157,12 @@ def a_bank_begun_anew_meanwhile(folder):
             pass
         return 0
 
-    count, met = 4_000, 0
+    # (on a busy machine it may have read all before it is met)
+    count, met, until = 4_000, 0, time.monotonic() + 2 * PATIENCE
     left, old, new = folder / "left.bank", bank(1, "x"), bank(3, "y")
     (folder / "right.bank").write_bytes(b"\0")
-    for _ in range(20):
+    while met < 3:
+        equal(time.monotonic() < until or ("met while it read", met), True)
         left.write_bytes(old)
         process = subprocess.Popen([BUILT, "inspect", folder], stdout=subprocess.PIPE, stderr=subprocess.PIPE, text=True)
         while process.poll() is None and place_in(process) < 100_000:
@@ -175,6 +177,3 @@ def a_bank_begun_anew_meanwhile(folder):
         if is_between:
             met += 1
             equal(out.splitlines()[0], f"left LND2 generation 3 bytes {len(new)}")
-        if met == 3:
-            return
-    raise AssertionError("it was never met while it read")

@@ -2,7 +2,6 @@
 
 import re
 import signal
-import socket
 import time
 
 import client as frames
@@ -10,7 +9,7 @@ from played.calls import GONE, LEFT, OFFER, REFUSED, STORED, TAKEN, WELCOME, Cal
 from played.inspection import tuples_in
 from played.peers import connection
 from played.program import PATIENCE, equal, run
-from played.servers import Server
+from played.servers import Server, free_port
 
 IN_USE = (3, "", "server 0: number in use\n")
 
@@ -223,8 +222,7 @@ def ports_of_no_server(folder):
             server.stream.sendall(data)
             caller.say('out ("a")')
             at_once(caller)
-    with socket.create_server(("127.0.0.1", 0)) as free:
-        status = free.getsockname()[1]
+    status = free_port()
     with Server(folder, 0, "--status", status):
         at_once(Call(7, status))
 

@@ -13,7 +13,7 @@ import client as frames
 from played.members import Crowd, Member, are_free_soon
 from played.peers import Peer
 from played.program import PATIENCE, SOON, equal
-from played.servers import WAYS, Server, in_both_ways, is_refused, many_files
+from played.servers import WAYS, Server, free_port, in_both_ways, is_refused, many_files
 from served import listing
 
 
@@ -156,7 +156,7 @@ def sessions_of_a_crowd(folder):
     for way, words in WAYS.items():
         own = folder / way
         own.mkdir()
-        with Server(own, 0, "--sessions", "100", *words) as server:
+        with Server(own, free_port(), "--sessions", "100", *words) as server:
             peers = [Peer(server.port, client) for client in range(100)]
             more = [socket.create_connection(("127.0.0.1", server.port), timeout=SOON) for _ in range(5)]
             for one in more:

@@ -7,14 +7,14 @@ import time
 import client as frames
 from played.peers import Peer, has_by_rest, keys_that_are_free
 from played.program import SOON, equal, most
-from played.servers import SNAPSHOT_RECORDS, WAYS, Server, each_way, is_refused
+from played.servers import SNAPSHOT_RECORDS, WAYS, Server, each_way, free_port, is_refused
 
 
 @each_way
 def connections_of_a_failed_device(folder):
     """If the server goes down, what is not answered is refused Down, every connection ends, one that was never greeted too, and no other is accepted: the
     server ends by itself, and one that serves by threads at the next connection."""
-    with Server(folder, before=lambda: most(resource.RLIMIT_FSIZE, 2000)) as server:
+    with Server(folder, free_port(), before=lambda: most(resource.RLIMIT_FSIZE, 2000)) as server:
         with keys_that_are_free(server.port):
             silent, half, waiting = Peer(server.port), Peer(server.port), Peer(server.port, 8)
             half.send(frames.hello(9, True)[:5])

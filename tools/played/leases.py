@@ -1,14 +1,16 @@
 """Checks of leases: clients that hold a tuple and say nothing."""
 
+import contextlib
 import select
 import signal
 import subprocess
 import sys
 import time
+from pathlib import Path
 
 import client as frames
 from played.peers import Peer, again, keys_that_are_free
-from played.program import PATIENCE, TOP, Late, equal, run
+from played.program import PATIENCE, TOP, Late, equal, run, wait_until
 from played.servers import Server, many_files
 
 # The seconds of a server's lease, and those until a connection must have ended.
@@ -17,12 +19,51 @@ LEASE, LATE = 1, 10
 MORE = 3
 
 
-def ends_within(peer, seconds):
-    """Checks that the server ends the connection in so many seconds, and sends nothing before that; returns how long it took."""
-    peer.stream.settimeout(seconds)
-    began = time.monotonic()
+def ends_after(peer, began):
+    """Checks that the server ends the connection within LATE seconds, and sends nothing before that; returns how long after `began` it was, which is before the lease began."""
+    peer.stream.settimeout(LATE)
     peer.end_comes()
     return time.monotonic() - began
+
+
+@contextlib.contextmanager
+def within(lease):
+    """What is done in this block is well if it takes no longer than a lease."""
+    began = time.monotonic()
+    try:
+        yield
+    except (AssertionError, OSError) as fault:
+        if (took := time.monotonic() - began) > 0.9 * lease:
+            raise Late(f"what is to be done within {lease} s took {took:.2f} s ({fault})") from fault
+        raise
+
+
+class Renewing:
+    """A client that says something each 0.1 s, as it is told to. What is done in its block is well if it was never silent for as long as a lease."""
+
+    def __init__(self, peer):
+        self.peer, self.said = peer, [time.monotonic()]
+
+    def renew(self, seconds):
+        for _ in range(round(seconds * 10)):
+            self.said.append(time.monotonic())
+            # (a Cancel of what is not open is answered by nothing, and says that the client is at work)
+            self.peer.send(frames.cancel(99))
+            time.sleep(0.1)
+
+    def renew_until(self, peer):
+        """Until something comes to another peer, or its end."""
+        until = time.monotonic() + PATIENCE
+        while not select.select([peer.stream], [], [], 0)[0] and time.monotonic() < until:
+            self.renew(0.1)
+
+    def __enter__(self):
+        return self
+
+    def __exit__(self, _, fault, __):
+        silence = max(later - earlier for earlier, later in zip(self.said, self.said[1:] + [time.monotonic()]))
+        if isinstance(fault, (AssertionError, OSError)) and silence > 0.8 * LEASE:
+            raise Late(f"the client that says something each 0.1 s was silent for {silence:.2f} s ({fault})") from fault
 
 
 def leases(folder):
@@ -31,22 +72,22 @@ def leases(folder):
         with keys_that_are_free(server.port):
             putter, holder, second, waiting = (Peer(server.port, client) for client in (1, 2, 3, 4))
         equal(putter.ask(frames.out(1, "job", 5)), "Stored number 1, id 1")
+        began = time.monotonic()
         equal(holder.ask(frames.ask(1, True, "job", frames.INT)), 'Offer ticket 1, id 1, tuple ("job", 5)')
-        second.send(frames.ask(1, True, "job", frames.INT))
-        waiting.send(frames.ask(1, True, "other"))
-        # (half of a message is no message)
-        holder.send(frames.accept(1, 1, 1)[:-1])
-        took = ends_within(holder, LATE)
-        equal(took > LEASE, True)
-        equal(second.hear(), 'Offer ticket 1, id 1, tuple ("job", 5)')
-        late, reply = again(server.port, 2)
-        equal(reply, "Welcome last 0")
-        equal(late.ask(frames.accept(1, 1, 1)), "Gone number 1")
-        # A Cancel of what is not open is answered by nothing, and says that the client is at work.
-        for _ in range(8 * LEASE):
-            time.sleep(0.5)
-            second.send(frames.cancel(99))
-        equal(second.ask(frames.accept(1, 1, 1)), 'Taken number 1, id 1, tuple ("job", 5)')
+        with Renewing(second) as renewing:
+            second.send(frames.ask(1, True, "job", frames.INT))
+            waiting.send(frames.ask(1, True, "other"))
+            # (half of a message is no message)
+            holder.send(frames.accept(1, 1, 1)[:-1])
+            renewing.renew_until(holder)
+            took = ends_after(holder, began)
+            equal(LEASE < took < LATE, True)
+            equal(second.hear(), 'Offer ticket 1, id 1, tuple ("job", 5)')
+            late, reply = again(server.port, 2)
+            equal(reply, "Welcome last 0")
+            equal(late.ask(frames.accept(1, 1, 1)), "Gone number 1")
+            renewing.renew(4 * LEASE)
+            equal(second.ask(frames.accept(1, 1, 1)), 'Taken number 1, id 1, tuple ("job", 5)')
         # Nothing is held: a client that waits, or only listens, is not late.
         equal([putter.ask(frames.out(2, "other")), waiting.hear()], ["Stored number 2, id 2", 'Offer ticket 1, id 2, tuple ("other")'])
         equal(late.ask(frames.out(2, "x")), "Stored number 2, id 3")
@@ -60,8 +101,9 @@ def leases_end_in_time(folder):
         for client in range(1, 4):
             holder = Peer(server.port, client)
             equal(holder.ask(frames.out(1, "job", client)), f"Stored number 1, id {client}")
+            began = time.monotonic()
             equal(holder.ask(frames.ask(1, True, "job", client)).split(",")[0], "Offer ticket 1")
-            took.append(ends_within(holder, LATE))
+            took.append(ends_after(holder, began))
             if took[-1] <= LEASE + MORE:
                 break
     equal((min(took) > LEASE, min(took) <= LEASE + MORE), (True, True))
@@ -105,11 +147,12 @@ def a_wait_longer_than_a_lease(folder):
         worker, client = Peer(server.port, 1), Peer(server.port, 2)
         worker.send(frames.ask(1, True, "job"))
         time.sleep(5)
-        equal(client.ask(frames.out(1, "job")), "Stored number 1, id 1")
-        equal(worker.hear(), 'Offer ticket 1, id 1, tuple ("job")')
-        # (a server that counts the wait ends it within a second)
-        time.sleep(2)
-        equal(worker.ask(frames.accept(1, 1, 1)).split(",")[0], "Taken number 1")
+        with within(3):
+            equal(client.ask(frames.out(1, "job")), "Stored number 1, id 1")
+            equal(worker.hear(), 'Offer ticket 1, id 1, tuple ("job")')
+            # (a server that counts the wait ends it within a second)
+            time.sleep(2)
+            equal(worker.ask(frames.accept(1, 1, 1)).split(",")[0], "Taken number 1")
 
 
 def a_lease_beside_others(folder):
@@ -118,8 +161,8 @@ def a_lease_beside_others(folder):
     with Server(folder, 0, "--lease", lease) as server:
         holder, other = Peer(server.port, 1), Peer(server.port, 2)
         equal(other.ask(frames.out(1, "job")), "Stored number 1, id 1")
-        equal(holder.ask(frames.ask(1, True, "job")), 'Offer ticket 1, id 1, tuple ("job")')
         began = time.monotonic()
+        equal(holder.ask(frames.ask(1, True, "job")), 'Offer ticket 1, id 1, tuple ("job")')
         while not select.select([holder.stream], [], [], 0.95)[0] and time.monotonic() < began + PATIENCE:
             other.send(frames.cancel(99))
         took = time.monotonic() - began
@@ -131,39 +174,23 @@ def a_lease_beside_others(folder):
 def a_lease_of_a_stopped_server(folder):
     """A server that is stopped for more than a second ends no client before the seconds of its lease are over, and none that says something in time."""
     with Server(folder, 0, "--lease", LEASE) as server:
-        renewing = Peer(server.port, 100)
-        equal(renewing.ask(frames.out(1, "own")), "Stored number 1, id 1")
-        equal(renewing.ask(frames.ask(1, True, "own")), 'Offer ticket 1, id 1, tuple ("own")')
-        said = [time.monotonic()]
-
-        def renew(seconds):
-            """Says something for so long, each 0.1 s."""
-            for _ in range(round(seconds * 10)):
-                said.append(time.monotonic())
-                renewing.send(frames.cancel(99))
-                time.sleep(0.1)
-
-        try:
+        own = Peer(server.port, 100)
+        equal(own.ask(frames.out(1, "own")), "Stored number 1, id 1")
+        with Renewing(own) as renewing:
+            equal(own.ask(frames.ask(1, True, "own")), 'Offer ticket 1, id 1, tuple ("own")')
             for turn in range(1, 6):
                 holder = Peer(server.port, turn)
                 equal(holder.ask(frames.out(1, "job", turn)), f"Stored number 1, id {turn + 1}")
                 # (at another place of the server's second each time)
-                renew(0.2 * turn)
-                equal(holder.ask(frames.ask(1, True, "job", turn)), f'Offer ticket 1, id {turn + 1}, tuple ("job", {turn})')
+                renewing.renew(0.2 * turn)
                 began = time.monotonic()
+                equal(holder.ask(frames.ask(1, True, "job", turn)), f'Offer ticket 1, id {turn + 1}, tuple ("job", {turn})')
                 server.process.send_signal(signal.SIGSTOP)
-                renew(1.3 + 0.1 * turn)
+                renewing.renew(1.3 + 0.1 * turn)
                 server.process.send_signal(signal.SIGCONT)
-                while not select.select([holder.stream], [], [], 0)[0] and time.monotonic() < began + PATIENCE:
-                    renew(0.1)
-                holder.end_comes()
-                equal(time.monotonic() - began >= LEASE, True)
-            equal(renewing.ask(frames.accept(2, 1, 1)), 'Taken number 2, id 1, tuple ("own")')
-        except (AssertionError, OSError) as fault:
-            silence = max(later - earlier for earlier, later in zip(said, said[1:] + [time.monotonic()]))
-            if silence > 0.8 * LEASE:
-                raise Late(f"the client that says something each 0.1 s was silent for {silence:.2f} s ({fault})") from fault
-            raise
+                renewing.renew_until(holder)
+                equal(ends_after(holder, began) >= LEASE, True)
+            equal(own.ask(frames.accept(2, 1, 1)), 'Taken number 2, id 1, tuple ("own")')
 
 
 def a_worker_that_is_stopped(folder):
@@ -185,6 +212,8 @@ with Space([int(sys.argv[2])], 7) as space, space.hold("job", INT) as offer:
         stopped = subprocess.Popen([sys.executable, "-c", worker, TOP / "clients/python", str(server.port)], stdout=subprocess.PIPE, text=True)
         try:
             equal(stopped.stdout.readline(), "('job', 5)\n")
+            # (it goes on by a signal that comes after it has stopped)
+            wait_until(lambda: Path(f"/proc/{stopped.pid}/stat").read_text().rpartition(")")[2].split()[0], "T")
             equal(run("call", "--client", 2, server.port, given='sync in ("job", ?i)\n'),
                   (0, '2 took 0 1 ("job", 5) binds [5] labels [] raised []\n', ""))
             stopped.send_signal(signal.SIGCONT)

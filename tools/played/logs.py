@@ -15,14 +15,14 @@ from played.lines import BANK, TIME, log_lines
 from played.peers import Peer, connection, ended, puts
 from played.program import PATIENCE, equal, most, wait_until
 from played.servers import Server, each_way, free_port
-from served import use_of
+from served import rest, use_of
 
 # The bytes of address space in which a server can begin, and can have two threads for each of a few connections.
 ROOM_OF_THREADS = 200 * 2**20
 
 
 def logs(folder):
-    with Server(folder, 0, "--sessions", "5", "--lease", "1", "--log") as server:
+    with Server(folder, 0, "--sessions", "5", "--lease", "5", "--log") as server:
         idle = [Peer(server.port), Peer(server.port), Peer(server.port, 9)]
         puts(server.port, 7, 1100)
         equal(idle[2].ask(frames.out(1, "b")), "Stored number 1, id 1101")
@@ -32,7 +32,7 @@ def logs(folder):
             equal(idle[2].ask(frames.accept(number, number, place)).split(",")[:2], [f"Taken number {number}", f" id {place}"])
         late = Peer(server.port, 8)
         equal(late.ask(frames.ask(1, True, "a", 9)), 'Offer ticket 1, id 9, tuple ("a", 9)')
-        time.sleep(61)
+        server.hears(" late 1\n")
         for peer in idle:
             peer.close()
         status, _, err = server.end()
@@ -81,16 +81,15 @@ def logs_of_a_bank_without_room(folder):
     (folder / "left.bank").write_bytes(b"\1LND1" + frames.spell_number(2**64 - 1) + frames.spell_number(16, 4) + frames.spell_number(1) + bytes(9))
     (folder / "right.bank").write_bytes(b"\0")
     with Server(folder, 0, "--log") as server:
-        began = time.monotonic()
         peer = Peer(server.port, 7)
         time.sleep(0.5)
         full = "Refused Full, detail 0"
         equal(peer.ask(frames.out(1, "x" * 256)), full)
         time.sleep(0.5)
         equal([peer.ask(frames.leave(1)), peer.ask(frames.out(1, "a")), peer.ask(frames.out(2, "x" * 300))], [full, "Stored number 1, id 1", full])
-        time.sleep(max(0.0, began + 61.5 - time.monotonic()))
+        server.hears(" minute ")
         equal(peer.ask(frames.out(2, "x" * 256)), full)
-        time.sleep(max(0.0, began + 122 - time.monotonic()))
+        server.hears(" minute ")
         server.process.terminate()
         _, _, err = server.end()
     lines = [line for line in err.splitlines() if " snapshot " not in line]
@@ -116,9 +115,11 @@ def logs_of_no_threads(folder):
             except OSError:
                 told.append("closed")
         equal(("Welcome last 0" in told, "closed" in told, set(told) - {"Welcome last 0", "closed"}), (True, True, set()))
+        server.hears(" limit lacks thread ")
         for peer in peers:
             peer.close()
-        time.sleep(0.5)
+        # (threads that are gone leave their room)
+        rest(server.process.pid)
         equal(Peer(server.port).ask(frames.hello(100, True)), "Welcome last 0")
         server.process.terminate()
         _, _, err = server.end()
@@ -130,7 +131,7 @@ def loops_want_no_room(folder):
     with Server(folder, 0, "--log", before=lambda: most(resource.RLIMIT_AS, ROOM_OF_THREADS)) as server:
         peers = [Peer(server.port, 0)]
         # (it says that it is ready before all its own threads are begun)
-        time.sleep(0.5)
+        rest(server.process.pid)
         first = use_of(server.process.pid)
         peers += [Peer(server.port, number) for number in range(1, 60)]
         for number, peer in enumerate(peers, 1):
@@ -152,7 +153,6 @@ def logs_of_refusals(folder):
     (folder / "right.bank").write_bytes(b"\0")
     status = free_port()
     with Server(folder, 0, "--log", "--status", status, "--lease", 1) as server:
-        began = time.monotonic()
         held, hear = connection(server.port)
         held(frames.hello(7, False))
         equal(hear(), "Welcome last 1")
@@ -205,11 +205,12 @@ def logs_of_refusals(folder):
             refused("Refused Malformed, detail 0", frames.frame(b""), ends=True)
         equal(counted(), 0)
         first = asks_on()
-        time.sleep(max(0.0, began + 62.5 - time.monotonic()))
+        server.hears(" minute ")
         second = asks_on()
-        time.sleep(max(0.0, began + 124 - time.monotonic()))
+        server.hears(" minute ")
         asks_on()
         refused("Refused Malformed, detail 0", frames.frame(b""), ends=True)
+        server.hears(" refused why malformed ")
         server.process.terminate()
         _, _, err = server.end()
     kept = rf"tuples 5 clients 65536 next 6 {BANK}"
@@ -235,7 +236,7 @@ def logs_of_no_files(folder):
     few = lambda: most(resource.RLIMIT_NOFILE, 16)
     with Server(folder, 0, "--log", "--sessions", "30", before=few) as server:
         held = [socket.create_connection(("127.0.0.1", server.port)) for _ in range(20)]
-        time.sleep(0.5)
+        server.hears(" limit lacks connection ")
         for one in held:
             one.close()
         Peer(server.port, 7).close()

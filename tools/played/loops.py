@@ -5,10 +5,11 @@ import re
 import resource
 import signal
 import socket
+import time
 from pathlib import Path
 
 import client as frames
-from played.leases import LATE, LEASE, ends_within
+from played.leases import LEASE, ends_after
 from played.peers import Peer, again, has_by_rest, keys_that_are_free
 from played.program import SOON, equal, most, wait_until
 from played.servers import Server
@@ -77,12 +78,13 @@ def keys_that_are_free_at_both_loops(folder):
             for place, word in enumerate((f"left {turn}", f"late {turn}"), 1 + 2 * turn):
                 holder, waiting = near[place], far[place]
                 put(near[0], word)
+                began = time.monotonic()
                 equal(holder.ask(frames.ask(1, True, word)), f'Offer ticket 1, id {last}, tuple ("{word}")')
                 waiting.send(frames.ask(2, True, word))
                 if word.startswith("left"):
                     holder.close()
                 else:
-                    equal(ends_within(holder, LATE) > LEASE, True)
+                    equal(ends_after(holder, began) > LEASE, True)
                 equal(waiting.hear(), f'Offer ticket 2, id {last}, tuple ("{word}")')
                 waiting.send(frames.cancel(2))
         equal(at[0][0].ask(frames.out(numbers[at[0][0]] + 1, "a", "x" * 4_000)), "Refused Down, detail 0")

@@ -4,10 +4,10 @@ import contextlib
 import select
 import socket
 import time
-from pathlib import Path
 
 import client as frames
 from played.program import PATIENCE, SOON, equal
+from served import rest
 
 
 def connection(port):
@@ -100,18 +100,7 @@ def keys_that_are_free(port, count=10):
 
 def has_by_rest(server, peer):
     """Waits until no thread of the server has anything to do, or it has ended; checks that something, or the end, came to the peer by then."""
-    tasks, until, asleep = Path(f"/proc/{server.process.pid}/task"), time.monotonic() + PATIENCE, 0
-    while asleep < 5:
-        try:
-            states = {(task / "stat").read_text().rpartition(")")[2].split()[0] for task in tasks.iterdir()}
-        except (FileNotFoundError, ProcessLookupError):
-            # (a thread has ended meanwhile)
-            states = set()
-        if states == {"Z"}:
-            break
-        asleep = asleep + 1 if states == {"S"} else 0
-        equal(time.monotonic() < until, True)
-        time.sleep(0.002)
+    rest(server.process.pid)
     if not select.select([peer.stream], [], [], 0)[0]:
         raise AssertionError("the server rests, and has not sent what is due")
 

@@ -14,7 +14,7 @@ from played.members import Crowd
 from played.peers import Peer, again
 from played.program import PATIENCE, SOON, equal
 from played.servers import Server, in_both_ways
-from served import use_of
+from served import rest, use_of
 
 # A loop reads a connection in pieces of this many bytes.
 READ_AT_ONCE = 16_384
@@ -169,12 +169,10 @@ def a_peer_that_never_reads(server):
     stuck = Peer(server.port, 2)
     first = use_of(server.process.pid)
     stuck.send(*[frames.ask(ticket, False, "wide", *[frames.ANY] * 32) for ticket in range(1, count + 1)])
-    began, left = time.monotonic(), 0
-    while not left or left != waiting_at(server.port, stuck):
-        left = waiting_at(server.port, stuck)
-        time.sleep(0.3)
-        if time.monotonic() - began > SOON:
-            raise AssertionError(f"the server reads on though nobody reads its replies: {use_of(server.process.pid)}, before there were {first}")
+    rest(server.process.pid)
+    left = waiting_at(server.port, stuck)
+    if not left:
+        raise AssertionError(f"the server reads on though nobody reads its replies: {use_of(server.process.pid)}, before there were {first}")
     for number in range(2, 102):
         equal(other.ask(frames.out(number, "small")), f"Stored number {number}, id {number}")
     began = use_of(server.process.pid)
@@ -246,7 +244,7 @@ def halves_cost_no_processor(server):
     put = frames.out(1, "half", "x" * 40)
     for peer, cut in zip(peers, (1, 4, 5, len(put) - 1) * 2):
         peer.send(put[:cut])
-    time.sleep(0.5)
+    rest(server.process.pid)
     before = server.processor_time()
     time.sleep(1)
     spent = server.processor_time() - before

@@ -3,11 +3,14 @@
 import functools
 import os
 import resource
+import select
 import socket
 import subprocess
+import time
 from pathlib import Path
 
 from played.program import PATIENCE, PROGRAM, SOON
+from served import free_port  # noqa: F401
 
 # The records after which a snapshot is due.
 SNAPSHOT_RECORDS = 1_024
@@ -25,6 +28,7 @@ class Server:
         where = () if port is None else ("--port", str(port))
         self.process = subprocess.Popen([PROGRAM, "serve", *where, "--dir", str(folder), *self.way, *map(str, words)], preexec_fn=before,
                                         stdout=subprocess.PIPE, stderr=subprocess.PIPE, text=True)
+        self.heard = ""
         line = self.process.stdout.readline()
         assert line.startswith("ready "), (line, self.process.stderr.read())
         self.place = line.rstrip("\n").partition(" ")[2]
@@ -47,9 +51,19 @@ class Server:
         fields = Path(f"/proc/{self.process.pid}/stat").read_text().rpartition(")")[2].split()
         return (int(fields[11]) + int(fields[12])) / os.sysconf("SC_CLK_TCK")
 
+    def hears(self, words):
+        """Reads its log up to a line with these words, of a minute too; `end` tells what was read."""
+        stream, line, until = self.process.stderr.fileno(), "", time.monotonic() + 3 * PATIENCE
+        while not (line.endswith("\n") and words in line):
+            line = "" if line.endswith("\n") else line
+            is_there = select.select([stream], [], [], max(0.0, until - time.monotonic()))[0]
+            if not is_there or not (byte := os.read(stream, 1)):
+                raise AssertionError(f"its log has no line with {words!r}: {self.heard}")
+            line, self.heard = line + byte.decode("latin-1"), self.heard + byte.decode("latin-1")
+
     def end(self):
         out, err = self.process.communicate(timeout=PATIENCE)
-        return self.process.returncode, out, err
+        return self.process.returncode, out, self.heard + err
 
 
 def each_way(check):
@@ -84,14 +98,8 @@ def in_both_ways(check):
     return whole
 
 
-def free_port():
-    """A port that nobody listens on now."""
-    with socket.socket() as found:
-        found.bind(("127.0.0.1", 0))
-        return found.getsockname()[1]
-
-
 def is_refused(port, host="127.0.0.1"):
+    """Nobody listens there. (If the port is a server's that ended, it is one of `free_port`: any other one may be another process's by now.)"""
     try:
         socket.create_connection((host, port), timeout=SOON).close()
         raise AssertionError(f"{host} takes connections on port {port}")

@@ -6,7 +6,7 @@ import time
 import client as frames
 from played.peers import Peer, again, connection, ended
 from played.program import equal, run, wait_until
-from played.servers import Server, each_way, is_refused
+from played.servers import Server, each_way, free_port, is_refused
 
 
 @each_way
@@ -172,7 +172,7 @@ def sessions_of_a_server(folder):
     for words in ([], ["--log"]):
         own = folder / f"store{len(words)}"
         own.mkdir()
-        with Server(own, 0, "--sessions", "2", *words) as server:
+        with Server(own, free_port(), "--sessions", "2", *words) as server:
             first, second = Peer(server.port, 1), Peer(server.port, 2)
             first.close()
             equal((words, second.ask(frames.out(1, "a"))), (words, "Stored number 1, id 1"))
@@ -189,9 +189,7 @@ def only_this_machine(folder):
     with Server(folder) as server:
         Peer(server.port, 1).close()
         is_refused(server.port, "127.0.0.2")
-        with socket.socket() as free:
-            free.bind(("127.0.0.1", 0))
-            port = free.getsockname()[1]
+    port = free_port()
     with Server(folder, port) as server:
         equal(server.port, port)
         Peer(port, 2).close()

@@ -8,7 +8,7 @@ import subprocess
 
 import client as frames
 from played.program import PATIENCE, PROGRAM, equal, refused_as_words, run
-from played.servers import Server
+from played.servers import Server, free_port
 from played.streams import fails_at_streams, status_of
 
 # Both forms of a usage.
@@ -33,8 +33,8 @@ def refused_words(folder):
 def refused_calls(folder):
     with socket.socket() as taken:
         taken.bind(("127.0.0.1", 0))
-        free = taken.getsockname()[1]
-        equal(run("serve", "--port", free, "--dir", folder), (3, "", "io\n"))
+        equal(run("serve", "--port", taken.getsockname()[1], "--dir", folder), (3, "", "io\n"))
+    free = free_port()
     equal(run("call", "--client", 1, free, given='out ("a")\n'), (3, "", "server 0: no connection\n"))
     with Server(folder) as server:
         equal(run("call", "--client", 1, server.port, given='out ("a")\nout (a)\n'), (4, "1 stored 0 1\n", "line 2: not a command\n"))
@@ -197,8 +197,7 @@ def explained_faults(folder):
         words = ["run", "--servers", 1, "--trace", path]
         equal(said(words), (3, "io\n"))
         equal(said([*words, "--explain"]), (3, f"io\n{shown}: No such file or directory (os error 2)\n"))
-    with listened() as port:
-        pass
+    port = free_port()
     equal(said(["call", "--client", 7, port]), (3, "server 0: no connection\n"))
     equal(said(["call", "--client", 7, "--explain", port]), (3, f"server 0: no connection\n{port}: Connection refused (os error 111)\n"))
     path = folder / "none"
@@ -211,8 +210,7 @@ def explained_faults(folder):
     (twins / "right.bank").symlink_to("left.bank")
     for words in (["serve", "--port", 0, "--dir", twins], ["inspect", twins]):
         equal(said([*words, "--explain"]), (3, f"store: disk\n{twins}: left.bank and right.bank are one file\n"))
-    with listened() as port:
-        pass
+    port = free_port()
     for words, place in ((["--port", port, "--status", port], port), (["--socket", folder / "both", "--status", folder / "both"], folder / "both")):
         equal(said(["serve", *words, "--dir", folder, "--explain"]), (3, f"io\n{place}: given for clients and for the status\n"))
     with listened() as port:

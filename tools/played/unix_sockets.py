@@ -2,6 +2,7 @@
 
 import os
 import re
+import select
 import socket
 import stat
 import subprocess
@@ -96,7 +97,7 @@ def modes_of_a_socket(folder):
     refused_as_words("serve", "--dir", folder, "--socket", "")
 
 
-# Connects again and again, as another user, to these paths, until its input ends; says how often it could.
+# Connects again and again, as another user, to these paths, until its input ends; says when it could first, and how often it could.
 KNOCKS = """
 import os, select, socket, sys
 count = 0
@@ -110,6 +111,8 @@ while not select.select([0], [], [], 0)[0]:
             try:
                 it.connect(path)
                 count += 1
+                if count == 1:
+                    print("in", flush=True)
             except OSError:
                 pass
 print(count)
@@ -117,12 +120,12 @@ print(count)
 
 
 def knocked(paths, work):
-    """How often another user could connect to one of the paths while this is done."""
+    """How often another user could connect to one of the paths while this is done, which is given the process that tries to."""
     process = subprocess.Popen([sys.executable, "-c", KNOCKS, *map(str, paths)], stdin=subprocess.PIPE, stdout=subprocess.PIPE, text=True)
     equal(process.stdout.readline(), "begun\n")
-    work()
+    work(process)
     out, _ = process.communicate("", timeout=PATIENCE)
-    return int(out)
+    return int(out.split()[-1])
 
 
 def users_of_a_socket(folder):
@@ -141,9 +144,13 @@ def users_of_a_socket(folder):
             with Server(store, None, "--socket", path, *words, before=lambda: os.umask(0)):
                 time.sleep(0.02)
 
-    equal(knocked(paths, serve), 0)
-    equal(knocked(paths, lambda: serve("--mode", "606")) > 0, True)
-    equal(knocked(paths, lambda: serve("--mode", "660")), 0)
+    def serve_until_in(process):
+        with Server(store, None, "--socket", path, "--mode", "606", before=lambda: os.umask(0)):
+            select.select([process.stdout], [], [], PATIENCE)
+
+    equal(knocked(paths, lambda _: serve()), 0)
+    equal(knocked(paths, serve_until_in) > 0, True)
+    equal(knocked(paths, lambda _: serve("--mode", "660")), 0)
 
 
 def sockets_that_are_left(folder):
