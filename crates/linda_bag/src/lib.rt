@@ -7,8 +7,9 @@
 //!
 //! `specs/FreeMatch` says which tuples a template may be answered with; the answer is always the
 //! least id among them. `specs/Filing` and `specs/Candidates` say what an index has and what is
-//! found in it. `tag_index`, `first_field_index` and `ids` are written for rows of any type, so that
-//! `linda_hold` files its requests by them. What follows of finite maps is in `linda_map_laws`.
+//! found in it. `tag_index`, `first_field_index` and `ids` are written for rows of any type, so
+//! that `linda_hold` files its requests by them. What follows of finite maps is in
+//! `linda_map_laws`.
 //!
 //! A call that may take memory has a fault for that; no other call takes any.
 #![tactic(auto)]
