@@ -9,7 +9,7 @@ use Rattle.linda_server.specs.declared.fault.OpenFault.{OpenFault}
 use Rattle.linda_server.specs.declared.fault.OpenFault.TheVariants as faults
 use Rattle.linda_server.specs.Opening.{fault_of_choice}
 
--- A fault that is the device's exactly if the disk's fault is satisfies `TellsFailures`.
+-- A fault satisfies `TellsFailures` if both it and the disk's fault are the device's, or neither is.
 pub counted : {T F : Type 0} (device told : F) (fault : DiskFault) (r : Result T DiskFault) (old new : ℕ)
     → r ≡ Err fault → (told ≡ device) ↔ (fault ≡ Device) → CountsFailure r old new
     → TellsFailures device told old new

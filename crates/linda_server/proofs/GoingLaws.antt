@@ -29,7 +29,7 @@ module _ {D : Type 0} {g : Ghosts D} (old new : Durable D g) where
   how_of faults.Disk full was_down stays goes_down fall = went stays (goes_down.0 refl) (fall (λ e. cc))
   how_of faults.Memory full was_down stays goes_down fall = went stays (goes_down.1 refl) (fall (λ e. cc))
 
--- A fault that is not `Full` left the state before the call.
+-- What holds unless the fault is `Full` holds of each other fault.
 pub other : {A : Type 0} (fault : ServeFault) (P : Type 0) → fault ≢ faults.Full → IsErrOf {T = A} (Err fault) faults.Full ⊎ P → P
 other fault P not_full (inl full) = absurd (not_full (cc full))
 other fault P not_full (inr p) = p

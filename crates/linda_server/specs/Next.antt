@@ -38,7 +38,7 @@ module _ {D : Type 0} {g : Ghosts D} where
   IsBegunOn next (Shut left right) st = ⊥
   IsBegunOn next Away st = ⊥
 
-  -- If there is one, it is.
+  -- If there is a next bank, it is begun so.
   abbrev pub IsNextFor : Option NextBank → Disks (Bank D g) D → State → Type 0
   IsNextFor next disks st = IfSome next (λ n. IsBegunOn n disks st)
 

@@ -7,7 +7,7 @@ use linda_disk::Disk;
 // Takes what may go to another thread.
 fn wants<T: Send>(_x: &T) {}
 
-/// Checks only by its bounds that a server over disks that may cross threads may, too.
+/// Checks, only by its bounds, that a server may go to another thread if its disks may.
 pub fn server_crosses<D: Disk + Send>(server: &Durable<D>) {
     wants(server);
 }

@@ -35,7 +35,7 @@ impl<D: Disk> Durable<D> {
         right: D,
         limit: usize,
     ) -> Result<Durable<D>, (OpenFault, D, D)>
-        // If both were empty, crashes at any moment leave only no bank, or the empty state;
+        // If both were empty, crashes at any moment leave no bank, or the empty state;
         ensures any_moment { D.honest left → D.honest right → IsVoid (D.view left)
             → IsVoid (D.view right)
             → IfOk result (λ s. PairsSince (two (D.view left) (D.view right))
