@@ -55,7 +55,7 @@ pub fn steps_keep_order()
         → IsOrderly st soft → IsStep st soft c m answered new → IsOrderly new answered.soft }
 {}
 
-/// After any messages of any clients and any ends of their connections, in any order and of any
+/// After any messages of any clients and any ends of their connections, in any order and any
 /// number: the deeds are a proper list, so no tuple is taken twice, and the server is in order in
 /// the state after them.
 pub fn no_history_takes_a_tuple_twice()

@@ -6,7 +6,7 @@ use Rattle.linda_store_step.specs.Size.{bytes_from, count_from, numbers_of, AllS
 use Rattle.linda_store_step.proofs.SizeLaws.{numbers_behind}
 use Rattle.linda_store_step.proofs.size.need_within.Given as goal
 
--- What was counted and what the others will spell from these numbers on are all together; and all suit exactly if the others do.
+-- What was counted, together with what the others will spell from these numbers on, is what all spell; and all suit exactly if the others do.
 abbrev pub invariant-loop-client : goal.invariant-loop-client
 invariant-loop-client g l = record {
   all : bytes_from l.fn.form (numbers_of l.fn.state) l.messages ≡ l.bytes + bytes_from l.fn.form
