@@ -23,7 +23,7 @@ use Rattle.linda_snap.specs.Stands.{deeds_in}
 abbrev pub heading : ℕ → ℕ → List ℕ
 heading generation len = magic written ++ (number.spell generation ++ short_number.spell len)
 
--- After the first gate of the new bank `front` is written, and the server is in the state `st`:
+-- `front` is written after the first gate of the new bank, and the server is in the state `st`:
 pub record Follows (s : BankWriter) (front : List ℕ) (st : State) : Type 0 where
   -- it began in this state,
   pub begun : State

@@ -176,7 +176,7 @@ module _ {B D : Type 0} {g : Ghosts D} where
     pub fault : g.honest left → g.honest right
         → IfErr result (λ e. e.0 ≢ Disk → e.0 ≢ Memory
         → IsFaultOfBoth (g.view left).seen (g.view right).seen e.0)
-    -- At no moment a crash leaves of either disk what it could not leave at entry.
+    -- A crash at any moment leaves of either disk only what it could leave at entry.
     pub any_moment : g.honest left → g.honest right
         → IfOk result (λ c.
         ChosenLeaves c.is_right (g.view left) (g.view right) (g.view c.bank.disk)

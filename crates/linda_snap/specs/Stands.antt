@@ -35,7 +35,7 @@ pub record IsInUse (file other : List ℕ) (st : State) : Type 0 where
   pub stands : StandsOn file generation st
   pub lesser : IsLesser generation other
 
--- Two banks represent the state: the only bank of the two, or the one of the greater generation.
+-- Two files represent the state: the only bank in them does, or the one of the greater generation.
 abbrev pub Stands : List ℕ → List ℕ → State → Type 0
 Stands left right st = IsInUse left right st ⊎ IsInUse right left st
 

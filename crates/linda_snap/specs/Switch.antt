@@ -17,7 +17,7 @@ use Rattle.linda_snap.specs.BankWriter.{Completes}
 use Rattle.linda_snap.specs.declared.renewal.SwitchFault.{SwitchFault}
 use Rattle.linda_snap.specs.declared.renewal.SwitchFault.TheVariants.{Disk, Memory}
 
--- The bytes of before, or no bank, or the whole new one, in the form of new banks.
+-- The old bytes, or no bank, or the whole new one, in the form of new banks.
 abbrev pub IsOldNoneOrNew : List ℕ → ℕ → List ℕ → List ℕ → Type 0
 IsOldNoneOrNew old generation body file = (file ≡ old) ⊎ IsNoneOrNew written generation body file
 

@@ -28,7 +28,8 @@ pub(crate) struct Clients {
 
 impl Clients {
     /// The clients of a book, after all tuples of their snapshot. Returns them with the first
-    /// bytes, the count that is given and the first of them, until these are `most` bytes.
+    /// bytes: the count that is given and the first clients, until there are `most` bytes or more,
+    /// or 4,096 clients.
     ///
     /// # Errors
     ///

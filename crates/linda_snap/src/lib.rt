@@ -5,8 +5,8 @@
 //!   only if they spell no state that is in its ranges.
 //! - `choose_bank` returns the state of the two banks, or what is wrong with them, on which side
 //!   and where; `choose` says which of the two that is, by what they begin with.
-//! - `switch` makes a new bank of the next generation on the other disk. At no moment of it a crash
-//!   leaves anything but what has the same state.
+//! - `switch` makes a new bank of the next generation on the other disk. A crash at any moment of
+//!   it leaves only what represents the same state.
 #![tactic(auto)]
 
 mod bank_writer;

@@ -100,9 +100,9 @@ pub fn switch<B: Bag, D: Disk>(
         × (e.0 ≡ SwitchFault.GenerationsSpent → (e.1 ≡ current) × (e.2 ≡ other))
         × (e.0 ≡ SwitchFault.Memory → ((e.1 ≡ current) × (e.2 ≡ other)) ⊎ (e.1.is_spent ≡ true))
         × (e.0 ≡ SwitchFault.Disk → e.1.is_spent ≡ true)) }
-    // At no moment a crash leaves anything on the other disk but what represents the state, beside
-    // the bank in use. It is a write for each piece of the new bank, a sync, a write and a sync;
-    // and first a write and a sync, if the disk's first gate is to be closed.
+    // A crash at any moment leaves on the other disk only what represents the state, beside the
+    // bank in use. It is a write for each piece of the new bank, a sync, a write and a sync; and
+    // first a write and a sync, if the disk's first gate is to be closed.
     ensures runs { RunsBeside D.Disk (λ x. x.0.disk) (switches (D.honest current.disk)
         current.form current.generation current.end (D.view current.disk) state.now)
         (TakesCalls (3 + pieces (MIN_BYTES + length (spell_state written state.now))))

@@ -55,8 +55,8 @@ pub fn take_over<D: Disk>(
     ensures same { IfOk result (λ x. x.1 ≡ current.disk)
         × IfErr result (λ e. e.1.disk ≡ current.disk) }
     ensures spent { IfErr result (λ e. e.1.is_spent ≡ true) }
-    // At no moment a crash leaves anything on the other disk but what represents the state, beside
-    // the bank in use.
+    // A crash at any moment leaves on the other disk only what represents the state, beside the
+    // bank in use.
     ensures runs { RunsBeside D.Disk (λ x. x.0.disk) (takes_over (D.honest current.disk)
         current.form current.generation current.end (D.view current.disk) next.now filling.at
         bytes.now) (takes 4) DiskFault.Device filling.disk result }
