@@ -68,8 +68,8 @@ module _ {D : Type 0} {g : Ghosts D} where
     pub place : OnOk result (new.end ≡ old.end + length (spell_record old.form deeds))
     pub count : OnOk result (new.records ≡ old.records + 1)
     pub ready : OnOk result (new.is_spent ≡ false)
-    -- It is Full exactly if one of the deeds has no spelling in the bank's form, or the closed gate
-    -- after the new record would pass the limit; nothing changed then.
+    -- It is Full exactly if the bank is not spent, and one of the deeds has no spelling in its form
+    -- or the closed gate after the new record would pass the limit; nothing changed then.
     pub fits : OnOk result (All (SuitsForm old.form) deeds)
     pub room : OnOk result (new.end < new.limit)
     pub full : IsErrOf result faults.Full ↔ (old.is_spent ≡ false)
@@ -111,8 +111,8 @@ module _ {D : Type 0} {g : Ghosts D} where
         (new.end ≡ old.end + bytes_for (length deeds) (length (payload old.form deeds)))
     pub count : OnOk result (new.records ≡ old.records + records_for (length deeds))
     pub ready : OnOk result (new.is_spent ≡ false)
-    -- It is Full exactly if one of the deeds has no spelling in the bank's form, or the closed gate
-    -- after the new records would pass the limit; nothing changed then.
+    -- It is Full exactly if the bank is not spent, and one of the deeds has no spelling in its form
+    -- or the closed gate after the new records would pass the limit; nothing changed then.
     pub fits : OnOk result (All (SuitsForm old.form) deeds)
     pub room : OnOk result (new.end < new.limit)
     pub full : IsErrOf result faults.Full ↔ (old.is_spent ≡ false)

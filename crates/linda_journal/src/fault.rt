@@ -22,8 +22,9 @@ pub enum BankFault {
     /// The disk holds no bank: fewer bytes than a bank has, or a first gate that is closed.
     #[error("no bank")]
     NoBank,
-    /// The bank is damaged at this offset: 1 if it begins otherwise or has no generation, 17 if its
-    /// body is cut short, else the offset of the first open gate with no record after it.
+    /// The bank is damaged at this offset: 1 if other letters or generation 0 follow its first
+    /// gate, 17 if its body is cut short, else the offset of the first open gate with no record
+    /// after it.
     #[error("damaged at {0}")]
     Damaged(usize),
     /// The device failed, which it counts.
