@@ -10,7 +10,7 @@ module _ {T : Type 0} (old new : ℕ → Bool) (rows : Rows T) (id : ℕ) (noted
       changed q
       ∙ elim (is_eq (nat_cmp id q)) as (λ t. cond t b (old q) ≡ is_some (cond t row (rows q))) [ true ↦ same | false ↦ noted q ]
 
--- Whether an id is one of a set hangs on whether it has a row, not on which.
+-- Whether an id is one of a set depends on whether it has a row, not on which.
 pub any_row : {T : Type 0} (has : ℕ → Bool) (rows : Rows T) (id : ℕ) (before after : Option T) → is_some after ≡ is_some before
     → ((q : ℕ) → has q ≡ is_some (with_row rows id after q)) → (q : ℕ) → has q ≡ is_some (with_row rows id before q)
 any_row has rows id before after same noted q =

@@ -61,7 +61,7 @@ pub trait Bag: Drop {
         ensures none { IfNone result ((k : ℕ)
             → IsFreeMatch (contents self.now) template.now (contains nat_cmp passed.now) k → ⊥) };
 
-    /// As `least_match`, only of the ids from `from` on; and how many tuples were looked at in
+    /// As `least_match`, only among the ids from `from` on; and how many tuples were looked at in
     /// vain.
     fn least_match_from<P: IdSet>(&self, template: &Template, passed: &P, from: u64) -> Found
         ensures found { IfSome result.id

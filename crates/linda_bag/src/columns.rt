@@ -101,8 +101,8 @@ impl Columns {
         self.items.len()
     }
 
-    // The column goes on, after a search that looked at so many tuples in vain. If memory runs out
-    // all go.
+    // The column goes on, after a search that looked at so many tuples in vain. If memory runs out,
+    // all columns are dropped.
     fn go_on<B: Bag>(
         &mut self,
         alloc: Global,
@@ -130,7 +130,8 @@ impl Columns {
         }
     }
 
-    // A column begins, if there is memory for it. If there are too many, or too many ids, all go.
+    // A column begins, if there is memory for it. If there are too many columns, or too many ids,
+    // all others are dropped first.
     fn begin(&mut self, alloc: Global, template: &Template, position: usize)
         ensures { (bag : Bagged) (next : ℕ) → AreColumns bag next self.old
             → AreColumns bag next self.new }
