@@ -19,7 +19,7 @@ use std::snapshot::Snapshot;
 
 /// A server in memory only. It keeps its state over a stop, and is never full: ids, numbers and
 /// clients have their limits, and a message beyond them gets a refusal. Once memory ran out it is
-/// down for good, to a stop too.
+/// down for good: no stop brings it back.
 pub struct Volatile {
     store: Store<IndexBag>,
     // The state before the last call, which only contracts see.
