@@ -1,7 +1,7 @@
 -- A disk at a moment, and what a crash may leave of it.
 use Rattle.std.specs.Prelude.{◌≡◌, ℕ, ◌≤◌, ◌⊎◌, List}
 
--- What clauses speak of, if they speak of a disk at a moment.
+-- What contracts see of a disk at a moment.
 pub record View : Type 1 where
   -- what a read gives
   pub seen : List ℕ
