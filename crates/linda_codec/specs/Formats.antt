@@ -95,7 +95,7 @@ abbrev pub made : {A M : Type 0} → (A → M) → (M → A) → Format A → Fo
 made make parts f =
     record { spell = λ m. f.spell (parts m); Fits = λ m. f.Fits (parts m); read = made_at make f }
 
--- The same format, with what has a spelling said in other words.
+-- The same format, with another statement of which values have a spelling.
 abbrev pub known_as : {A : Type 0} → (A → Type 0) → Format A → Format A
 known_as Fits f = record { spell = f.spell; Fits = Fits; read = f.read }
 
