@@ -195,7 +195,7 @@ fn task_by<'a>(alloc: Global, linda: &mut Command<'a>, words: &'a [String]) -> R
     }
 }
 
-// Whether it asks for what cannot be done: that silent clients which hold a tuple are ended
+// Whether it asks for what cannot be kept: that silent clients which hold a tuple are ended
 // although each connection has two threads; or that tuples are counted although no status is
 // served.
 fn is_unkept(task: &Task) -> bool

@@ -117,7 +117,7 @@ left_there ps server n =
 abbrev pub LeftOrAnswered : Call → ℕ → ℕ → List (ℕ × ℕ) → Packet → Type 0
 LeftOrAnswered call server n ps p = Contains (leave_packets (unanswered_leaves server n ps)) p ⊎ IsAnswerTo p call
 
--- a Leave is left, or is answered, if there is one Leave more; given whether that one is answered
+-- `LeftOrAnswered` for a list with one Leave more at its front, given whether that one is answered
 abbrev OneMore : Call → ℕ → ℕ → ℕ × ℕ → List (ℕ × ℕ) → Bool → Packet → Type 0
 OneMore call server n q ps b p = Contains (leave_packets (cond (not b) (q ∷ unanswered_leaves server n ps) (unanswered_leaves server n ps))) p
     ⊎ IsAnswerTo p call

@@ -102,7 +102,7 @@ module _ (c : Client) (call : Call) where
   turn_answered pending rest a (arrives none saved called) = subst (λ o. AcceptAnswered o call) (sym none) tt
   turn_answered pending rest a (oldest own accepted saved called) = subst (λ o. AcceptAnswered o call) (sym accepted) (inl called)
 
-  -- Only one numbered message is sent, under the next number of its server, and it is the one that is unanswered.
+  -- Only one message is sent, a numbered one under the next number of its server, and it is the only one that is unanswered.
   module _ (r : Reaction) (s : ℕ) (m : Message) (within : s < servers c) (number : number_of m ≡ Some (next_at c s))
       (sent : r.packets ≡ (s, m) ∷ []) (next : r.client.next ≡ used_at c s)
       (now : unanswered r.client.task ≡ (s, m) ∷ []) (answered : AllAnswered) where

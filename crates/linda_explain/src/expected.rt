@@ -25,9 +25,10 @@ const PROBES: [(&str, &str); 15] = [
 // What goes on nowhere but in a text.
 const ODD: &str = "\u{a7}";
 
-/// Appends what could be between the front of a text and the rest of it: those of a table that the
-/// reader takes after the front. It is "the end of the line" if there is none, the closing quote in
-/// a text, an escape after a backslash, and a blank if only that is missing before the rest.
+/// Appends what could come after the front of a text: those of a table that the reader takes there,
+/// at once or after a blank. It is "the end of the line" if there are none, the closing quote in a
+/// text, an escape after a backslash, a letter after a `?`, and a blank if only that is missing
+/// before the rest of the text.
 ///
 /// # Errors
 ///
@@ -67,9 +68,9 @@ pub(crate) fn push_expected(
     Ok(())
 }
 
-/// Where a text goes wrong if its reader stopped at this place: at the first letter of a word that
-/// is none, though the reader took some of its letters, as of `foo`, which begins like `false`, or
-/// of `alarms`.
+/// Where a text goes wrong if its reader stopped at this place: there; or before it, at the first
+/// letter of a word that is none, though the reader took some of its letters, as of `foo`, which
+/// begins like `false`, or of `alarms`.
 ///
 /// # Errors
 ///

@@ -172,7 +172,8 @@ impl<S: Socket, L: Ledger> Connection<S, L> {
 
     /// Its next message, if there is room for it. It is read if less than one is there.
     pub(crate) fn next(&mut self, buffer: &mut [u8], room: OpenWays) -> ConnectionEvent
-        // It is the message that the session took, with the route that the session says.
+        // A message is one that the session took, with the route that the session says; without one
+        // the session took nothing.
         ensures gives { Gives self.old.session result self.new.session }
         ensures account { self.new.account ≡ self.old.account }
     {

@@ -46,14 +46,14 @@ abbrev pub ReadsOn : List ℕ → List ℕ → Message → List Message → Type
 ReadsOn bytes rest first messages =
     (more : List Message) × ((messages ≡ first ∷ more) × IsReading bytes more rest)
 
--- What the bytes after the last message are: no whole frame without a fault, or a fault with this
--- offset.
+-- What the bytes after the last message are: less than a whole frame, and no fault; or the frame at
+-- their front has a fault, at this offset.
 abbrev pub StandsAs : Option ℕ → List ℕ → Type 0
 StandsAs None rest = message_front rest ≡ Partial
 StandsAs (Some detail) rest = IsMalformed rest detail
 
--- All messages in the bytes were taken, up to this rest, which has a fault at this offset, if one
--- is given.
+-- All messages in the bytes were taken, up to this rest: it begins with a fault at this offset, or
+-- if none is given it is less than a whole frame, without a fault.
 abbrev pub AllTaken : List ℕ → Option ℕ → List ℕ → Known → Known → Type 0
 AllTaken bytes stand rest old new =
     (messages : List Message)

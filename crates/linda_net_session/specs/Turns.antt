@@ -19,7 +19,7 @@ use Rattle.linda_net_session.specs.Session.{ended, at_rest, took, said, broken}
 abbrev pub Says : Reply → Session → Session → Type 0
 Says r old new = (new ≡ said r old) ⊎ (new ≡ broken old)
 
--- This reply is queued, but nothing is after the last word.
+-- This reply is queued; if nothing more is queued, nothing changes.
 abbrev pub TellsBy : Bool → Reply → Session → Session → Type 0
 TellsBy true r old new = new ≡ old
 TellsBy false r old new = Says r old new

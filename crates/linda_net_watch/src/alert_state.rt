@@ -7,7 +7,7 @@ ghost use Rattle.linda_net_watch.specs.Alerts.{no_trouble, came_since, first_unt
 use crate::alerts::Alerts;
 use linda_net_marks::{CounterValues, Notice};
 
-/// What was reported: the troubles that began; and the counts when the last minute began.
+/// The troubles that were reported and are not over, and the counts when the last minute began.
 #[derive(Clone, Copy)]
 pub(crate) struct AlertState {
     since: CounterValues,

@@ -13,12 +13,12 @@ use std::sync::{Mutex, Wait};
 use std::thread;
 use std::time::{Clock, Duration};
 
-/// How many milliseconds pass from one look to the next, at whether a snapshot pays for itself and
-/// at what happened.
+/// How many milliseconds pass between two looks: at whether a snapshot pays for itself, or at what
+/// happened.
 const LOOK: u64 = 100;
 
-/// After a snapshot no other is looked for during this many times as long as it took: however full
-/// the bank is, messages are served most of the time.
+/// After a snapshot, this many times its duration passes before the next one is looked for: however
+/// full the bank is, messages are served most of the time.
 const PAUSES: u64 = 3;
 
 /// Takes a snapshot whenever one is to be taken, and has room written ahead and receipts forgotten,

@@ -83,7 +83,7 @@ impl<D: Disk, L: Ledger> Shared<D, L> {
     }
 
     /// Waits until there is a reply, the server is down or the seat was hung up, and takes what is
-    /// there: so no replies if none comes any more. Never asks for the server.
+    /// there, which is nothing if no reply comes any more. Never asks for the server.
     pub fn drain_wait<R: Wait>(&self, rt: &R, outlet: &mut Outlet<L>) -> Vec<Reply> {
         outlet.drain_wait(rt, self.alloc)
     }

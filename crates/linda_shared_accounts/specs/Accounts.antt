@@ -13,7 +13,7 @@ use Rattle.linda_shared_accounts.specs.declared.place.Place.TheVariants as place
 use Rattle.linda_shared_accounts.specs.Ring.{IsRing, ring_of}
 use Rattle.linda_shared_accounts.specs.Account.{Account, account_of}
 
--- a place for each client that has a seat, or to which deeds were reported
+-- a place for each client whose seat is out or parked for good, or to which deeds were reported
 abbrev pub Places : Type 0
 Places = map.FinMap nat_cmp Place
 

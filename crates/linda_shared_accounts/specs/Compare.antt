@@ -10,7 +10,7 @@ use Rattle.linda_shared_accounts.specs.Receipts.{client_in, number_in, IsKept}
 use Rattle.linda_shared_accounts.specs.Agreement.{AgreesWith}
 use Rattle.linda_shared_accounts.specs.Accounts.{Places, receipts_at}
 
--- the receipts that were reported to the client of this one, if its seat is parked
+-- the receipts that were reported to the client of this one, as far as they are parked
 abbrev pub ring_for : Places → Receipt → List Receipt
 ring_for ps r = receipts_at (map.get ps (client_in r))
 

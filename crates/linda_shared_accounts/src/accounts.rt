@@ -22,8 +22,8 @@ use std::alloc::{AllocError, Global};
 use std::marker::Model;
 use std::sync::ledger::{Blank, Ledger, Share};
 
-/// How many deeds were reported in all, and a place for each client that has a seat, or to which
-/// deeds were reported.
+/// How many deeds were reported in all, and a place for each client whose seat is out or parked for
+/// good, or to which deeds were reported.
 #[derive(Drop)]
 pub struct Accounts<L: Ledger> {
     tokens: Tokens<L>,

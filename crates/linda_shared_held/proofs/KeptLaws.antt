@@ -49,7 +49,7 @@ module _ {D : Type 0} {g : Ghosts D} where
       → BoxesCovered (known_of s) (λ q. waits_for old q) → BoxesCovered (known_of t) (λ q. waits_for new q)
   still_covered s t old new still keep covered = subst (λ st. BoxesCovered st (λ q. waits_for new q)) (sym still.0) (keep (known_of s) covered)
 
-  -- A server whose store and state before are the same, and that is down exactly if it was, is known as before.
+  -- A server whose `store` and `before` are the same, and that is down exactly if it was, is known as before.
   pub same_still : (s t : Durable D g) → t.before.value ≡ s.before.value → t.store ≡ s.store → t.down ≡ s.down → IsKnownStill s t
   same_still s t before store down = (
     ap (λ b. known b t.store t.down) before ∙ ap (λ x. known s.before.value x t.down) store

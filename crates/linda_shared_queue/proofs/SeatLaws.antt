@@ -25,7 +25,7 @@ told_snoc c [] (s ∷ ts) m t all one = absurd all
 told_snoc c (n ∷ ms) [] m t all one = absurd all
 told_snoc c (n ∷ ms) (s ∷ ts) m t all one = (all.0, told_snoc c ms ts m t all.1 one)
 
--- An answer that comes back leaves the client, takes one message off, and adds one deed at most.
+-- If an answer comes back, the client is the same, one message fewer is on its way, and one more deed at most is counted.
 pub back_client : (a : Account) (t : Option Receipt) → (with_told (back a) t).client ≡ a.client
 back_client a None = refl
 back_client a (Some r) = refl

@@ -23,12 +23,12 @@ back a = with_asked a (a.asked - 1)
 abbrev pub with_deed : Account → Account
 with_deed a = account_of a.client (a.deeds + 1) a.asked a.ring
 
--- the account, after it was reported what a message led to: a receipt joins the ring
+-- the account, after what a message led to was reported to it: a receipt joins the ring
 abbrev pub with_told : Account → Option Receipt → Account
 with_told a None = a
 with_told a (Some r) = account_of a.client (a.deeds + 1) a.asked (with_receipt a.ring r)
 
--- the account, after it was reported what several messages led to, in order
+-- the account, after what several messages led to was reported to it, in order
 abbrev pub with_all : Account → List (Option Receipt) → Account
 with_all a [] = a
 with_all a (t ∷ ts) = with_all (with_told a t) ts

@@ -58,7 +58,8 @@ impl<L: Ledger> Mailbox<L> {
     }
 
     /// Puts replies to its client after the others. If there is no memory for them, none comes any
-    /// more. A thread that waits for news is woken too, if others' messages led to these.
+    /// more. A thread that waits for news is woken too, if others' messages led to these, or if no
+    /// reply comes any more.
     pub(crate) fn post<R: Wait>(&self, rt: &R, sent: Sent, is_news: bool)
         requires { sent.client ≡ self.now.client }
     {

@@ -105,7 +105,7 @@ front_number_at bytes = do
   behind ← word_end number.1
   Ok (number.0, after_blanks behind)
 
--- What is read is found, and none is found if reading gives a fault.
+-- What is read is found, and nothing is found if reading gives a fault.
 abbrev pub Finds : {X Y : Type 0} → (X → Y) → Option X → Result Y TextFault → Type 0
 Finds view (Some x) read = read ≡ Ok (view x)
 Finds view None read = (fault : TextFault) × (read ≡ Err fault)

@@ -46,7 +46,8 @@ pub(crate) fn open_list(bytes: &[u8]) -> Result<(bool, &[u8]), TextFault>
     }
 }
 
-/// Whether a comma comes after blanks, and not the closing bracket; and the bytes after it.
+/// Whether the mark after blanks is a comma, and not the closing bracket; and the bytes after that
+/// mark.
 #[tactic(auto, unfolding(crate::specs::Words::mark_at))]
 pub(crate) fn read_mark(bytes: &[u8]) -> Result<(bool, &[u8]), TextFault>
     ensures { GivesAlways (λ x. (x.0, x.1.now)) result (mark_at (after_blanks bytes.now)) }

@@ -28,7 +28,8 @@ pub fn behind_word<'a>(text: &'a [u8], word: &[u8]) -> Option<&'a [u8]>
     }
 }
 
-// The number at the front, which ends there, and the bytes after it and after blanks.
+// The number at the front, which no letter or digit follows, and the bytes after it and after
+// blanks.
 #[tactic(auto, unfolding(crate::specs::Words::front_number_at))]
 fn front_number(text: &[u8]) -> Result<(u64, &[u8]), TextFault>
     ensures { GivesAlways (λ x. (x.0, x.1.now)) result (front_number_at text.now) }
@@ -37,7 +38,7 @@ fn front_number(text: &[u8]) -> Result<(u64, &[u8]), TextFault>
     Ok((number, skip_blanks(end_word(rest)?)))
 }
 
-// The bytes after the word, which ends there, and after blanks.
+// The bytes after the word, which no letter or digit follows, and after blanks.
 #[tactic(auto, unfolding(crate::specs::Words::behind_word_at))]
 fn skip_spaced_word<'a>(text: &'a [u8], word: &[u8]) -> Result<&'a [u8], TextFault>
     ensures { GivesAlways (λ rest. rest.now) result (behind_word_at word.now text.now) }

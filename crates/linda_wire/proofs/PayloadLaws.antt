@@ -88,7 +88,7 @@ with_rest : {U A : Type 0} (len : ℕ) (unit : U) (value : A) (rest : List ℕ) 
 with_rest len unit value [] = refl
 with_rest len unit value (b ∷ rest) = ((λ e. absurd cc), refl)
 
--- Bytes are left after a value: whether there are none says whether the payload spells it.
+-- A value was read: the payload spells it exactly if no bytes are left after it.
 pub judged_ok : {U A : Type 0} (len : ℕ) (read : Read A) (unit : U) (rest : List ℕ) → left_by read ≡ Ok rest
     → Judges (with_no_rest len unit rest) (in_frame len read)
 judged_ok len (Ok x) unit rest e = rw (← left_is x.1 rest e) (with_rest len unit x.0 x.1)

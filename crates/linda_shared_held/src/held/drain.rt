@@ -32,8 +32,8 @@ impl<D: Disk, L: Ledger> Held<D, L> {
     }
 
     /// The replies that wait for some client, at least one; `None` if nothing waits for anybody.
-    /// Its outbox is empty then, and nothing else changes. Looks only at the outboxes that
-    /// something was posted to.
+    /// The outbox of that client is empty then, and nothing else changes. Looks only at the
+    /// outboxes that something was posted to.
     pub fn drain_next(&mut self, alloc: Global) -> Option<Sent>
         ensures next { HandsOutNext self.old.boxes result self.new.boxes }
         ensures same { (self.new.opening.value ≡ self.old.opening.value)

@@ -63,9 +63,8 @@ impl Recall {
     }
 }
 
-/// The account comes back to its place, for its client's next session. Of the receipts that are
-/// older than the base it keeps none, unless it is the last one. As many deeds were reported in all
-/// as before.
+/// The account comes back to its place, for its client's next session. Its receipts from before the
+/// base are dropped, but never its last one. As many deeds were reported in all as before.
 pub(super) fn put_back<L: Ledger>(
     accounts: &mut Accounts<L>,
     recall: &mut Recall,
