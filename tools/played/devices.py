@@ -4,6 +4,7 @@ import resource
 import socket
 import time
 
+import banks
 import client as frames
 from played.peers import Peer, has_by_rest, keys_that_are_free
 from played.program import SOON, equal, most
@@ -38,12 +39,11 @@ def connections_of_a_failed_device(folder):
 
 def a_failed_device_beside_a_peer_that_never_reads(folder):
     """A server that goes down ends, though a peer takes none of the replies that are due to it."""
-    with Server(folder) as server:
-        equal(Peer(server.port, 1).ask(frames.out(1, "wide", *["x" * 4_095] * 32)), "Stored number 1, id 1")
-        server.process.kill()
-        server.end()
-    size = (folder / "left.bank").stat().st_size
-    with Server(folder, before=lambda: most(resource.RLIMIT_FSIZE, size + 2_000)) as server:
+    # (a bank that is written here: one that a server wrote is a MiB longer once there is room for its next records, which may be before it is killed)
+    bank = banks.spell_bank(1, banks.State(2, {1: frames.spell_items("wide", ("x" * 4_095,) * 32)}))
+    (folder / "left.bank").write_bytes(bank)
+    (folder / "right.bank").write_bytes(b"\0")
+    with Server(folder, before=lambda: most(resource.RLIMIT_FSIZE, len(bank) + 2_000)) as server:
         with keys_that_are_free(server.port):
             stuck = Peer(server.port, 2)
         # (so little is kept for it that what the server has spelled for it has no room there when it goes down)
