@@ -192,6 +192,11 @@ def explained_faults(folder):
             ("stop 0 3 255 1", 14, 'expected the end of the line, found "1"'),
             (" repeat x", 9, 'expected the end of the line, found "x"')):
         equal(said(["run", "--servers", 1, "--explain"], line), (4, f"line 1: not a command\nline 1, byte {byte}: {words}\n"))
+    gone = folder / "gone" / "trace"
+    for path, shown in ((gone, gone), ("", '""')):
+        words = ["run", "--servers", 1, "--trace", path]
+        equal(said(words), (3, "io\n"))
+        equal(said([*words, "--explain"]), (3, f"io\n{shown}: No such file or directory (os error 2)\n"))
     port = free_port()
     equal(said(["call", "--client", 7, port]), (3, "server 0: no connection\n"))
     equal(said(["call", "--client", 7, "--explain", port]), (3, f"server 0: no connection\n{port}: Connection refused (os error 111)\n"))
@@ -205,5 +210,8 @@ def explained_faults(folder):
     (twins / "right.bank").symlink_to("left.bank")
     for words in (["serve", "--port", 0, "--dir", twins], ["inspect", twins]):
         equal(said([*words, "--explain"]), (3, f"store: disk\n{twins}: left.bank and right.bank are one file\n"))
+    port = free_port()
+    for words, place in ((["--port", port, "--status", port], port), (["--socket", folder / "both", "--status", folder / "both"], folder / "both")):
+        equal(said(["serve", *words, "--dir", folder, "--explain"]), (3, f"io\n{place}: given for clients and for the status\n"))
     with listened() as port:
         equal(said(["serve", "--port", port, "--dir", folder, "--explain"]), (3, f"io\n{port}: Address already in use (os error 98)\n"))

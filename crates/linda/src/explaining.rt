@@ -6,13 +6,16 @@ use linda_explain::{LineSource, RecentLinesReader, explain};
 use linda_serve_plan::{ServePlan, StatusPlace};
 use std::fmt::Display;
 use std::fs::{self, OpenOptions};
-use std::io::{ErrorKind, IsTerminal, Read};
+use std::io::{Error, ErrorKind, IsTerminal, Read};
 use std::net::{Ipv4Addr, Net, SocketAddr, TcpListener, TcpStream};
 use std::os::unix::fs::MetadataExt;
 use std::os::unix::net::UnixStream;
 
 /// How many bytes the path of a unix socket has at most: some are added while it is made.
 const LONGEST_PATH: usize = 103;
+
+/// Why one place cannot be that of clients and that of the status.
+const FOR_BOTH: &str = "given for clients and for the status";
 
 /// Whether a second line is wanted: it was asked for, or standard error is a terminal.
 pub(crate) fn is_wanted(rt: &HostRuntime, is_asked: bool) -> bool {
@@ -92,8 +95,13 @@ fn tell_opened(rt: &HostRuntime, path: &str, is_written: bool) -> bool {
         .open(rt, path);
     match opened {
         Ok(_) => false,
-        Err(error) => tell(rt, path, error),
+        Err(error) => tell_file(rt, path, error),
     }
+}
+
+/// Says why a file cannot be opened; an empty path is shown as two quotes. Returns true.
+pub(crate) fn tell_file(rt: &HostRuntime, path: &str, error: Error) -> bool {
+    tell(rt, if path.is_empty() { "\"\"" } else { path }, error)
 }
 
 /// Says where a server cannot listen, and why: on the port, at the socket or for its status.
@@ -114,11 +122,20 @@ pub(crate) fn tell_listened<S: Net<Listener = TcpListener, Stream = TcpStream>>(
     }
     match &plan.status {
         Some(StatusPlace::Port(port)) => {
-            tell_bound(rt, net, *port);
+            if plan.port == Some(*port) {
+                tell(rt, *port, FOR_BOTH);
+            } else {
+                tell_bound(rt, net, *port);
+            }
         }
-        Some(StatusPlace::Path(path)) => {
-            tell_place(rt, path);
-        }
+        Some(StatusPlace::Path(path)) => match &plan.socket {
+            Some(socket) if socket.path == *path => {
+                tell(rt, path, FOR_BOTH);
+            }
+            _ => {
+                tell_place(rt, path);
+            }
+        },
         None => {}
     }
 }

@@ -6,7 +6,7 @@ ghost use Rattle.std.specs.Process.{exit_status};
 ghost use Rattle.linda.specs.Statuses.{status_after_script};
 
 use crate::end;
-use crate::explaining::{explain_line, is_wanted};
+use crate::explaining::{explain_line, is_wanted, tell_file};
 use crate::status::status_of_script;
 use linda_explain::{LineSource, RecentLinesReader};
 use linda_pipe::REFUSED;
@@ -35,12 +35,25 @@ pub(crate) fn run_traced(rt: &HostRuntime, servers: u32, file: &str, explain: bo
     requires few { servers ≤ MAX_SERVERS }
     ensures { (exit_status result ≡ 0) ⊎ ((exit_status result ≡ 3) ⊎ (exit_status result ≡ 4)) }
 {
-    let Ok(mut file) = File::create(rt, file) else {
-        return end(rt, "io", REFUSED);
+    let mut trace = match File::create(rt, file) {
+        Ok(trace) => trace,
+        Err(error) => {
+            let code = end(rt, "io", REFUSED);
+            if is_wanted(rt, explain) {
+                tell_file(rt, file, error);
+            }
+            return code;
+        }
     };
     let mut stdin = rt.stdin();
     let mut lines = RecentLinesReader::new(rt.alloc(), &mut stdin);
-    let ended = trace_script(rt.alloc(), &mut lines, &mut rt.stdout(), &mut file, servers);
+    let ended = trace_script(
+        rt.alloc(),
+        &mut lines,
+        &mut rt.stdout(),
+        &mut trace,
+        servers,
+    );
     let code = report_script_end(rt, ended);
     explain_script(rt, ended, &lines, explain);
     code
