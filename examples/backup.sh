@@ -2,7 +2,7 @@
 # Copies the store of a server that is at work, or of none: examples/backup.sh FOLDER COPY. COPY is a new folder, which nobody else may read.
 #
 # The copy opens with all that was answered before this began. It is made again if the server went over to its other bank meanwhile, which the first
-# 13 bytes of both files show: the gate and the generation of each bank (docs/FORMATS.md, "Banks"). It is made as COPY.part.XXXXXX, a folder that no other
+# 13 bytes of both files show: the gate and the generation of each bank (docs/PROTOCOL.md, "Banks"). It is made as COPY.part.XXXXXX, a folder that no other
 # backup has, and is COPY once both files are on the disk: a copy that cannot be finished is removed. If COPY is there by then, that is an error.
 set -eu
 umask 077

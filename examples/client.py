@@ -1,5 +1,5 @@
 #!/usr/bin/env python3
-"""A small client of a tuple space, over the frames of docs/FORMATS.md, with only Python's own library.
+"""A small client of a tuple space, over the frames of docs/PROTOCOL.md, with only Python's own library.
 
     examples/client.py demo                 starts linda pipe, puts, reads, takes and waits, and prints what came back
     examples/client.py demo PORT CLIENT     the same with a server that listens on this port of this machine, as a client that was never used

@@ -5,8 +5,9 @@
     examples/worker.py demo [JOBS]          starts a server in a new folder, puts the jobs (30), starts three workers, kills one of them and then the
                                             server with -9, starts both again, and counts: one result for each job, and no job left
 
-A worker keeps nothing on disk. When it starts again under its number it asks for the last reply that the server keeps for it: "taken" means that it had that job and
-put no result yet, so it goes on with it; "stored", that its last result is there. So each job has one result. The work itself may be begun twice, once before the
+A worker keeps nothing on disk. When it starts again under its number it asks for the last reply that the server keeps for it: a job that was taken has no result
+yet, so it goes on with it; "stored" says that its last result is there. So each job has one result, if nothing else uses the number while a job is unfinished. What
+another program did under it before that is passed over. The work itself may be begun twice, once before the
 kill and once after it; its result is put once. It does the same after an error, whatever was under way then.
 
 The demo starts the program that LINDA names; else `linda` on the PATH; else that of the folder around, a repository or an unpacked release.
@@ -54,7 +55,7 @@ def work_in(space):
     """Goes on with the job that it had, if it had one and put no result, and then takes one after another. If the server is gone for some seconds the library
     greets it again."""
     last = space.last_reply()
-    job = last.tuple[1] if last is not None and last.kind == "taken" else None
+    job = last.tuple[1] if last is not None and last.kind == "taken" and last.tuple[0] == "job" else None
     if job is not None:
         log(f"worker {space.client}: goes on with job {job}")
     while True:
@@ -85,6 +86,9 @@ def demo(jobs):
         with Space([port], 1, fresh=True) as boss:
             for job in range(jobs):
                 boss.out("job", job)
+            with Space([port], 12) as other:            # what this number took last is no job
+                other.out("other", 41)
+                other.take("other", 41)
             workers = {number: start(port, number) for number in (11, 12, 13)}
             time.sleep(0.3)
             log("worker 12 is killed, and started again")

@@ -1,4 +1,4 @@
-"""Reads the two banks of a folder into the state that is there, or into what is wrong at which place: docs/FORMATS.md, "Banks", in Python.
+"""Reads the two banks of a folder into the state that is there, or into what is wrong at which place: docs/PROTOCOL.md, "Banks", in Python.
 
 It is written only from the documents and shares nothing with the program, so that the two can be compared. It is no tool by itself.
 

@@ -1,7 +1,7 @@
 #!/usr/bin/env python3
 """Prints the figures of bench/RESULTS.md into the pages that have them, so that each figure comes from one place.
 
-    tools/figures.py                  writes the marked tables of docs/GUIDE.md and docs/OPERATING.md
+    tools/figures.py                  writes the marked tables of docs/OPERATING.md
     tools/figures.py --check          writes nothing, says which of them are others, and which file says another time for a build; ends with 1 if any
 
 A marked table is between the lines `<!-- figures: NAME -->` and `<!-- end of figures -->`. Its rows are rows of RESULTS.md, named here as they are named
@@ -32,23 +32,17 @@ def of_clients(count: str) -> Row:
 
 # The tables of each page: the head of each, and its rows.
 TABLES = {
-    "throughput": ("| clients | requests for each append and sync | latency in us: half, 99 in 100 |\n|---|---|---|", [of_clients(it) for it in ("1", "4", "16", "64", "256", "1,000")]),
-    "growth": ("| what | us |\n|---|---|", [
-        Row("take by first field among 1,000, 10,000, 100,000 tuples", "take by key, no open ask, among 1,000, 10,000, 100,000 tuples"),
-        Row("take any of a tag, the same", "take any of a tag, the same"),
-        Row("put for the last of 64, 4,096, 65,536 waits of other values", "put for the last of 64, 4,096, 65,536 asks with keys of their own"),
-    ]),
+    "throughput": ("| clients | requests for each append and sync | latency in us: half, 99 in 100 |\n|---|---|---|", [of_clients(it) for it in ("1", "16", "64", "1,000")]),
     "costs": ("| what | cost |\n|---|---|", [
         Row('a tuple `("job", i)`', "a tuple `(\"job\", i)`"),
         Row("a wait", "an open ask with a key of its own"),
         Row("a client that left; one that connected and went", "a client that left; one that connected and went"),
-        Row("an idle connection; with `--threads`", "an idle connection, of 10,000; threads"),
+        Row("an idle connection", "an idle connection, of 10,000; threads"),
         Row("a start with 1,000,000 of these tuples", "a start with 1,000,000 tuples"),
         Row("a snapshot of these: the longest pause; memory", "a snapshot of 1,000,000 tuples: the longest pause of 16 clients; memory"),
-        Row("100 and 1,000 clients in turn that put 280 tuples of 131 KB, take them and go", "100, 1,000 clients in turn: 280 tuples of 131 KB each, put and taken"),
     ]),
 }
-PAGES = {"docs/GUIDE.md": ("throughput", "growth"), "docs/OPERATING.md": ("costs",)}
+PAGES = {"docs/OPERATING.md": ("costs", "throughput")}
 # The builds, as RESULTS.md names them, and the files that say how long each takes.
 BUILDS = {
     "the first `./linda`": ("README.md", "CONTRIBUTING.md", "linda", "tools/quick"),
@@ -76,13 +70,11 @@ def figure_of(row: Row, table: str, known: dict[str, list[str]]) -> str:
     if row.named not in known:
         sys.exit(f"tools/figures.py: {RESULTS.name} has no row {row.named!r}")
     cells = known[row.named]
-    # The part before a semicolon: in a cell of throughput it is that of `linda serve`; its growth comes after a time, its threads after an idle connection.
+    # The part before a semicolon: in a cell of throughput it is that of `linda serve`; the threads come after an idle connection.
     first = [it.split(";")[0].strip() for it in cells]
     if table == "throughput":
         return " | ".join(first[:2])
-    if table == "growth":
-        return first[0].removesuffix(" us")
-    return "; ".join(first[:2]) if row.named.endswith("; threads") else cells[0]
+    return first[0] if row.named.endswith("; threads") else cells[0]
 
 
 def table_of(name: str, known: dict[str, list[str]]) -> str:

@@ -580,11 +580,9 @@ def a_status_without_files(play: Play) -> str:
 GROUPS: dict[str, tuple[Callable[[Play], str], ...]] = {
     "waits": (one_reader_of_large_tuples, readers_of_large_tuples, putters_of_large_tuples, asks_that_look_at_all, a_crowd_at_once),
     "ends": (leases_of_a_stopped_server, ends_of_those_who_never_read, a_server_that_is_down, a_log_that_nobody_reads, a_socket_of_another_server,
-             a_status_without_files),
+             a_status_without_files, a_folder_that_is_gone),
 }
 CHECKS: dict[str, Callable[[Play], str]] = {check.__name__: check for group in GROUPS.values() for check in group}
-# Those that take a minute and more.
-LONG: dict[str, Callable[[Play], str]] = {check.__name__: check for check in (a_folder_that_is_gone,)}
 
 
 def main() -> None:
@@ -594,17 +592,16 @@ def main() -> None:
     if sys.argv[1:2] == ["read_wide"]:
         read_wide(int(sys.argv[2]), int(sys.argv[3]))
         return
-    every = CHECKS | LONG
     parser = argparse.ArgumentParser(description=__doc__, formatter_class=argparse.RawDescriptionHelpFormatter)
     parser.add_argument("--program", type=Path, default=PROGRAM)
     parser.add_argument("--port", type=int, default=0)
-    parser.add_argument("names", nargs="*", choices=[[], *every, *GROUPS], metavar="NAME")
+    parser.add_argument("names", nargs="*", choices=[[], *CHECKS, *GROUPS], metavar="NAME")
     given = parser.parse_args()
     play, missed = Play(given.program, given.port), 0
     for name in [it for name in given.names or CHECKS for it in ([check.__name__ for check in GROUPS[name]] if name in GROUPS else [name])]:
         for left in reversed(range(TRIES)):
             try:
-                print(f"{name}: {every[name](play)}", flush=True)
+                print(f"{name}: {CHECKS[name](play)}", flush=True)
                 break
             except (Difference, OSError) as fault:
                 again = isinstance(fault, Late) and left > 0

@@ -2,7 +2,7 @@
 
 It is no tool by itself: tools/release --check uses it. The archive is unpacked into a new folder, and the package is installed, upgraded and removed
 below a folder in place of the system's. The commands of their pages are run as tools/docs runs those of the repository. If the machine lacks what a
-part needs (npm, namespaces, dpkg ..), the part is left out, which is printed.
+part needs (npm, namespaces, dpkg ..), the part is left out, which is printed; in CI that is a fault.
 """
 
 import base64
@@ -11,12 +11,14 @@ import os
 import re
 import shutil
 import subprocess
+import sys
 import tarfile
 import zipfile
 from concurrent.futures import ThreadPoolExecutor
 from pathlib import Path
 
 import blocks
+import confined
 import linked
 
 # A user's own root, with mounts that nobody else sees.
@@ -34,7 +36,7 @@ NEEDS = {
     "/usr/bin/python3 ": ["/usr/bin/python3", "--version"],
 }
 # The pages of a release as they are in the tree. Their commands are played in its archive.
-PAGES = ("CHANGELOG.md", "SECURITY.md", *(f"docs/{name}.md" for name in ("GUIDE", "COMMANDS", "OPERATING", "BEYOND", "FORMATS", "EVENTS")))
+PAGES = ("CHANGELOG.md", "SECURITY.md", *(f"docs/{name}.md" for name in ("GUIDE", "COMMANDS", "OPERATING", "PROTOCOL")))
 RELOAD = "systemctl --system daemon-reload"
 SERVERS = "linda.service linda@*.service linda-gate*.service"
 # The calls of each script of the package: its words, its calls if systemd is at work, and its calls if it is not.
@@ -100,6 +102,7 @@ class Installed:
         self.look_at_gate(top / "bin/linda_gate")
         self.look_at_links(top)
         self.look_at_units(top, top / "lib/systemd/system", "/usr/local/bin/linda", top / "README.md")
+        self.play_units(top / "lib/systemd/system", top / "packaging/beyond", top / "bin")
         network = blocks.network_of_its_own()
         self.left_out += [] if network else ["a network of their own for the commands of pages"]
         plain = {name: it for name, it in os.environ.items() if name not in ("LINDA", "PYTHONPATH")}
@@ -150,6 +153,17 @@ class Installed:
                 if run.returncode != 0 or (words == ["verify"] and run.stderr):
                     self.wrong.append(f"{unit.relative_to(top)}: systemd-analyze {words[0]}: {(run.stderr or run.stdout).splitlines()[-1]}")
 
+    def play_units(self, folder: Path, beyond: Path, programs: Path) -> None:
+        """A server of each unit is at work by its own lines, and so is the gate before one."""
+        if not is_possible(*confined.OWN, "true"):
+            self.left_out.append("what units do, for which namespaces of users are needed")
+            return
+        units = [*sorted(folder.glob("*.service")), beyond / "linda-gate.service"]
+        run = subprocess.run([*confined.OWN, sys.executable, confined.__file__, programs / "linda", programs / "linda_gate", *units], capture_output=True, text=True)
+        *wrong, last = [*run.stdout.splitlines(), *run.stderr.splitlines()] or [""]
+        if run.returncode != 0 or last != "8 conversations":
+            self.wrong += [f"of the release, {it}" for it in [*wrong, last]]
+
     def play(self, page: Path, top: Path, prefix: list[str], environment: dict[str, str]) -> None:
         name = f"of the release, {page.name}"
         self.wrong += [f"{name}:{it.line - 1}: {it.fault()}" for it in blocks.blocks(page) if it.fault()]
@@ -180,6 +194,7 @@ class Installed:
         doc = root / "usr/share/doc/cml-linda"
         self.look_at_links(doc)
         self.look_at_units(root, root / "usr/lib/systemd/system", "/usr/bin/linda", self.page_with_program(doc / "README.Debian"))
+        self.play_units(root / "usr/lib/systemd/system", doc / "packaging/beyond", root / "usr/bin")
         prefix = [*INSTALLED, str(root)]
         if is_possible(*prefix, "true"):
             self.play(doc / "README.Debian", doc, prefix, {name: it for name, it in os.environ.items() if name not in ("LINDA", "PYTHONPATH")})

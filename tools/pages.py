@@ -1,9 +1,8 @@
 #!/usr/bin/env python3
-"""Makes the man page and the completions of packaging/ from what `linda --help` and `linda CMD --help` print.
+"""Makes the man page and the completions of a release from what `linda --help` and `linda CMD --help` print.
 
-    tools/pages.py [FILE]             writes those of the program FILE (crates/linda/out/linda, if none is given) into packaging/
-    tools/pages.py --check [FILE]     writes nothing, says which of them are others, plays each line of the synopsis, and ends with 1 if there are any
-                                      or if the program takes what the synopsis does not have, or the other way round
+    tools/pages.py FOLDER [FILE]      writes those of the program FILE (crates/linda/out/linda, if none is given) into the folder
+    tools/pages.py --check [FILE]     plays each line of the synopsis, and ends with 1 if the program refuses one of them, or takes what it does not have
 
 The man page is packaging/linda.1.in, in which these lines are replaced: `@SYNOPSIS@`, of all commands; `@ABOUT CMD@`, the first line
 of a command's help; `@OPTIONS CMD@`, its arguments and options, and without CMD those of the program; `@EXAMPLES@`, what comes after the options of
@@ -23,24 +22,20 @@ PROVED = TOP / "crates/linda/out/linda"
 # Most used first, as in the manual.
 COMMANDS = ("serve", "call", "inspect", "run", "pipe")
 ROW = re.compile(r" +(?P<names>\S.*?)(?:  +(?P<help>\S.*))?")
-# The words that ask for the other form of a command, over unix sockets.
-SOCKET = ("--socket", "s")
-# Options that only the form over sockets has, and those that exclude one another.
+# Options that only a form with a unix socket has.
 ONLY_SOCKET = {"--socket", "--mode"}
-EXCLUDED = (("serve", "--lease", "--threads"), ("serve", "--socket", "--threads"), ("serve", "--mode", "--threads"))
 # Options that need another one, and values that the program takes.
 ASKS_FOR = {"--mode": "--socket", "--metric": "--status"}
 TAKEN = {"--mode": "600", "--dir": "/nonexistent/folder", "--trace": "/dev/null", "--metric": "tag", "--socket": "/nonexistent/s"}
-# The heading, in the help of a call, of the options that take the place of its ports.
-INSTEAD = "Instead of ports:"
-# The program's own option, which its parser does not know: a sentence of its help names it.
+# The program's own option, which its parser does not know: a sentence of its help names it. The other two words mean the same.
 VERSION = ("--version", "Print the version")
+VERSIONS = (VERSION[0], "-V", "version")
 # The parser's own command, whose arguments are the other commands.
 HELP = ("help", "Print the help of a command")
 
 
 class Row(NamedTuple):
-    """An option, `--port <P>`, or an argument, `<DIR>` or `<PORT>...`, with its help."""
+    """An option, `--port <P>`, or an argument, `<DIR>` or `[PORT]...`, with its help."""
 
     long: str
     short: str
@@ -51,7 +46,8 @@ class Row(NamedTuple):
         return self.value in ("D", "DIR")
 
     def is_file(self) -> bool:
-        return self.value in ("FILE", "PATH")
+        # (Q is a port, or the path of a unix socket)
+        return self.value in ("FILE", "PATH", "Q")
 
     def is_many(self) -> bool:
         """Whether it may be there more than once."""
@@ -72,28 +68,29 @@ def row_of(line: str) -> Row:
     found = ROW.fullmatch(line)
     if not found:
         sys.exit(f"tools/pages.py: a line of the help is not understood: {line!r}")
-    names, value = found["names"], re.search(r"<([A-Z]+)>", found["names"])
+    names, value = found["names"], re.search(r"[<[]([A-Z]+)[]>]", found["names"])
     long, short = re.search(r"--[a-z]+", names), re.search(r"(?<!-)-[a-z]\b", names)
     return Row(long.group() if long else "", short.group() if short else "", value.group(1) if value else "", found["help"] or "")
 
 
-def help_of(program: Path, command: str, *more: str) -> Help:
-    words = [program, *([command] if command else []), *more, "--help"]
-    text = subprocess.run(words, capture_output=True, text=True, check=True).stdout
+def help_of(program: Path, command: str) -> Help:
+    # (the help says the name by which the program is called)
+    words = ["linda", *([command] if command else []), "--help"]
+    text = subprocess.run(words, executable=program, capture_output=True, text=True, check=True).stdout
     about, _, rest = text.partition("\n\nUsage: ")
     usage, *parts = re.split(r"\n\n(?=[A-Z])", rest.strip("\n"))
     found: dict[str, tuple[str, ...]] = {}
     for at, part in enumerate(parts):
         head, *lines = part.splitlines()
-        if head in ("Commands:", "Arguments:", INSTEAD, "Options:"):
+        if head in ("Commands:", "Arguments:", "Options:"):
             found[head] = tuple(lines)
         else:
             found["after"] = tuple("\n\n".join(parts[at:]).splitlines())
             break
-    rows = {head: tuple(map(row_of, found.get(head, ()))) for head in ("Arguments:", INSTEAD, "Options:")}
+    rows = {head: tuple(map(row_of, found.get(head, ()))) for head in ("Arguments:", "Options:")}
     if not command and {line.split()[0] for line in found["Commands:"]} != {*COMMANDS, "help"}:
         sys.exit(f"tools/pages.py: the help has other commands than {', '.join(COMMANDS)}")
-    return Help(about.strip(), tuple(usage.strip().splitlines()), rows["Arguments:"], (*rows[INSTEAD], *rows["Options:"]), found.get("after", ()))
+    return Help(about.strip(), tuple(usage.strip().splitlines()), rows["Arguments:"], rows["Options:"], found.get("after", ()))
 
 
 # ---- the man page
@@ -112,20 +109,10 @@ class Form(NamedTuple):
     options: tuple[Row, ...]
 
 
-def form_of(name: str, it: Help, without: set[str]) -> Form:
-    words = [word for word in it.usage[0].split() if word not in ("linda", name, "[OPTIONS]")]
-    for row in it.options:
-        if row.is_many() and row.long in words:
-            words[words.index(row.long) + 1] += "..."
-    return Form(name, tuple(words), tuple(row for row in it.options if row.long not in {*words, *without, "--help"}))
-
-
-def forms_of(name: str, helps: dict[str, Help], sockets: dict[str, Help]) -> list[Form]:
-    """The forms of a command: the second one, if there is any, is the one over sockets."""
-    forms = [form_of(name, helps[name], ONLY_SOCKET if name in sockets else set())]
-    if name in sockets:
-        forms.append(form_of(name, sockets[name], {other for command, one, other in EXCLUDED if command == name and one == "--socket"}))
-    return forms
+def form_of(name: str, it: Help, usage: str) -> Form:
+    words = tuple(word for word in usage.split() if word not in ("linda", name, "[OPTIONS]"))
+    without = {*words, "--help", *(ONLY_SOCKET if "--socket" not in words else ())}
+    return Form(name, words, tuple(row for row in it.options if row.long not in without))
 
 
 def synopsis_of(form: Form) -> list[str]:
@@ -175,23 +162,13 @@ def misspelled(program: Path, forms: list[Form]) -> list[str]:
 
     for form in forms:
         words, rows = [form.command, *played_words(form)], {row.long: row for row in form.options}
-        excluding = {(one, other) for command, one, other in EXCLUDED if command == form.command}
         see(words, True)
         for row in form.options:
             asked = ASKS_FOR.get(row.long)
             see([*words, *(option_words(rows[asked]) if asked in rows else []), *option_words(row)], True)
             if asked in rows:
                 see([*words, *option_words(row)], False)
-        chosen: list[str] = []
-        for long in rows:
-            if not any((long, other) in excluding or (other, long) in excluding for other in chosen):
-                chosen.append(long)
-        see([*words, *(word for long in chosen for word in option_words(rows[long]))], True)
-        for one, other in excluding:
-            if other in rows and one in rows:
-                see([*words, *option_words(rows[one]), *option_words(rows[other])], False)
-        if "--socket" in form.words and form.command == "serve":
-            see([*words, "--threads"], False)
+        see([*words, *(word for row in form.options for word in option_words(row))], True)
         if form.command == "call":
             see([*words, *("--socket s".split() if "--socket" not in form.words else ["7000"])], False)
             see([*words, *("7001" if "--socket" not in form.words else "--socket s").split()], True)
@@ -201,6 +178,9 @@ def misspelled(program: Path, forms: list[Form]) -> list[str]:
     for name in COMMANDS:
         see([HELP[0], name], True)
     see([HELP[0], "nothing"], False)
+    for word in VERSIONS:
+        see([word], True)
+        see([word, "more"], False)
     return wrong
 
 
@@ -260,7 +240,7 @@ def bash_page(helps: dict[str, Help]) -> str:
         (folders if row.is_folder() else files if row.is_file() else others).append(row.long)
     cases = "".join(f"    {name}) options=\"{' '.join(row.long for row in helps[name].options)}\" ;;\n" for name in COMMANDS)
     cases += f"    {HELP[0]}) options=\"{' '.join(COMMANDS)}\" ;;\n"
-    top = " ".join((*COMMANDS, HELP[0], *(row.long for row in helps[""].options), VERSION[0]))
+    top = " ".join((*COMMANDS, HELP[0], *(row.long for row in helps[""].options), *VERSIONS))
     of_folder = [name for name in COMMANDS if any(row.is_folder() for row in helps[name].arguments)]
     return f"""# Completions of linda for bash, made by tools/pages.py.
 
@@ -315,10 +295,10 @@ def zsh_page(helps: dict[str, Help]) -> str:
         return " \\\n        ".join(["    _arguments", *words])
 
     commands = "".join(f"    {quoted(name + ':' + first_lower(helps[name].about).replace(':', chr(92) + ':'), '')}\n" for name in COMMANDS)
-    commands += f"    {quoted(HELP[0] + ':' + first_lower(HELP[1]), '')}\n"
+    commands += "".join(f"    {quoted(name + ':' + first_lower(told), '')}\n" for name, told in (HELP, (VERSIONS[-1], VERSION[1])))
     cases = "".join(f"{name})\n{rows_of(helps[name])}\n    ;;\n" for name in COMMANDS)
     cases += f"{HELP[0]})\n    _values command {' '.join(COMMANDS)}\n    ;;\n"
-    top = " ".join([*(row_in_zsh(row, False) for row in helps[""].options), f"'{VERSION[0]}[{first_lower(VERSION[1])}]'"])
+    top = " ".join([*(row_in_zsh(row, False) for row in helps[""].options), *(f"'{word}[{first_lower(VERSION[1])}]'" for word in VERSIONS[:-1])])
     return f"""#compdef linda
 # Completions of linda for zsh, made by tools/pages.py.
 
@@ -344,9 +324,10 @@ case $name in
 def fish_page(helps: dict[str, Help]) -> str:
     lines = ["# Completions of linda for fish, made by tools/pages.py.", "", "complete -c linda -f"]
     lines += [f"complete -c linda -n __fish_use_subcommand -a {name} -d {quoted(helps[name].about, chr(92))}" for name in COMMANDS]
-    lines.append(f"complete -c linda -n __fish_use_subcommand -a {HELP[0]} -d {quoted(HELP[1], chr(92))}")
-    top = [*((row.long, row.help) for row in helps[""].options), VERSION]
-    lines += [f"complete -c linda -n __fish_use_subcommand -l {long[2:]} -d {quoted(told, chr(92))}" for long, told in top]
+    for name, told in (HELP, (VERSIONS[-1], VERSION[1])):
+        lines.append(f"complete -c linda -n __fish_use_subcommand -a {name} -d {quoted(told, chr(92))}")
+    top = [*(("-l", row.long, row.help) for row in helps[""].options), ("-l", *VERSION), ("-s", VERSIONS[1], VERSION[1])]
+    lines += [f"complete -c linda -n __fish_use_subcommand {kind} {name.strip('-')} -d {quoted(told, chr(92))}" for kind, name, told in top]
     for name in COMMANDS:
         lines.append("")
         seen = f"complete -c linda -n '__fish_seen_subcommand_from {name}'"
@@ -358,14 +339,8 @@ def fish_page(helps: dict[str, Help]) -> str:
     return "\n".join(lines) + "\n"
 
 
-def with_options_of(it: Help, other: Help) -> Help:
-    """The help with the options that only the other one has."""
-    known = {row.long for row in it.options}
-    return it._replace(options=(*(row for row in other.options if row.long not in known), *it.options))
-
-
 class Made(NamedTuple):
-    """The pages of packaging/ that are made from the help, by their names, and the forms of the synopsis."""
+    """The pages that are made from the help, by their names, and the forms of the synopsis."""
 
     pages: dict[str, str]
     forms: list[Form]
@@ -373,34 +348,29 @@ class Made(NamedTuple):
 
 def made(program: Path) -> Made:
     helps = {name: help_of(program, name) for name in ("", *COMMANDS)}
-    sockets = {name: help_of(program, name, *SOCKET) for name in ("serve", "call")}
-    forms = [form for name in COMMANDS for form in forms_of(name, helps, sockets)]
-    # A call over sockets has a help of its own, since it takes no port.
-    helps["call"] = with_options_of(helps["call"], sockets["call"])
+    forms = [form_of(name, helps[name], usage) for name in COMMANDS for usage in helps[name].usage]
     pages = {"linda.1": man_page(helps, forms), "linda.bash": bash_page(helps), "_linda": zsh_page(helps), "linda.fish": fish_page(helps)}
     return Made(pages, forms)
-
-
-def differing(program: Path) -> list[str]:
-    """The files of packaging/ that are others, and the command lines for which the synopsis is wrong."""
-    it = made(program)
-    others = [f"packaging/{name}: not what tools/pages.py makes" for name, text in it.pages.items() if (FOLDER / name).read_text() != text]
-    return others + misspelled(program, it.forms)
 
 
 def main() -> None:
     options = argparse.ArgumentParser(description=__doc__, formatter_class=argparse.RawDescriptionHelpFormatter)
     options.add_argument("--check", action="store_true")
-    options.add_argument("file", nargs="?", default=PROVED, type=lambda it: Path(it).resolve())
+    options.add_argument("words", nargs="*", type=lambda it: Path(it).resolve(), metavar="FOLDER [FILE]")
     given = options.parse_args()
-    if not given.file.is_file():
-        sys.exit(f"tools/pages.py: there is no {given.file}")
+    folder = given.words[:0 if given.check else 1]
+    program = (given.words[len(folder):] or [PROVED])[0]
+    if len(given.words) > len(folder) + 1 or not (given.check or folder):
+        options.error("FOLDER [FILE], or --check [FILE]")
+    if not program.is_file():
+        sys.exit(f"tools/pages.py: there is no {program}")
+    it = made(program)
     if given.check:
-        wrong = differing(given.file)
-        print("\n".join([*wrong, f"{len(wrong)} pages or command lines are others"]))
+        wrong = misspelled(program, it.forms)
+        print("\n".join([*wrong, f"{len(wrong)} command lines are others than the synopsis says"]))
         sys.exit(1 if wrong else 0)
-    for name, text in made(given.file).pages.items():
-        (FOLDER / name).write_text(text)
+    for name, text in it.pages.items():
+        (folder[0] / name).write_text(text)
 
 
 if __name__ == "__main__":

@@ -1,4 +1,4 @@
-"""The steps of a trace (docs/COMMANDS.md, "Traces"), and the page that shows them one after another.
+"""The steps of a trace (docs/PROTOCOL.md, "Traces"), and the page that shows them one after another.
 
 It is no tool by itself: `tools/picture --page` writes the page, and tools/trace compares its steps with the model. A step is what a line of the trace
 says, with what changes by it: a change is a place, a key there, and its new value, or None if the key is gone. The places are

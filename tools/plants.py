@@ -18,7 +18,9 @@ import tempfile
 import time
 from concurrent.futures import ThreadPoolExecutor
 from pathlib import Path
-from typing import NamedTuple
+
+import planted
+from planting import BUILDING, HEAD, Plant, edit
 
 TOP = Path(__file__).resolve().parent.parent
 NET, SERVE = "crates/linda_net", "crates/linda_serve/src/serving"
@@ -27,50 +29,16 @@ SOCKETS, COUNTS, RATIOS, SIMULATE = "tools/sockets", "tools/counts", "tools/rati
 ALL = "for key in 0..self.connections.capacity() {\n            if let Some(connection) = self.connections.get_mut(key) {\n                "
 SOME = ALL.replace("capacity()", "len()")
 # What plays tests that it builds: of files as disks, and of servers and sessions with each allocation refused.
-FILES, REFUSED = "tools/tests linda_test_code_libraries disk::file", "tools/refused-growth quick"
+FILES, REFUSED, IN_ONE = f"{BUILDING[0]} linda_test_code_libraries files", *BUILDING[1:]
 FILE_DISK, DEVICE = "crates/linda_disk/src/file_disk.rt", "tools/device"
 KNOWN = FILE_DISK.replace("file_disk", "file_state")
-# A run in one process builds its program itself: a minute or two for each plant.
-IN_ONE = "tools/simulate 60 --inside 1"
 INSIDE = ("inside", IN_ONE, "DIFFERS")
 CLIENTS = ("inside", f"{IN_ONE} --clients", "DIFFERS")
 
 
-class Plant(NamedTuple):
-    """`edits`: a file, its text, which is there once, and what it becomes; or the calls of the system that are preloaded, in C."""
-
-    name: str
-    part: str
-    command: str
-    says: str
-    edits: tuple[tuple[str, str, str], ...] | str
-    build: str = ""
-
-    def is_dear(self) -> bool:
-        """Whether something is built for it, which takes a minute or more."""
-        return bool(self.build) or self.command.startswith(("tools/tests", REFUSED, IN_ONE))
-
-
-def edit(name: str, part: str, command: str, says: str, *edits: str, build: str = "") -> Plant:
-    """A plant in files: of each its name, old text and new text."""
-    return Plant(name, part, command, says, tuple(zip(edits[::3], edits[1::3], edits[2::3])), build)
-
-
-# What preloaded calls are made of.
-HEAD = """#define _GNU_SOURCE
-#include <dlfcn.h>
-#include <netinet/in.h>
-#include <netinet/tcp.h>
-#include <string.h>
-#include <sys/socket.h>
-#include <sys/types.h>
-#include <time.h>
-#include <unistd.h>
-#define NEXT(name) ((typeof(&name))dlsym(RTLD_NEXT, #name))
-"""
 WRITE = "ssize_t pwrite64(int file, const void *data, size_t size, off_t at) { %s return NEXT(pwrite64)(file, data, size, at); }"
 # Each name of a call that the program may use.
-TWICE = {"pwrite64": "pwrite", "ftruncate64": "ftruncate", "open64": "open"}
+TWICE = {"pwrite64": "pwrite", "pread64": "pread", "ftruncate64": "ftruncate", "open64": "open"}
 
 PLANTS = [
     # ---- one process, by a seed
@@ -85,11 +53,11 @@ PLANTS = [
          "        let held = self.holds.of_client(alloc, client)?;\n", "        let mut held = self.holds.of_client(alloc, client)?;\n        let _ = held.pop();\n"),
     edit("a snapshot in steps misses what is done meanwhile", *INSIDE, "crates/linda_server/src/next.rt",
          "match writer.buffer_deeds(alloc, deeds) {", "match writer.buffer_deeds(alloc, &deeds[..0]) {"),
-    edit("a lease runs although its client speaks", *INSIDE, f"{NET}_loops/src/connection.rt",
+    edit("a lease runs although its client speaks", *INSIDE, f"{NET}_loops/src/connection/wire.rt",
          "                self.silence.end();\n                return ConnectionEvent::Message", "                return ConnectionEvent::Message"),
     edit("a connection that can be written again is not looked at", *INSIDE, f"{NET}_loops/src/sessions.rt",
          "is_writable && connection.has_unsent()", "is_writable && !connection.has_unsent()"),
-    edit("the end of a connection is not read after its last bytes", *INSIDE, f"{NET}_loops/src/connection.rt",
+    edit("the end of a connection is not read after its last bytes", *INSIDE, f"{NET}_loops/src/connection/wire.rt",
          "self.may_read = self.is_shut || len == buffer.len();", "self.may_read = len == buffer.len();"),
     edit("an account that leaves does not come back", *INSIDE, "crates/linda_shared_held/src/held/leave.rt",
          "    put_back(accounts, recall, account);\n    answer", "    let _ = (accounts, recall, account);\n    answer"),
@@ -103,6 +71,17 @@ PLANTS = [
          "pending.commit(alloc, self.servers(), pending.spared(), ask.base, got)?", "pending.commit(alloc, 0, pending.spared(), ask.base, got)?"),
     edit("a client accepts a second offer beside the first", *CLIENTS, "crates/linda_client/src/client/receive.rt",
          "if pending.accepted().is_some() {\n            return self.keep", "if pending.accepted().is_some() && !ask.remove {\n            return self.keep"),
+    # ---- what requests and waits cost
+    Plant("each sync is made twice", "costs", "tools/costs calls_of_requests", "calls fdatasync",
+          "int fdatasync(int file) { return NEXT(fdatasync)(file) == 0 ? NEXT(fdatasync)(file) : -1; }"),
+    edit("a client of Python that waits is a busy loop", "costs", "tools/costs processor_while_waiting", "python took", f"{PYTHON}/linda_space/space.py",
+         "awaited = selectors.EVENT_READ | (selectors.EVENT_WRITE if link.left else 0)", "awaited = selectors.EVENT_READ | selectors.EVENT_WRITE"),
+    edit("a call that waits looks each millisecond", "costs", "tools/costs processor_while_waiting", "call took", "crates/linda_call/src/calling/caller.rt",
+         "let pause = pause_until(self.ticks(rt)?, alarm);", "let pause = pause_until(self.ticks(rt)?, alarm).min(1);", build="edge"),
+    # ---- who answers
+    edit("HAProxy of a client takes any server of the authority", "beyond", "tools/beyond names", "HAProxy takes a server", "packaging/beyond/haproxy-client.cfg",
+         " verifyhost linda", ""),
+    edit("stunnel takes any server of the authority", "beyond", "tools/beyond names", "stunnel takes a server", "packaging/beyond/stunnel.conf", "checkHost = linda\n", ""),
     # ---- the disk
     Plant("a sync that failed is tried again, and believed", "simulate", SIMULATE, "seed",
           "int fdatasync(int file) { return NEXT(fdatasync)(file) == 0 ? 0 : NEXT(fdatasync)(file); }"),
@@ -148,15 +127,15 @@ PLANTS = [
     edit("nothing is read of a file", "rt ci", FILES, "a_file_has_what_was_written_when_it_is_opened_again ... FAILED", KNOWN,
          "    match file.read_exact_at(&mut piece, at as u64) {\n        Ok(()) => Ok(piece),\n        Err(_) => Err(DiskFault::Device),\n    }\n", "    let _ = (file, at);\n    Ok(piece)\n"),
     # ---- memory that is refused
-    edit("a tuple that could not be put aside is taken", "refused growths, tests", f"{REFUSED} durable", "gives_the_next_bank_up_or_loses_nothing: growth",
+    edit("a tuple that could not be put aside is taken", "refused growths, tests", f"{REFUSED} durable", "server faults: growth",
          "crates/linda_snap/src/snapshot_encoder.rt", "        let copy = tuple.try_clone(alloc)?;\n        self.aside.insert(id, copy)?;\n        Ok(())\n",
          "        if let Ok(copy) = tuple.try_clone(alloc) {\n            let _ = self.aside.insert(id, copy).is_ok();\n        }\n        Ok(())\n"),
-    edit("deeds that could not be noted are taken for noted", "refused growths, tests", f"{REFUSED} durable", "gives_the_next_bank_up_or_loses_nothing: growth",
+    edit("deeds that could not be noted are taken for noted", "refused growths, tests", f"{REFUSED} durable", "server faults: growth",
          "crates/linda_snap/src/bank_writer.rt", "        self.since.extend(&bytes)?;\n", "        let _ = self.since.extend(&bytes).is_ok();\n"),
-    edit("records that could not be spelled are taken for written", "refused growths, tests", f"{REFUSED} durable", "want_of_memory_.*: growth",
+    edit("records that could not be spelled are taken for written", "refused growths, tests", f"{REFUSED} durable", "server faults: growth",
          "crates/linda_journal/src/bank.rt", "        let bytes = spell_all(alloc, self.form, deeds, len)?;\n",
          "        let Ok(bytes) = spell_all(alloc, self.form, deeds, len) else {\n            return Ok(());\n        };\n"),
-    edit("a server goes on after a snapshot that could not begin", "refused growths, tests", f"{REFUSED} durable", "gives_the_next_bank_up_or_loses_nothing: growth",
+    edit("a server goes on after a snapshot that could not begin", "refused growths, tests", f"{REFUSED} durable", "server faults: growth",
          "crates/linda_server/src/durable/steps.rt", "                if fault == ServeFault::Full {\n", "                if fault != ServeFault::Disk {\n"),
     edit("a server goes on after a step that failed", "refused growths, tests", f"{REFUSED} sessions snapshots", "a_snapshot_in_steps_ends_or_is_given_up: growth",
          "crates/linda_server/src/durable/steps.rt", "                Ok(None) => Ok(Progress::Done),\n                Err(fault) => {\n"
@@ -175,7 +154,7 @@ PLANTS = [
     edit("a busy loop while no file is left", "counts", f"{COUNTS} processor_at_rest", r"a server at its limit of files \(loops\) took",
          f"{NET}_marks/src/bounds.rt", "ACCEPT_PAUSE: u64 = 10;", "ACCEPT_PAUSE: u64 = 0;", build="one"),
     edit("a call waits busily", "counts", f"{COUNTS} processor_at_rest", "a call that waits took",
-         "crates/linda_net_proxy/src/inbox.rt", "Duration::from_millis(1),", "Duration::from_millis(0),", build="one"),
+         "crates/linda_net_proxy/src/inbox.rt", "Duration::from_millis(pause),", "Duration::from_millis(0),", build="one"),
     edit("an idle connection keeps the room of its largest reply", "counts", f"{COUNTS} memory_of_idle_connections", "idle connections, each sent 131 KB",
          "crates/linda_net_session/src/outgoing.rt", "if left == 0 && self.out", "if self.gone > 0 && self.out", build="one"),
     edit("the bank that was read stays in memory", "counts", f"{COUNTS} memory_after_a_start", "after a start over",
@@ -245,7 +224,7 @@ PLANTS = [
     edit("notices are looked for once a second", "device", f"{DEVICE} others_have_the_server_between_steps", "what is looked for is late",
          f"{NET}_watch/src/watcher.rt", "        thread::sleep(rt, look());\n    }", "        thread::sleep(rt, std::time::Duration::from_millis(1_000));\n    }", build="one"),
     edit("alarms of a call come up to 50 ms late", "ratios", f"{RATIOS} alarms_of_a_call", "FAILED",
-         "crates/linda_net_proxy/src/inbox.rt", "Duration::from_millis(1),", "Duration::from_millis(50),", build="two"),
+         "crates/linda_net_proxy/src/inbox.rt", "Duration::from_millis(pause),", "Duration::from_millis(pause + 50),", build="two"),
     edit("each put is spelled a hundred times", "instructions", "bench/instructions", "instructions a put",
          "crates/linda_net_session/src/outgoing.rt", "        encode_reply(&mut self.out, reply)\n",
          "        for _ in 0..100 {\n            let mut spare = Vec::new(self.alloc);\n            let _ = encode_reply(&mut spare, reply);\n        }\n"
@@ -281,6 +260,9 @@ PLANTS = [
     edit("Python keeps all outcomes", "counts", f"{COUNTS} memory_of_python", "FAILED",
          f"{PYTHON}/linda_space/machine.py", "        outcome = self.outcome(sync, base, kind, got, value)\n",
          "        outcome = self.outcome(sync, base, kind, got, value)\n        self.__dict__.setdefault('kept', []).append(outcome)\n"),
+    edit("a call of Python looks ten times whose space it is", "counts", f"{COUNTS} functions_of_python", "FAILED",
+         f"{PYTHON}/linda_space/space.py", "        self._be_mine()\n        return self._drive(",
+         "        for _ in range(10):\n            self._be_mine()\n        return self._drive("),
     edit("Node.js does not ask for a hold again after its server was away", "node", f"{NODE}/test_linda_space.mjs", "✖ each call that waits",
          f"{NODE}/lib/machine.mjs", "this.unanswered().filter(([other]) => other === server)", "this.unanswered().filter(([other]) => other === server && !this.task?.isHold)"),
     edit("a call of Node.js takes 5 ms more", "ratios, node", f"{RATIOS} calls_of_node", "FAILED",
@@ -302,16 +284,28 @@ PLANTS = [
          "        return Result(part, status == 0, seconds,", "        return Result(part, not status, seconds,"),
     # ---- pages and packages
     # (the parts of the old texts are apart here, so that each is in this file once)
+    edit("a crate has a line more", "words", "tools/words", "linda_book: .* lines of code, and .* at most", "crates/linda_book/src/class.rt",
+         "        Class::Fresh\n", "        let fresh = Class::Fresh;\n        fresh\n"),
+    edit("the bound of a crate is raised without a reason", "words", "tools/words --write", "CHANGELOG.md has no line `- Larger: linda_book", "crates/linda_book/src/class.rt",
+         "        Class::Fresh\n", "        let fresh = Class::Fresh;\n        fresh\n"),
+    edit("a README does not say what its crate is for", "words", "tools/words", "linda_book/README.md: its first line is not one sentence",
+         "crates/linda_book/README.md", "and the reply to it.\n", "and the reply to it:\n"),
+    edit("a README names what is nowhere", "promises", "tools/promises --check", "nothing is named Book::keep_everything", "crates/linda_book/README.md",
+         "`Book::keep`", "`Book::keep_everything`"),
     edit("a plant of a file that moved", "links", "tools/links", "has its old text 0 times", "tools/plants.py", '"crates/linda_disk/' 'src/file_state.rt"', '"crates/linda_disk/src/once.rt"'),
     edit("a mutant of a text that changed", "links", "tools/links", "audit/linda/.*has its old text 0 times", "crates/linda/src/main.rt",
          "Err(fault) => end(rt, fault, fault.status()),", "Err(fault) => end(rt, fault, { fault.status() }),"),
+    edit("a byte of the session on the page is another", "vectors", "tools/vectors", "digits of the file that docs/PROTOCOL.md has not", "docs/PROTOCOL.md",
+         "`03` `0000000000000001` `01` `020001610104` | Ask", "`03` `0000000000000001` `00` `020001610104` | Ask"),
+    edit("a page that may have more words than at the last release", "words", "tools/words", "NOTES.md: it may have 3,100", "tools/words",
+         '"docs/NOTES.md": 1_850', '"docs/NOTES.md": 3_100'),
     edit("a snapshot after 2,048 records", "said", "tools/said", "2,048", "docs/OPERATING.md", "by itself: after 1,024 records, or 32 MiB", "by itself: after 2,048 records, or 64 MiB"),
-    edit("an option that is not there in a synopsis", "said", "tools/said", "--loops", "docs/COMMANDS.md", "[--log] [--lease S] [--threads]", "[--log] [--loops N] [--lease S] [--threads]"),
+    edit("an option that is not there in a synopsis", "said", "tools/said", "--loops", "docs/COMMANDS.md", "[--log] [--lease S] [--socket PATH", "[--log] [--loops N] [--lease S] [--socket PATH"),
     edit("a status is another", "said", "tools/said", "damaged left O` has status 4", "docs/COMMANDS.md", "| 3 | `store: damaged left O`", "| 4 | `store: damaged left O`"),
     edit("a line is another", "said", "tools/said", "store: locked", "docs/COMMANDS.md", "| 3 | `store: in use` |", "| 3 | `store: locked` |"),
     edit("a default is another", "said", "tools/said", "660", "docs/COMMANDS.md", "its mode is 600, or MODE", "its mode is 660, or MODE"),
     edit("a lease is a second longer at most", "said", "tools/said", "after S to S", "docs/COMMANDS.md", "S + 3 seconds, and what", "S + 1 seconds, and what"),
-    edit("a code of the page is another", "said", "tools/said", "Malformed", "docs/FORMATS.md", "| 9 | Malformed |", "| 8 | Malformed |"),
+    edit("a code of the page is another", "said", "tools/said", "Malformed", "docs/PROTOCOL.md", "| 9 | Malformed |", "| 8 | Malformed |"),
     edit("a unit starts the program with an option that is not there", "release", "tools/release --check", "has no --loops", "packaging/linda.service", "serve --dir", "serve --loops 2 --dir"),
     edit("a unit does not restart", "said", "tools/said", "on-abnormal, and", "packaging/linda.service", "Restart=on-abnormal", "Restart=no"),
     edit("no completion for fish in the package", "release", "tools/release --check", "a release has not package .*linda.fish", "tools/release",
@@ -319,6 +313,7 @@ PLANTS = [
     edit("the program of the package may not be run", "release", "tools/release --check", "usr/bin/linda ends with", "tools/release",
          'Entry("usr/bin/linda", program.read_bytes(), True)', 'Entry("usr/bin/linda", program.read_bytes(), False)'),
     edit("the package makes no user", "release", "tools/release --check", "and it makes nobody", "tools/release", """SYSUSERS = 'u linda - "CML-Linda" /var/lib/linda\\n'""", "SYSUSERS = '# none\\n'"),
+    *planted.PLANTS,
 ]
 
 
@@ -328,7 +323,7 @@ def misplaced() -> list[str]:
     for plant in PLANTS:
         command = plant.command.split()[0]
         if not (TOP / command).is_file() and not (TOP / f"{command}.c").is_file():
-            wrong.append(f"tools/plants.py: {plant.name}: there is no {command}")
+            wrong.append(f"plant `{plant.name}`: there is no {command}")
         if not plant.build:
             texts = {it: text for it, text in texts.items() if it[0]}
         for name, old, new in () if isinstance(plant.edits, str) else plant.edits:
@@ -336,7 +331,7 @@ def misplaced() -> list[str]:
             if at not in texts:
                 texts[at] = (TOP / name).read_text() if (TOP / name).is_file() else ""
             if (count := texts[at].count(old)) != 1:
-                wrong.append(f"tools/plants.py: {plant.name}: {name} has its old text {count} times: {old.strip().splitlines()[0]}")
+                wrong.append(f"plant `{plant.name}`: {name} has its old text {count} times: {old.strip().splitlines()[0]}")
             texts[at] = texts[at].replace(old, new)
     return wrong
 
@@ -385,7 +380,7 @@ def preload(place: Path, calls: str) -> None:
     for long, short in TWICE.items():
         if f" {long}(" in calls:
             calls += f'\n__typeof__({long}) {short} __attribute__((alias("{long}")));'
-    source.write_text(f"{HEAD}#include <fcntl.h>\n{calls}\n")
+    source.write_text(f"{HEAD}{calls}\n")
     said("cc", "-shared", "-fPIC", "-O1", "-o", library, source, "-ldl")
     program.rename(program.with_name("linda.real"))
     program.write_text(f'#!/bin/sh\nLD_PRELOAD="{library}${{LD_PRELOAD:+:$LD_PRELOAD}}" exec "{program}.real" "$@"\n')

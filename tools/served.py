@@ -1,6 +1,6 @@
 """What the tools that play with `linda serve` share: a server as a process, a connection that speaks frames, and what a process uses.
 
-It is no tool by itself. Frames are those of examples/client.py, which is written only from docs/FORMATS.md.
+It is no tool by itself. Frames are those of examples/client.py, which is written only from docs/PROTOCOL.md.
 """
 
 from __future__ import annotations

@@ -1,4 +1,4 @@
-"""Reads the trace of a run (docs/COMMANDS.md, "Traces"), for the tools that show it.
+"""Reads the trace of a run (docs/PROTOCOL.md, "Traces"), for the tools that show it.
 
 It is no tool by itself: tools/picture draws what `Reader` reads, as one picture or as a page of steps.
 """

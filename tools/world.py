@@ -1,4 +1,4 @@
-"""A model of `linda run`: which lines a script prints, by docs/FORMATS.md ("What a server answers"), docs/EVENTS.md and docs/COMMANDS.md.
+"""A model of `linda run`: which lines a script prints, by docs/PROTOCOL.md and docs/COMMANDS.md.
 
 It is written only from the documents, as plainly as they are, and shares nothing with the program, so that the two can be compared. It is no tool by itself.
 A script is a list of commands, each a tuple of a word and what belongs to it: out, sync, abandon, leave, tick, snapshot, stop, repeat, state. Tuples are Python

@@ -1,4 +1,4 @@
-// A load driver for `linda serve`, built by run.py with cc. It speaks frames as docs/FORMATS.md defines them, over
+// A load driver for `linda serve`, built by run.py with cc. It speaks frames as docs/PROTOCOL.md defines them, over
 // connections of one thread.
 //
 //     drive sync FILE SECONDS                          appends 64 bytes and syncs the data, over and over

@@ -4,14 +4,13 @@
     bench/serve/run.py [ROUNDS] [SECONDS]     rounds (3) over all cells, SECONDS seconds each (1)
         --program 'FILE [WORD..]'   the program, and further words for its `serve`; ./linda if none is given.
                                     Each further one is a further column
-        --against                   each program once more, with --threads
         --beside redis              Redis as a further column, if redis-server is here: it appends each write to its
                                     log and syncs that before it answers (`appendfsync always`). A put is RPUSH, a
                                     take LPOP, and a client that waits says BLPOP. Only loads and idle connections are played
         --only TEXT                 the cells with this text in their names, and those of each further one
         --realtime                  all in a real-time class
 
-The driver, drive.c, is built with cc; it speaks frames over sockets as docs/FORMATS.md defines them, from one thread. The
+The driver, drive.c, is built with cc; it speaks frames over sockets as docs/PROTOCOL.md defines them, from one thread. The
 stores lie in new folders below this repository, so on its disk, and each cell has a new server. In a round each cell is
 measured with each program in turn; in the next round the programs come in the other order. Before and after each cell a
 plain loop appends 64 bytes and syncs them, on the same disk.
@@ -33,7 +32,7 @@ The other cells, with each program:
 - Idle connections, which are greeted and do nothing, in the first round: the server's memory (PSS) with and without
   them, and its threads. What the kernel has for sockets and threads is not counted.
 - A start with 1,000,000 tuples `("job", i)` in a snapshot, which the system still has in memory: the time until
-  `ready`, and the most memory in use. `tools/large` measures large tuples, `bench/durable` an opening without a server.
+  `ready`, and the most memory in use. `tools/large` measures large tuples.
 - A snapshot of 1,000,000 such tuples while 16 clients put: the greatest time between two acknowledgements of any
   clients, and the time that the log says. Then the same with replies that are kept for 60,000 clients more, while another
   process asks for `/tags` each second.
@@ -368,13 +367,11 @@ TABLES: list[tuple[str, str, Callable[[Found], str]]] = [
 ]
 
 
-def ways_of(programs: list[str], is_against: bool, beside: list[str]) -> list[Way]:
+def ways_of(programs: list[str], beside: list[str]) -> list[Way]:
     ways = [Way(REDIS, Path(redis.PROGRAM), ())] if beside else []
     for text in programs or [os.path.relpath(PROGRAM)]:
         name, *words = text.split()
         ways.append(Way(text, Path(name).resolve(), tuple(words)))
-        if is_against:
-            ways.append(Way(f"{text} --threads", Path(name).resolve(), (*words, "--threads")))
     return ways
 
 
@@ -393,14 +390,13 @@ def main() -> int:
     options.add_argument("rounds", type=int, nargs="?", default=3)
     options.add_argument("seconds", type=float, nargs="?", default=1.0)
     options.add_argument("--program", action="append", default=[])
-    options.add_argument("--against", action="store_true")
     options.add_argument("--beside", action="append", choices=[REDIS], default=[])
     options.add_argument("--only", action="append", default=[])
     options.add_argument("--realtime", action="store_true")
     given = options.parse_args()
     if given.beside and not redis.is_here():
         options.error(f"there is no {redis.PROGRAM}")
-    ways = ways_of(given.program, given.against, given.beside)
+    ways = ways_of(given.program, given.beside)
     names = [name for name in (*LOADS, *IDLE, START, PAUSE, CROWD) if any(text in name for text in given.only or [""])]
     if given.rounds < 1 or given.seconds < 0.05 or not names:
         options.error("no round, no slice of 50 ms, or no cell")

@@ -1,5 +1,5 @@
 /*
- * The frames of a tuple space, version 2 of docs/FORMATS.md: messages and replies as bytes, and back. C99, one header,
+ * The frames of a tuple space, version 2 of docs/PROTOCOL.md: messages and replies as bytes, and back. C99, one header,
  * no allocation; nothing is read or written outside of what it is given.
  *
  *     linda_frame ask = {.kind = LINDA_ASK, .ticket = 1, .flag = true, .items = {.count = 2}};
@@ -16,7 +16,7 @@
  *     default:             // no frame; what comes after it is none either
  *     }
  *
- * It sends nothing and waits for nothing: docs/EVENTS.md says what a client does.
+ * It sends nothing and waits for nothing: docs/PROTOCOL.md says what a client does.
  */
 #ifndef LINDA_H
 #define LINDA_H
@@ -231,7 +231,7 @@ typedef enum {
     LINDA_MORE,             /* the bytes end inside a frame that may be one */
     LINDA_EMPTY_FRAME,      /* the length is 0 */
     LINDA_FRAME_TOO_LONG,   /* the length is above LINDA_MOST_LENGTH */
-    LINDA_MALFORMED         /* the whole frame is there, and is none; the offset is that of docs/FORMATS.md */
+    LINDA_MALFORMED         /* the whole frame is there, and is none; the offset is that of docs/PROTOCOL.md */
 } linda_status;
 
 /* ---- writing */

@@ -276,6 +276,11 @@ static void hold_limits(void)
         !linda_matches(&out.items, &read.items)) {
         fail("not read", "the longest frame");
     }
+    for (size_t at = 0; at < 33; at++) {
+        linda_frame other = out;
+        other.items.item[at] = linda_bytes(text, LINDA_MOST_TEXT - 1);
+        if (linda_matches(&other.items, &out.items)) fail("matches", "a template with another item");
+    }
     linda_frame wrong_out = out;
     wrong_out.items.item[7] = linda_bytes(text, LINDA_MOST_TEXT + 1);
     refuses("a text of 4,096 bytes", &wrong_out);

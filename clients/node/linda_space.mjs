@@ -16,10 +16,10 @@
  * A value is an integer of 64 bits with a sign, a string of at most 4,095 bytes of UTF-8, or a boolean. An integer is a
  * number if it is a safe one, else a bigint: so `===` compares the values of tuples. Both are taken. A tuple is an
  * array: a value, its tag, and at most 32 more, its fields. A pattern is a value, which fits itself (true is not 1), or
- * a formal: INT, TEXT and BOOL fit each value of their kind, ANY each value. A template is a tag and at most 32
- * patterns. `pack` makes fields of a JSON value, `unpack` a JSON value of fields. All times are in milliseconds.
+ * a formal: INT, TEXT and BOOL fit each value of their kind, ANY each value; TRIES is for the jobs of `work`. A template
+ * is a tag and at most 32 patterns. `pack` makes fields of a JSON value, `unpack` a JSON value of fields. All times are in milliseconds.
  *
- * It sends version 2 of docs/FORMATS.md, and waits as docs/EVENTS.md says. The calls of a `Space` are made one after
+ * It sends version 2 of the frames, and waits, as docs/PROTOCOL.md says. The calls of a `Space` are made one after
  * another; a `Pool` makes them at once. Nothing that it does needs attention between two calls, and it keeps no program
  * alive that is not in a call.
  */
@@ -34,7 +34,7 @@ export { pack, unpack } from './lib/packed.mjs';
 export { Pool } from './lib/pool.mjs';
 export { Kept, Offer, Outcome, Stored } from './lib/results.mjs';
 export { Space } from './lib/space.mjs';
-export { ANY, BOOL, INT, PACKED, range, TEXT } from './lib/values.mjs';
+export { ANY, BOOL, INT, PACKED, range, TEXT, TRIES } from './lib/values.mjs';
 
 /** @typedef {import('./lib/values.mjs').Value} Value */
 /** @typedef {import('./lib/values.mjs').Pattern} Pattern */

@@ -13,7 +13,9 @@ import assert from 'node:assert/strict';
 import { spawn, spawnSync } from 'node:child_process';
 import { createHash } from 'node:crypto';
 import { once } from 'node:events';
-import { cpSync, mkdirSync, mkdtempSync, readdirSync, readFileSync, readlinkSync, realpathSync, rmSync, symlinkSync, writeFileSync } from 'node:fs';
+import {
+    cpSync, existsSync, mkdirSync, mkdtempSync, readdirSync, readFileSync, readlinkSync, realpathSync, rmSync, symlinkSync, writeFileSync,
+} from 'node:fs';
 import { open } from 'node:fs/promises';
 import http from 'node:http';
 import net from 'node:net';
@@ -27,7 +29,7 @@ import { fileURLToPath, pathToFileURL } from 'node:url';
 import {
     Aborted, Alarm, Always, ANY, BadReply, BOOL, Busy, Choose, Closed, frames, Gone, Idle, In, INT, Kept, Left, Nack,
     Never, NoConnection, NoNumber, NumberInUse, Outcome, OutOfRange, pack, PACKED, Pool, range, Rd, Refused, Restored,
-    Space, SpaceError, Stored, TEXT, TimedOut, unpack, Wrap,
+    Space, SpaceError, Stored, TEXT, TimedOut, TRIES, unpack, Wrap,
 } from './linda_space.mjs';
 import { keyOfPorts } from './lib/locks.mjs';
 
@@ -39,6 +41,9 @@ const LONG = 60_000;
 const PIPED = { stdio: ['ignore', 'pipe', 'inherit'] };
 const SHORT = { patience: 1_500 };
 const MOST_CLIENTS = 65_536;
+/** What programs and spaces of the tests keep of their numbers. */
+const STATE = process.env.LINDA_STATE = mkdtempSync(path.join(tmpdir(), 'linda-'));
+process.on('exit', () => rmSync(STATE, { recursive: true }));
 
 // ---- servers of the program, and connections that are made by hand
 
@@ -595,7 +600,7 @@ describe('over servers', { concurrency: 4 }, () => {
         };
         assert.equal(await run(blocks[0], 1), "alarm null [] [] [ 9 ]\n{ any: [ 'JSON', null, 1.5 ] }\n");
         assert.equal(await run(blocks[3], 2), "[ 'job', 4 ]\n");
-        assert.equal(await run(blocks[1], 3), "2\n0\n[ 'dead', -1, 2, 'RangeError: -1 has no root' ]\n");
+        assert.equal(await run(blocks[1], 3), "2\n0\n[ 'dead', 'root', -1, 2, 'RangeError: -1 has no root' ]\n");
         const web = start(blocks[2], 4);
         scene.closed.push(() => web.kill());
         const other = await scene.space(left, 9);
@@ -774,8 +779,20 @@ describe('over servers', { concurrency: 4 }, () => {
         await new Promise((resolve) => { listener.listen(0, '127.0.0.1', resolve); });
         const { port } = listener.address();
         await new Promise((resolve) => { listener.close(resolve); });
-        await fails(Space.connect([server.port, port], { client: 7 }), NoConnection, { server: 1 });
+        const away = { server: 1, port, message: `server 1: no connection to port ${port}: refused` };
+        await fails(Space.connect([server.port, port], { client: 7 }), NoConnection, away);
         assert.equal((await (await scene.space(server)).out(['a'])).id, 1);
+        // Why not is said of each.
+        const silent = await scene.fake(async (peer) => { await peer.expect(hello()); await peer.end(); });
+        const none = path.join(scene.folder, 'no folder', 'socket'), own = () => { throw new Error('own'); };
+        for (const [at, options, text] of [
+            [none, {}, `${none}: no such file`], [silent.port, { patience: 100 }, `port ${silent.port}: timed out`],
+            [port, { connect: own }, `port ${port}: own`],
+        ]) {
+            const fault = await fails(Space.connect([at], { client: 7, ...options }), NoConnection, { port: at });
+            assert.equal(fault.message, `server 0: no connection to ${text}`);
+        }
+        await silent.end();
     });
 
     play('leaves', async (scene) => {
@@ -833,7 +850,7 @@ describe('over servers', { concurrency: 4 }, () => {
     });
 
     play('too many clients', async (scene) => {
-        // A bank (docs/FORMATS.md): clients 0 to 65,534 have left with their number 1, and there is no tuple. Then a
+        // A bank (docs/PROTOCOL.md): clients 0 to 65,534 have left with their number 1, and there is no tuple. Then a
         // closed gate.
         const row = (client) => Buffer.concat([number(client, 4), number(1), Buffer.of(4)]);
         const rows = range(0, MOST_CLIENTS - 1).map(row);
@@ -972,7 +989,7 @@ describe('over servers', { concurrency: 4 }, () => {
         }
         await fails(one.work(hole([In('job'), In('job')], 1), () => {}), OutOfRange);
         await one.out(['job', 1]);
-        await assert.rejects(one.work(['job', INT], () => hole([['a'], ['a'], ['a']], 1), { tries: 3 }), TypeError);
+        await assert.rejects(one.work(['job', INT], () => hole([['a'], ['a'], ['a']], 1)), TypeError);
         await fails(one.work(['job', INT], () => hole([['a'], ['a']], 0)), OutOfRange);
         assert.deepEqual([await one.look(['a']), await one.take(['job', INT])], [null, ['job', 1]]);
     });
@@ -1064,7 +1081,7 @@ describe('over servers', { concurrency: 4 }, () => {
         const first = await scene.space(both, range(100, 103)), second = await scene.space(both, range(100, 103));
         await scene.space(left, 102);
         assert.deepEqual([first.client, second.client], [100, 101]);
-        assert.match((await fails(scene.space(both, range(100, 103)), NoNumber)).message, /100 to 102/);
+        assert.match((await fails(scene.space(both, range(100, 103)), NoNumber)).message, /100 to 102 is to be had: .*; give more of them$/);
         assert.equal((await first.out(['a', 5])).id, 1);
         first.close();
         let found = 0;
@@ -2534,30 +2551,86 @@ describe('work', { concurrency: 4 }, () => {
 
     play('has arguments', async (scene) => {
         const one = await scene.space(await scene.serve());
-        const work = () => {}, wide = [...range(0, 32), INT];
+        const work = () => {}, wide = [...range(0, 31), TRIES];
         const wrong = [
-            [['job', INT], null], [INT, work], [[], work], [['job', INT], work, { tris: 1 }], [['job', INT], work, { tries: 0 }],
-            [['job', TEXT], work, { tries: 1 }], [['job'], work, { tries: 1 }], [['job', ANY], work, { tries: 1 }], [wide, work, { tries: 1 }],
+            [['job', INT], null], [INT, work], [[], work], [['job', INT], work, { tris: 1 }], [['job', TRIES], work, { tries: 0 }],
+            [['job', INT], work, { tries: 1 }], [['job'], work, { tries: 1 }], [['job', ANY], work, { tries: 1 }], [wide, work, { tries: 1 }],
+            [['job', TRIES], work], [['job', TRIES, TRIES], work, { tries: 1 }], [[TRIES, TRIES], work, { tries: 1 }], [In('job', TRIES), work],
+            [[In('job', TRIES), In('other', INT)], work, { tries: 1 }], [['job', INT], work, { limit: 0 }], [['job', INT], work, { limit: '5' }],
+            [['job', INT], work, { grace: -1 }],
             [['job', INT], work, { delay: -1 }], [['job', INT], work, { stop: In('a') }], [['job', INT], work, { stop: ['a'] }],
             [['job', INT], work, { signal: 5 }], [['job', INT], work, { keep: 0 }], [['job', INT], work, { timeout: '5' }],
             [['job', INT], work, { onerror: 5 }], [['job', INT], work, { dead: 1.5 }], [Rd('job', INT), work], [['job', INT], work, 5],
             [[In('job', INT), Rd('job', INT)], work], [[In('job', INT), 'x'], work],
         ];
         for (const [template, call, options] of wrong) await fails(one.work(template, call, options), OutOfRange);
-        assert.equal(await one.work([...range(0, 31), INT], work, { tries: 1, timeout: 0 }), 0);
+        assert.equal(await one.work([...range(0, 30), TRIES], work, { tries: 1, timeout: 0 }), 0);
     });
 
-    play('a result that is none ends it', async (scene) => {
+    play('TRIES is for a job of work with tries, and for nothing else', async (scene) => {
+        const fake = await scene.fake(async (peer) => { await greets(peer, 0); await peer.end(); });
+        const one = await scene.space(fake), template = ['job', TRIES, INT], pool = new Pool([fake.port], { client: 8 });
+        const calls = [
+            () => one.take(template), () => one.take(template, { timeout: 0 }), () => one.takes(template).next(), () => one.read(template),
+            () => one.look(template), () => one.takeMany(template, { count: 1 }), () => one.purge(template), () => one.hold(template),
+            () => one.holding(template, {}, () => {}), () => one.choose([In(...template)]), () => one.sync(In(...template)),
+            () => one.choose([In('a'), Choose(Wrap(1, In(...template)))], { timeout: 0 }), async () => Rd(...template),
+            async () => one.work(['job'], () => {}, { stop: Rd(...template) }), () => one.out(template), () => one.outMany([template]),
+            () => one.work(template, () => {}), () => one.work(In(...template), () => {}), () => pool.take(template),
+            () => pool.choose([In(...template)]), () => pool.sync(In(...template)), () => pool.takeMany(template, { count: 1 }),
+        ];
+        for (const call of calls) await fails(call, OutOfRange);
+        assert.equal(one.pending, null);
+        one.close();
+        await fake.end();
+    });
+
+    play('the count has a place of its own', async (scene) => {
         const server = await scene.serve(), one = await scene.space(server), boss = await scene.space(server, 8);
-        for (const tries of [undefined, 3]) {
-            for (const result of [5, 'done', { a: 1 }, true, [['done'], 5], new Map()]) {
-                await boss.out(['job', 0]);
-                const options = tries === undefined ? {} : { tries };
-                await assert.rejects(one.work(['job', INT], () => result, options), TypeError);
-                assert.deepEqual(await boss.take(['job', INT], { timeout: LONG }), ['job', 0]);
-            }
+        const no = () => { throw new Error('no'); }, letters = async (...fields) => boss.takeMany(['dead', ...fields, TEXT], { count: 9 });
+        // Two kinds of jobs, of which the letters differ.
+        await boss.outMany([['email', 5, 0], ['sms', 5, 0]]);
+        assert.equal(await one.work([In('email', INT, TRIES), In('sms', INT, TRIES)], no, { tries: 1, timeout: 0 }), 0);
+        assert.deepEqual(await letters(TEXT, INT, INT), [['dead', 'email', 5, 1, 'Error: no'], ['dead', 'sms', 5, 1, 'Error: no']]);
+        // In front of a field, below 0, and in a job with as many fields as there may be.
+        const seen = [], fields = range(1, 30);
+        await boss.outMany([['job', -7, 9], ['job', 1, 8]]);
+        await one.work(['job', TRIES, INT], (job) => { seen.push(job); throw new Error(`no ${job[2]}`); }, { tries: 2, delay: 1, timeout: 0 });
+        assert.deepEqual(seen.filter((job) => job[2] === 9), [['job', -7, 9], ['job', 1, 9]]);
+        assert.deepEqual(seen.filter((job) => job[2] === 8), [['job', 1, 8]]);
+        assert.deepEqual((await letters('job', INT, INT)).sort(), [['dead', 'job', 2, 8, 'Error: no 8'], ['dead', 'job', 2, 9, 'Error: no 9']]);
+        await boss.out(['wide', 0, ...fields]);
+        await one.work(['wide', TRIES, ...fields], no, { tries: 1, timeout: 0 });
+        assert.deepEqual(await letters('wide', INT, ...fields), [['dead', 'wide', 1, ...fields, 'Error: no']]);
+        // A number that is no count stays as it is.
+        await boss.outMany([['plain', 1, 0], ['plain', 9, 0], ['plain', 4, 0]]);
+        const failed = new Set(), square = ([, n]) => {
+            if (n !== 4 && !failed.has(n)) { failed.add(n); throw new Error('a passing fault'); }
+            return ['square', n, n * n];
+        };
+        assert.equal(await one.work(['plain', INT, TRIES], square, { tries: 3, delay: 10, timeout: 50 }), 3);
+        assert.deepEqual((await boss.takeMany(['square', INT, INT], { count: 9 })).map(([, ...rest]) => rest).sort(), [[1, 1], [4, 16], [9, 81]]);
+        assert.deepEqual(await letters(ANY, ANY, ANY), []);
+    });
+
+    const NONE = [5, 'done', { a: 1 }, true, [['done'], 5], new Map(), ['done', 1.5], [['done', 1], ['done', 'x'.repeat(4_096)]], ['done', null]];
+    play('a result that is none is an error of the function', async (scene) => {
+        const server = await scene.serve(), one = await scene.space(server), boss = await scene.space(server, 8);
+        for (const [place, result] of NONE.entries()) {
+            await boss.out(['job', 0]);
+            await assert.rejects(one.work(['job', INT], () => result), place < 6 ? TypeError : OutOfRange);
+            assert.deepEqual(await boss.take(['job', INT], { timeout: LONG }), ['job', 0]);
         }
-        assert.equal(await boss.look(['done']), null);
+        // With tries it counts, and ends nothing.
+        await boss.outMany([...NONE.map((_, place) => ['job', place, 0]), ['job', 99, 0]]);
+        let calls = 0;
+        const call = ([, place]) => { calls += 1; return place === 99 ? ['fine', 99] : NONE[place]; };
+        assert.equal(await one.work(['job', INT, TRIES], call, { tries: 2, delay: 1, timeout: 50 }), 1);
+        assert.equal(calls, 2 * NONE.length + 1);
+        const dead = (await boss.takeMany(['dead', 'job', INT, 2, TEXT], { count: 99 })).sort((a, b) => a[2] - b[2]);
+        assert.deepEqual(dead.map(([, , place]) => place), range(0, NONE.length));
+        for (const [, , place, , text] of dead) assert.match(text, place < 6 ? /^TypeError: a worker's function returns nothing, a tuple/ : /^OutOfRange: a /);
+        assert.deepEqual([await boss.take(['fine', INT]), await boss.look(['done', ANY]), await boss.look(['job', ANY, ANY])], [['fine', 99], null, null]);
     });
 
     play('an error ends it without tries', async (scene) => {
@@ -2579,9 +2652,9 @@ describe('work', { concurrency: 4 }, () => {
             if (name === 'bad') throw new Error(text);
             return name === 'wrong' ? ['done', 'x'.repeat(5_000)] : ['done', name, failed];
         };
-        assert.equal(await one.work(['job', TEXT, INT], call, { tries: 3, delay: 100, timeout: 50 }), 2);
+        assert.equal(await one.work(['job', TEXT, TRIES], call, { tries: 3, delay: 100, timeout: 50 }), 2);
         assert.deepEqual((await boss.takeMany(['done', TEXT, INT], { count: 9 })).map(([, ...rest]) => rest).sort(), [['good', 0], ['late', 2]]);
-        const dead = new Map((await boss.takeMany(['dead', TEXT, INT, TEXT], { count: 9 })).map(([, name, ...rest]) => [name, rest]));
+        const dead = new Map((await boss.takeMany(['dead', 'job', TEXT, INT, TEXT], { count: 9 })).map(([, , name, ...rest]) => [name, rest]));
         assert.deepEqual([...dead.keys()].sort(), ['bad', 'fourth', 'wrong']);
         assert.deepEqual(dead.get('fourth'), [4, 'RangeError: not now']);
         assert.deepEqual(dead.get('bad'), [3, `Error: ${'é'.repeat(496)}`]);
@@ -2595,8 +2668,8 @@ describe('work', { concurrency: 4 }, () => {
         // Others were done meanwhile.
         assert.deepEqual(times.slice(0, 5).map(([name]) => name), ['bad', 'late', 'good', 'fourth', 'wrong']);
         await boss.out(['job', 'bad', 0]);
-        await one.work(['job', TEXT, INT], call, { tries: 1, dead: 'grave', timeout: 0 });
-        assert.deepEqual((await boss.take(['grave', TEXT, INT, TEXT])).slice(1, 3), ['bad', 1]);
+        await one.work(['job', TEXT, TRIES], call, { tries: 1, dead: 'grave', timeout: 0 });
+        assert.deepEqual((await boss.take(['grave', 'job', TEXT, INT, TEXT])).slice(2, 4), ['bad', 1]);
     });
 
     play('a job that waits for its next try is held, and at most 32 are', async (scene) => {
@@ -2606,7 +2679,7 @@ describe('work', { concurrency: 4 }, () => {
             await boss.outMany(range(0, 34).map((item) => ['job', item, 0]));
             const seen = [], begin = performance.now();
             const call = async ([, item, failed]) => { seen.push([item, failed]); if (failed === 0) throw new Error('once'); };
-            const working = one.work(['job', INT, INT], call, { tries: 2, delay, timeout: 0 });
+            const working = one.work(['job', INT, TRIES], call, { tries: 2, delay, timeout: 0 });
             while (seen.length < 32 && performance.now() < begin + LONG) await sleep(5);
             await sleep(100);
             const soFar = [...seen], rest = await boss.takeMany(['job', INT, INT], { count: 99 });
@@ -2655,7 +2728,7 @@ describe('work', { concurrency: 4 }, () => {
             await sleep(50);
             return ['done', name];
         };
-        assert.equal(await one.work(['job', TEXT, INT], call, { tries: 5, delay: 60_000, signal: later.signal }), 1);
+        assert.equal(await one.work(['job', TEXT, TRIES], call, { tries: 5, delay: 60_000, signal: later.signal }), 1);
         assert.deepEqual(await boss.takeMany(['job', TEXT, INT], { count: 9 }), [['job', 'other', 0], ['job', 'bad', 1]]);
         assert.deepEqual(await boss.take(['done', TEXT]), ['done', 'good']);
     });
@@ -2670,7 +2743,7 @@ describe('work', { concurrency: 4 }, () => {
 
     play('SIGTERM ends it in order', async (scene) => {
         const server = await scene.serve(), boss = await scene.space(server, 8);
-        const text = `import { INT, Space, TEXT } from 'linda-space';
+        const text = `import { INT, Space, TEXT, TRIES } from 'linda-space';
             import { setTimeout as sleep } from 'node:timers/promises';
             const space = await Space.connect([${server.port}], { client: 7 });
             const call = async ([, name]) => {
@@ -2679,7 +2752,7 @@ describe('work', { concurrency: 4 }, () => {
             };
             await space.work(['none', INT], () => {}, { timeout: 0 });
             console.log('ready', process.listenerCount('SIGTERM'));
-            const working = space.work(['job', TEXT, INT], call, { tries: 5, delay: 60_000 });
+            const working = space.work(['job', TEXT, TRIES], call, { tries: 5, delay: 60_000 });
             while (process.listenerCount('SIGTERM') === 0) await sleep(5);
             console.log('listens');
             console.log('count', await working);
@@ -2701,15 +2774,66 @@ describe('work', { concurrency: 4 }, () => {
         assert.deepEqual([await idle.ended, idle.said], [[0, null], 'ready 0\nlistens\ncount 0\n0\n']);
     });
 
+    play('SIGTERM gives a job free that does not end, and a second one ends the program', async (scene) => {
+        const server = await scene.serve(), boss = await scene.space(server, 8);
+        const text = `import { INT, Space, TRIES } from 'linda-space';
+            const space = await Space.connect([${server.port}], { client: 7 });
+            let late;
+            const call = ([, item]) => { console.log('at', item); return item === 1 ? ['done', 1] : new Promise((resolve) => { late = resolve; }); };
+            const hung = setInterval(() => {}, 1_000);
+            console.log('count', await space.work(['job', INT, TRIES], call, { tries: 3, grace: Number(process.argv[2]) }));
+            late(['done', 2]);
+            await space.out(['after']);
+            clearInterval(hung);`;
+        await boss.outMany([['job', 1, 0], ['job', 2, 1]]);
+        const program = new Program(scene, text, [200]);
+        await program.until('at 2');
+        program.child.kill('SIGTERM');
+        assert.deepEqual([await program.ended, program.said], [[0, null], 'at 1\nat 2\ncount 1\n']);
+        assert.deepEqual(await boss.take(['after']), ['after']);
+        // It is free, and was not counted; what came late was not put.
+        assert.deepEqual(await boss.takeMany(['done', INT], { count: 9 }), [['done', 1]]);
+        assert.deepEqual(readFileSync(noteOf(server, 7), 'utf8').trim(), '');
+        assert.deepEqual(await boss.take(['job', INT, INT], { timeout: LONG }), ['job', 2, 1]);
+        await boss.out(['job', 3, 0]);
+        const second = new Program(scene, text, [600_000]);
+        await second.until('at 3');
+        second.child.kill('SIGTERM');
+        const twice = setInterval(() => second.child.kill('SIGTERM'), 200);
+        assert.deepEqual([await second.ended, second.said], [[null, 'SIGTERM'], 'at 3\n']);
+        clearInterval(twice);
+        assert.deepEqual(await boss.take(['job', INT, INT], { timeout: LONG }), ['job', 3, 0]);
+    });
+
+    play('a function has a limit', async (scene) => {
+        const server = await scene.serve(), one = await scene.space(server), boss = await scene.space(server, 8), ends = [];
+        const call = ([, item]) => (item === 0 ? ['done', 0] : new Promise((resolve, reject) => ends.push(item === 1 ? resolve : reject)));
+        await boss.outMany([['job', 1, 0], ['job', 2, 1], ['job', 0, 0]]);
+        assert.equal(await one.work(['job', INT, TRIES], call, { tries: 2, delay: 1, limit: 250, timeout: 50 }), 1);
+        assert.deepEqual((await boss.takeMany(['dead', 'job', INT, INT, TEXT], { count: 9 })).sort((a, b) => a[2] - b[2]), [
+            ['dead', 'job', 1, 2, 'the limit of 0.25 s'], ['dead', 'job', 2, 2, 'the limit of 0.25 s']]);
+        // What it comes to later does not matter any more.
+        assert.equal(ends.length, 3);
+        for (const end of ends) end(['done', 5]);
+        await sleep(20);
+        assert.deepEqual([await boss.takeMany(['done', INT], { count: 9 }), await boss.look(['job', ANY, ANY])], [[['done', 0]], null]);
+        // Without tries it is thrown, and the job is free.
+        await boss.out(['job', 1]);
+        await assert.rejects(one.work(['job', INT], call, { limit: 5 }), { message: 'the limit of 0.005 s' });
+        assert.deepEqual(await boss.take(['job', INT], { timeout: LONG }), ['job', 1]);
+        await boss.out(['job', 0]);
+        assert.equal(await one.work(['job', INT], call, { limit: 60_000, timeout: 0 }), 1);
+    });
+
     play('kills of workers and of servers lose nothing', async (scene) => {
         let server = await scene.serve();
         const { port } = server, boss = await scene.space(server, 8, { patience: LONG });
-        const text = `import { INT, range, Space } from 'linda-space';
+        const text = `import { INT, range, Space, TRIES } from 'linda-space';
             const space = await Space.connect([${port}], { client: range(100, 140), patience: 60_000 });
-            await space.work(['job', INT, INT], async ([, item, failed]) => {
+            await space.work(['job', INT, TRIES], async ([, item, failed]) => {
                 if (item % 10 === 0 && failed === 0) throw new Error('once');
                 return ['done', item];
-            }, { tries: 3, delay: 5 });`;
+            }, { tries: 99, delay: 5 });`;
         const workers = range(0, 3).map(() => new Program(scene, text));
         const jobs = range(0, 600);
         let isOver = false;
@@ -2737,7 +2861,7 @@ describe('work', { concurrency: 4 }, () => {
         for (const { child } of workers) child.kill('SIGTERM');
         for (const { ended } of workers) await ended;
         assert.deepEqual([...done].sort((a, b) => a - b), jobs);
-        assert.equal(await boss.look(['dead', ANY, ANY, ANY]), null);
+        assert.equal(await boss.look(['dead', ANY, ANY, ANY, ANY]), null);
         assert.equal(await boss.look(['job', ANY, ANY]), null);
     });
 
@@ -2794,8 +2918,8 @@ describe('work', { concurrency: 4 }, () => {
         assert.deepEqual(heard.filter((text) => text.startsWith('MaxListeners')), []);
         const [one] = spaces, most = 2n ** 63n - 1n;
         await one.out(['job', most]);
-        await one.work(['job', INT], () => { throw new Error('own'); }, { tries: 3, timeout: 100 });
-        assert.deepEqual(await one.take(['dead', INT, TEXT]), ['dead', most, 'Error: own']);
+        await one.work(['job', TRIES], () => { throw new Error('own'); }, { tries: 3, timeout: 100 });
+        assert.deepEqual(await one.take(['dead', 'job', INT, TEXT]), ['dead', 'job', most, 'Error: own']);
     });
 
     play('goes on after a server had no room, and finishes what is unanswered', async (scene) => {
@@ -2841,8 +2965,198 @@ describe('work', { concurrency: 4 }, () => {
 
 // ---- a pool
 
+// ---- jobs that end their worker
+
+const sumOf = (data) => createHash('sha256').update(data).digest('hex').slice(0, 32);
+/** The file for the job that a number has in hand, of one server. */
+const noteOf = (server, client) => path.join(STATE, `${sumOf(`ports ${server.port}`)}-${client}.job`);
+/** What is noted of the tuple ['job', item, failed], by its bytes: a text of three bytes, two fields, two integers. */
+const notedOf = (id, item, port, failed = 0) => (
+    `${id} ${sumOf(Buffer.concat([Buffer.from('0200036a6f6202', 'hex'), Buffer.of(1), number(item), Buffer.of(1), number(failed)]))} ${port}`);
+
+describe('jobs that end their worker', { concurrency: 4 }, () => {
+    play('are counted by the next one', async (scene) => {
+        const server = await scene.serve(), boss = await scene.space(server, 8), file = noteOf(server, 7);
+        const text = (template, options) => `import { INT, Space, TRIES } from 'linda-space';
+            const space = await Space.connect([${server.port}], { client: 7 });
+            const call = ([, item, failed]) => {
+                console.log('at', item, failed);
+                if (item === 7) process.exit(9);
+                return ['done', item];
+            };
+            console.log('count', await space.work(${template}, call, { delay: 50, timeout: 200, ${options} }));`;
+        const run = async (...words) => {
+            const program = new Program(scene, text(...words)), [code] = await program.ended;
+            return [code, program.said];
+        };
+        await boss.outMany([['job', 7, 0], ['job', 8, 0]]);
+        assert.deepEqual(await run("['job', INT, INT]", ''), [9, 'at 7 0\n']);
+        assert.equal(existsSync(file), false);
+        const words = ["['job', INT, TRIES]", 'tries: 2'];
+        assert.deepEqual(await run(...words), [9, 'at 7 0\n']);
+        assert.equal(readFileSync(file, 'utf8').trimEnd(), notedOf(1, 7, server.port));
+        // Others are done while it waits for its next try.
+        assert.deepEqual(await run(...words), [9, 'at 8 0\nat 7 1\n']);
+        const notes = [3, 4].map((id) => notedOf(id, 7, server.port, 1));       // it was put again before the result of 8, or after that
+        assert.ok(notes.includes(readFileSync(file, 'utf8').trim()), readFileSync(file, 'utf8'));
+        assert.deepEqual(await run(...words), [0, 'count 0\n']);
+        assert.deepEqual(await boss.takeMany(['dead', 'job', INT, INT, TEXT], { count: 9 }), [['dead', 'job', 7, 2, 'the worker ended']]);
+        assert.deepEqual([await boss.takeMany(['done', INT], { count: 9 }), await boss.look(['job', ANY, ANY])], [[['done', 8]], null]);
+        assert.equal(readFileSync(file, 'utf8').trim(), '');
+    });
+
+    play('in turn are counted each', async (scene) => {
+        const server = await scene.serve(), boss = await scene.space(server, 8), { port } = server;
+        const text = `import { INT, Space, TRIES } from 'linda-space';
+            const space = await Space.connect([${port}], { client: 7 });
+            const call = ([, item]) => { console.log('at', item); process.exit(9); };
+            await space.work(['job', INT, TRIES], call, { tries: Number(process.argv[2]), delay: 600_000, timeout: 0 });
+            space.close();`;
+        const run = async (tries) => {
+            const program = new Program(scene, text, [tries]);
+            await program.ended;
+            return [program.said, readFileSync(noteOf(server, 7), 'utf8').split('\n').filter((line) => line !== '')];
+        };
+        await boss.outMany([['job', 1, 0], ['job', 2, 0], ['job', 3, 0]]);
+        const notes = [1, 2, 3].map((item) => notedOf(item, item, port));
+        assert.deepEqual(await run(9), ['at 1\n', notes.slice(0, 1)]);
+        // Those that wait for their next try in a life that ends are counted by the next one.
+        assert.deepEqual(await run(9), ['at 2\n', notes.slice(0, 2)]);
+        assert.deepEqual(await run(9), ['at 3\n', notes]);
+        assert.deepEqual(await run(1), ['', []]);
+        const letters = await boss.takeMany(['dead', 'job', INT, 1, 'the worker ended'], { count: 9 });
+        assert.deepEqual(letters.map(([, , item]) => item).sort(), [1, 2, 3]);
+    });
+
+    play('do not stop the other jobs', async (scene) => {
+        const server = await scene.serve(), boss = await scene.space(server, 8);
+        const text = `import { INT, Rd, Space, TRIES } from 'linda-space';
+            const [client, ...bad] = process.argv.slice(2).map(Number), space = await Space.connect([${server.port}], { client });
+            const call = async ([, item]) => {
+                if (bad.includes(item)) process.kill(process.pid, 'SIGKILL');
+                await new Promise((resolve) => setTimeout(resolve, 5));
+                return ['done', item];
+            };
+            await space.work(['job', INT, TRIES], call, { tries: 3, delay: 100, stop: Rd('stop') });`;
+        const played = async (items, bad) => {
+            await boss.takeMany(['stop'], { count: 1 });
+            await boss.outMany(items.map((item) => ['job', item, 0]));
+            let crashes = 0;
+            const lives = range(100, 103).map(async (client) => {
+                for (let code = null; code === null;) {
+                    [code] = await new Program(scene, text, [client, ...bad]).ended;
+                    if (code === null) crashes += 1;
+                    await sleep(20);
+                }
+            });
+            const letters = [], done = new Set(), good = items.filter((item) => !bad.includes(item));
+            while (letters.length < bad.length) letters.push(await boss.take(['dead', 'job', INT, INT, TEXT], { timeout: LONG }));
+            while (done.size < good.length) done.add((await boss.take(['done', INT], { timeout: LONG }))?.[1]);
+            await boss.out(['stop']);
+            await Promise.all(lives);
+            assert.deepEqual(letters.sort((a, b) => a[2] - b[2]), bad.map((item) => ['dead', 'job', item, 3, 'the worker ended']));
+            assert.deepEqual([...done].sort((a, b) => a - b), good);
+            assert.deepEqual([await boss.look(['job', ANY, ANY]), await boss.look(['dead', ANY, ANY, ANY, ANY])], [null, null]);
+            return crashes;
+        };
+        // Each of three workers ends at most once in a job with one count: then it counts it.
+        const crashes = await played(range(7, 107), [7]);
+        assert.ok(crashes >= 3 && crashes <= 9, `${crashes} crashes`);
+        await played(range(200, 230), [205, 215]);
+    });
+
+    play('only the noted one counts', async (scene) => {
+        const server = await scene.serve(), boss = await scene.space(server, 8), { port } = server;
+        const play = async (client, item, text) => {
+            const seen = [], one = await scene.space(server, client);
+            writeFileSync(noteOf(server, client), text);
+            const count = await one.work(['job', INT, TRIES], (job) => { seen.push(job[1]); }, { tries: 1, timeout: 0 });
+            assert.equal(readFileSync(noteOf(server, client), 'utf8').trim(), '');
+            const dead = await boss.takeMany(['dead', 'job', item, 1, 'the worker ended'], { count: 9 });
+            assert.deepEqual([count, seen], dead.length > 0 ? [0, []] : [1, [item]]);
+            return dead.length;
+        };
+        const found = [];
+        for (const [place, spell] of [
+            (note) => `${note}\n`, (note) => `${note}\n`.padEnd(256), (note) => `0000${note}   \n\0\0`, (note) => `\n\nsome\n${note}\n\n`,
+            (_, id, item) => `${notedOf(id, item + 1, port)}\n`, (_, id, item) => `${notedOf(id + 1, item, port)}\n`,
+            (_, id, item) => `${notedOf(id, item, port + 1)}\n`, (note) => note.slice(0, -1), (note) => note.slice(0, 20), (note) => `-${note}`,
+            () => '', () => '\n\n', () => '\xff\0 5\n', (note) => note.toUpperCase().replace(/[0-9]/g, ''),
+        ].entries()) {
+            const { id } = await boss.out(['job', place, 0]);
+            found.push(await play(100 + place, place, spell(notedOf(id, place, port), id, place)));
+        }
+        assert.deepEqual(found, [1, 1, 1, 1, ...new Array(10).fill(0)]);
+    });
+
+    play('of two servers, with others before them', async (scene) => {
+        const left = await scene.serve('left'), right = await scene.serve('right'), boss = await scene.space([left, right], 8);
+        // The client 8 puts the first at the left.
+        await boss.outMany(range(0, 8).map((item) => ['job', item, 0]));
+        const ports = [left.port, right.port].sort((one, other) => one - other).join(' ');
+        const file = path.join(STATE, `${sumOf(`ports ${ports}`)}-7.job`), one = await scene.space([left, right], 7), seen = [];
+        writeFileSync(file, `${notedOf(3, 4, left.port)}\n${notedOf(4, 7, right.port)}\n${notedOf(3, 5, left.port)}\n`);
+        const call = ([, item]) => {
+            if (seen.length === 0) assert.equal(readFileSync(file, 'utf8').match(/[0-9a-f]{32}/g).length, 1);      // its own, and no other
+            seen.push(item);
+        };
+        assert.equal(await one.work(['job', INT, TRIES], call, { tries: 1, timeout: 0 }), 6);
+        assert.deepEqual(seen.sort(), [0, 1, 2, 3, 5, 6]);
+        assert.deepEqual((await boss.takeMany(['dead', 'job', INT, 1, 'the worker ended'], { count: 9 })).map(([, , item]) => item).sort(), [4, 7]);
+    });
+
+    play('that somebody else has are counted when they come back', async (scene) => {
+        const server = await scene.serve(), one = await scene.space(server), boss = await scene.space(server, 8), file = noteOf(server, 7);
+        await boss.out(['job', 5, 0]);
+        const held = await boss.hold(['job', INT, INT]);
+        writeFileSync(file, `${notedOf(1, 5, server.port)}\n`);
+        await boss.out(['job', 6, 0]);
+        const seen = [], working = one.work(['job', INT, TRIES], (job) => { seen.push(job[1]); return ['done']; }, { tries: 1, stop: Rd('stop') });
+        await boss.take(['done']);
+        assert.equal(readFileSync(file, 'utf8').trim(), '');
+        held.release();
+        assert.deepEqual(await boss.take(['dead', 'job', INT, INT, TEXT], { timeout: LONG }), ['dead', 'job', 5, 1, 'the worker ended']);
+        await boss.out(['stop']);
+        assert.deepEqual([await working, seen], [1, [6]]);
+        // One that somebody else has done is not there any more.
+        await boss.out(['job', 5, 0]);
+        await boss.take(['job', INT, INT]);
+        await boss.take(['stop']);
+        writeFileSync(file, `${notedOf(6, 5, server.port)}\n`);
+        await boss.out(['job', 5, 0]);
+        one.close();
+        const next = await scene.space(server, 7);
+        assert.equal(await next.work(['job', INT, TRIES], () => {}, { tries: 1, timeout: 0 }), 1);
+    });
+
+    play('are not counted without a folder', async (scene) => {
+        const server = await scene.serve(), boss = await scene.space(server, 8);
+        await boss.outMany([['job', 1, 0], ['job', 2, 0]]);
+        const text = `import { INT, Space, TRIES } from 'linda-space';
+            process.on('warning', ({ name, message }) => console.log(name, message));
+            for (const client of [7, 9]) {
+                const space = await Space.connect([${server.port}], { client });
+                await space.work(['job', INT, TRIES], ([, item]) => ['done', item], { tries: 2, timeout: 0 });
+                await space.out(['job', 3, 0]);
+                space.close();
+            }`;
+        const program = new Program(scene, text, [], { env: { ...process.env, LINDA_STATE: '/proc/none', NODE_NO_WARNINGS: '1' } });
+        assert.deepEqual(await program.ended, [0, null]);
+        assert.match(program.said, /^linda-space a job that ends its worker is not counted: \/proc\/none\/\w{32}-7\.job: ENOENT.*\n$/);
+        assert.deepEqual((await boss.takeMany(['done', INT], { count: 9 })).map(([, item]) => item), [1, 2, 3]);
+    });
+});
+
 /** By itself: it holds the event loop, and tests beside it would miss their times. */
 describe('work that holds the event loop', () => {
+    play('a function that is late has failed', async (scene) => {
+        const server = await scene.serve(), one = await scene.space(server);
+        await one.out(['job', 0]);
+        const call = () => { for (const end = performance.now() + 60; performance.now() < end;); return ['done']; };
+        assert.equal(await one.work(['job', TRIES], call, { tries: 1, limit: 50, timeout: 0 }), 0);
+        assert.deepEqual([await one.look(['done']), await one.take(['dead', 'job', INT, TEXT])], [null, ['dead', 'job', 1, 'the limit of 0.05 s']]);
+    });
+
     play('a hold that was lost puts nothing', async (scene) => {
         const server = await scene.serve('one', 0, '--lease', '1');
         const one = await scene.space(server), other = await scene.space(server, 8);
@@ -3050,6 +3364,11 @@ describe('a pool', { concurrency: 4 }, () => {
             peer.send(taken(2, 7, ['c']));
             await peer.end();
         }, async (peer) => {
+            // The first member has looked whether this number may have a job unfinished.
+            await peer.expect(hello(101));
+            peer.send(welcome(0));
+            await peer.end();
+        }, async (peer) => {
             await peer.expect(hello(101));
             peer.send(welcome(0));
             await peer.expect(frames.out(1, ['b', 1]));
@@ -3141,7 +3460,7 @@ describe('a pool', { concurrency: 4 }, () => {
         const server = await scene.serve();
         const pool = new Pool([server.port], { client: range(100, 102), size: 2 });
         scene.spaces.push(pool);
-        const unserved = { servers: [], pending: null, message: 'no member of the pool was free in time' };
+        const unserved = { servers: [], pending: null, message: 'no member of the pool was free in time; nothing was sent for this call' };
         await pool.outMany([['job', 1], ['job', 2], ['job', 3]]);
         const holds = [await pool.hold(['job', INT]), await pool.hold(['job', INT])];
         // All members are lent.
@@ -3157,15 +3476,25 @@ describe('a pool', { concurrency: 4 }, () => {
         for (const call of calls) await fails(call(0), TimedOut, unserved);
         for (const wrong of [-1, '5', NaN]) await fails(pool.out(['late'], { timeout: wrong }), OutOfRange);
         // What is left of its time is the call's on its member.
-        let time = 0;
-        for (let tries = 0; tries < 4 && (tries === 0 || time > 9_500); tries += 1) {
-            if (tries > 0) holds[0] = await pool.hold(['job', 1]);      // a busy machine was late
-            const begin = performance.now();
-            setTimeout(() => holds[0].release(), 4_000);
-            assert.equal(await pool.take(['none'], { timeout: 6_000 }), null);
-            time = performance.now() - begin;
-        }
-        assert.ok(time > 5_500 && time < 9_500, `${time} ms`);
+        const { choose } = Space.prototype, hour = 3_600_000;
+        const left = new Promise((resolve) => {
+            Space.prototype.choose = function seen(branches, limits) {
+                if (branches[0].template[0] === 'none') resolve(limits.timeout);
+                return choose.call(this, branches, limits);
+            };
+        });
+        scene.closed.push(() => { Space.prototype.choose = choose; });
+        const abort = new AbortController();
+        const waiting = fails(pool.choose([In('none')], { timeout: hour, signal: abort.signal }), Aborted);
+        // (after it began and before it has a member, however late each line comes)
+        const begin = performance.now();
+        await sleep(100);
+        const waited = performance.now() - begin;
+        holds[0].release();
+        const time = await left;
+        assert.ok(time > 0 && time <= hour - waited + 1, `${time} ms after ${waited} ms`);
+        abort.abort();
+        await waiting;
         assert.deepEqual(await pool.take(['job', INT], { timeout: 0 }), ['job', 1]);
         holds[1].release();
         assert.equal(await pool.look(['late']), null);
@@ -3178,34 +3507,85 @@ describe('a pool', { concurrency: 4 }, () => {
 
     play('calls fail at once, not one after another, while a server does not answer', async (scene) => {
         const server = await scene.serve(), patience = 2_000;
-        const pool = new Pool([server.port], { client: range(100, 102), size: 2, patience });
+        // How often a member was gone on with, or made: for a call each, if they fail one after another.
+        let sent = 0;
+        const connect = (port) => {
+            const stream = net.connect({ port, host: '127.0.0.1', noDelay: true }), { write } = stream;
+            stream.write = (...words) => { sent += 1; return write.apply(stream, words); };
+            return stream;
+        };
+        const pool = new Pool([server.port], { client: range(100, 102), size: 2, patience, connect });
         scene.spaces.push(pool);
-        await Promise.all([pool.out(['a']), pool.out(['a'])]);
+        await patient(() => Promise.all([pool.out(['a']), pool.out(['a'])]));
         const abort = new AbortController(), waiting = fails(pool.take(['none'], { signal: abort.signal }), Aborted);
-        await pool.out(['a']);
+        await patient(() => pool.out(['a']));
         assert.equal(pool.size, 2);
         await server.stop();
         await fails(pool.out(['b'], { timeout: 50 }), TimedOut, { pending: 'out' });
         // One member is lent, and the other one cannot be finished: a call ends at its time.
-        let begin = performance.now();
         await Promise.all(range(0, 5).map(() => fails(pool.out(['c'], { timeout: 300 }), TimedOut, { servers: [], pending: null })));
-        assert.ok(performance.now() - begin < 8_000, `${performance.now() - begin} ms`);
         abort.abort();
         await waiting;
         await fails(pool.out(['b'], { timeout: 50 }), TimedOut);
         // All members have something pending: calls without a time fail after a patience or two, all of them.
-        begin = performance.now();
-        await Promise.all(range(0, 8).map(() => fails(pool.out(['c']), SpaceError, { pending: null })));
-        assert.ok(performance.now() - begin < 6 * patience, `${performance.now() - begin} ms`);
+        sent = 0;
+        await Promise.all(range(0, 40).map(() => fails(pool.out(['c']), SpaceError, { pending: null })));
+        assert.ok(sent <= 20, `${sent} times`);
         // So do those of a pool that cannot make its first member.
-        const other = new Pool([server.port], { client: range(110, 120), patience });
+        const other = new Pool([server.port], { client: range(110, 120), patience, connect });
         scene.spaces.push(other);
-        begin = performance.now();
-        await Promise.all(range(0, 8).map((place) => fails(other.out(['c'], place < 4 ? {} : { timeout: 100 }), place < 4 ? NoConnection : TimedOut)));
-        assert.ok(performance.now() - begin < 6 * patience, `${performance.now() - begin} ms`);
+        sent = 0;
+        const calls = range(0, 40).map((place) => (place % 2 === 0
+            ? fails(other.out(['c']), NoConnection, { pending: null }) : fails(other.out(['c'], { timeout: 100 }), SpaceError, { pending: null })));
+        for (const fault of await Promise.all(calls)) {
+            assert.ok(fault instanceof NoConnection || fault instanceof TimedOut && fault.servers.length === 0, fault.stack);
+            assert.match(fault.message, /; nothing was sent for this call$/);
+        }
+        assert.ok(sent <= 10, `${sent} times`);
         server.goOn();
-        assert.equal((await other.out(['d'])).server, 0);
-        assert.equal(await pool.purge(['c']), 0);
+        assert.equal((await patient(() => other.out(['d']))).server, 0);
+        assert.equal(await patient(() => pool.purge(['c'])), 0);
+    });
+
+    play('calls that were never sent say so', async (scene) => {
+        const server = await scene.serve(), pool = new Pool([server.port], { client: 100 });
+        scene.spaces.push(pool);
+        await pool.out(['a']);
+        await server.stop();
+        const sent = await fails(pool.out(['b'], { timeout: 50 }), TimedOut, { pending: 'out', servers: [0] });
+        assert.doesNotMatch(sent.message, /nothing was sent/);
+        const { message } = await fails(pool.out(['c'], { timeout: 50 }), SpaceError, { pending: null });
+        assert.match(message, /; nothing was sent for this call$/);
+        await server.kill();
+        const other = new Pool([server.port], { client: 101 });
+        scene.spaces.push(other);
+        const away = `server 0: no connection to port ${server.port}: refused; nothing was sent for this call`;
+        await fails(other.out(['c']), NoConnection, { pending: null, message: away });
+        scene.servers.push(await Server.start(server.folder, server.port));
+        assert.deepEqual([await patient(() => pool.take(['b'], { timeout: LONG })), await pool.look(['c'])], [['b'], null]);
+    });
+
+    play('a call whose time is over ends, however late its timer is', async (scene) => {
+        const server = await scene.serve();
+        const text = `import { Pool, range } from 'linda-space';
+            const pool = new Pool([${server.port}], { client: range(100, 102), size: 2, patience: 60_000 });
+            await Promise.all([pool.out(['a']), pool.out(['a'])]);
+            pool.take(['none']).catch(() => {});
+            await pool.out(['a']);
+            console.log('ready');
+            process.kill(process.pid, 'SIGSTOP');
+            const pending = await pool.out(['b'], { timeout: 50 }).catch((fault) => fault.pending);
+            // The timer of the call is later than that of the member that is finished for it.
+            const { setTimeout } = globalThis;
+            globalThis.setTimeout = (call, time, ...more) => setTimeout(call, time > 1_500 && time <= 2_000 ? time + 500 : time, ...more);
+            console.log(pending, await pool.out(['c'], { timeout: 300 }).catch((fault) => fault.code));
+            process.exit();`;
+        const program = new Program(scene, text, [], { stdio: ['ignore', 'pipe', 'ignore'] });
+        await program.until('ready');
+        await server.kill();
+        const going = setInterval(() => program.child.kill('SIGCONT'), 50);
+        await program.until('out TimedOut');
+        clearInterval(going);
     });
 
     play('calls that wait and are aborted', async (scene) => {
@@ -3280,9 +3660,10 @@ describe('client numbers', { concurrency: 4 }, () => {
             return one.client;
         };
         assert.equal(await found(range(100, 120)), 103);
-        // Not if it comes after one that was never used: the search ends there.
-        assert.equal(await found([101, 110, 103]), 101);
-        assert.equal(await found([110, 103]), 110);
+        // Also behind numbers that were never used.
+        assert.equal(await found([101, 110, 103]), 103);
+        assert.equal(await found([110, 103]), 103);
+        assert.equal(await found([110, 101, 102]), 110);
         assert.equal(await found([100, 102, 103], { fresh: false }), 103);
         assert.equal(await found(range(100, 120), { fresh: true }), 104);
         const one = await scene.space(both, 103);
@@ -3430,7 +3811,7 @@ describe('client numbers', { concurrency: 4 }, () => {
 
     /** The port of a server that answers the first message of each connection with this, and says no more. */
     const answering = async (scene, answer) => {
-        const listener = net.createServer((stream) => { stream.once('data', () => answer(stream)); });
+        const listener = net.createServer((stream) => { stream.once('data', (data) => answer(stream, data)); });
         await new Promise((resolve) => { listener.listen(0, '127.0.0.1', resolve); });
         scene.closed.push(() => listener.close());
         return listener.address().port;
@@ -3440,6 +3821,55 @@ describe('client numbers', { concurrency: 4 }, () => {
         const streams = [], port = await answering(scene, (stream) => { streams.push(stream.resume()); stream.write(welcome(3)); });
         await failsAfter(1_500, Space.connect([port], { client: range(7, 9), ...SHORT }), NoConnection, { server: 0 });
         assert.equal(streams.length, 1);
+    });
+
+    play('a server without a place for a new number', async (scene) => {
+        // It knows 101, to which it has answered Stored.
+        const port = await answering(scene, (stream, data) => {
+            const isKnown = data.equals(frames.hello(101, false));
+            stream.on('error', () => {}).on('data', () => stream.write(stored(3, 9)));
+            stream.write(isKnown ? welcome(3) : refusal(7, MOST_CLIENTS));
+        });
+        const one = await Space.connect([port], { client: range(100, 103) });
+        scene.spaces.push(one);
+        assert.deepEqual([one.client, (await one.lastReply()).kind], [101, 'stored']);
+        for (const client of [102, range(102, 104)]) {
+            await fails(Space.connect([port], { client }), Refused, { reason: 'TooManyClients', message: 'server 0: refused TooManyClients, detail 65536, '
+                + 'it keeps as many client numbers as it can: use one again, of a range or of a file that stays' });
+        }
+    });
+
+    play('several numbers are greeted once each', async (scene) => {
+        const { port } = await scene.serve();
+        let greeted = 0;
+        const connect = () => { greeted += 1; return net.connect({ port, host: '127.0.0.1', noDelay: true }); };
+        const counted = async (client, more = {}) => {
+            greeted = 0;
+            const one = await Space.connect([port], { client, connect, ...more });
+            scene.spaces.push(one);
+            return [one.client, greeted];
+        };
+        assert.deepEqual(await counted(range(100, 120)), [100, 20]);
+        assert.deepEqual(await counted(range(200, 220), { fresh: true }), [200, 1]);
+    });
+
+    play('a number of a file that a server says is in use still', async (scene) => {
+        const { port } = await scene.serve(), file = path.join(scene.folder, 'numbers'), looker = await Peer.connect(port);
+        writeFileSync(file, '1000\n1001\n');
+        await looker.greet(1001);
+        let greeted = 0;
+        const connect = () => {
+            greeted += 1;
+            if (greeted === 10) looker.stream.destroy();
+            return net.connect({ port, host: '127.0.0.1', noDelay: true });
+        };
+        const one = await Space.connect([port], { numbers: file }), two = await Space.connect([port], { numbers: file, connect });
+        scene.spaces.push(one, two);
+        assert.deepEqual([one.client, two.client, readFileSync(file, 'utf8')], [1000, 1001, '1000\n1001\n']);
+        // One that a program of this machine has is not waited for.
+        const third = await Space.connect([port], { numbers: file });
+        scene.spaces.push(third);
+        assert.equal(readFileSync(file, 'utf8'), `1000\n1001\n${third.client}\n`);
     });
 
     play('a fresh number that was used', async (scene) => {
@@ -3488,48 +3918,12 @@ describe('client numbers', { concurrency: 4 }, () => {
     });
 });
 
-// ---- types
+// ---- the package
 
-describe('types', () => {
-    const tsc = process.env.TSC ?? 'tsc';
-    const isThere = spawnSync(tsc, ['--version']).status === 0;
-    const skip = isThere ? false : 'there is no tsc';
-
-    test('are what tsc makes', { skip, timeout: LIMIT }, () => {
-        const folder = mkdtempSync(path.join(tmpdir(), 'linda-'));
-        try {
-            const { status, stdout } = spawnSync(tsc, ['-p', HERE, '--outDir', folder], { encoding: 'utf8' });
-            assert.deepEqual([status, stdout], [0, '']);
-            const files = (top) => readdirSync(top, { recursive: true }).filter((name) => name.endsWith('.d.mts')).sort();
-            assert.deepEqual(files(path.join(HERE, 'types')), files(folder));
-            assert.ok(files(folder).includes('linda_space.d.mts'));
-            for (const name of files(folder)) {
-                const [shipped, made] = [path.join(HERE, 'types', name), path.join(folder, name)].map((file) => readFileSync(file, 'utf8'));
-                assert.equal(shipped, made, `${name}: npm run types`);
-            }
-        } finally {
-            rmSync(folder, { recursive: true });
-        }
-    });
-
-    test('let pass and refuse', { skip, timeout: LIMIT }, () => {
-        const folder = mkdtempSync(path.join(tmpdir(), 'linda-'));
-        try {
-            const node = path.join(folder, 'node.d.ts');
-            writeFileSync(node, 'declare type Buffer = Uint8Array;\n');
-            const words = ['--strict', '--noEmit', '--target', 'es2022', '--lib', 'es2022,dom', '--module', 'nodenext'];
-            const { status, stdout } = spawnSync(tsc, [...words, '--moduleResolution', 'nodenext', path.join(HERE, 'test_types.mts'), node], { encoding: 'utf8', cwd: HERE });
-            assert.deepEqual([stdout, status], ['', 0]);
-        } finally {
-            rmSync(folder, { recursive: true });
-        }
-    });
-
-    test('the package has all its files', () => {
-        const { files, exports, types } = JSON.parse(readFileSync(path.join(HERE, 'package.json'), 'utf8'));
-        assert.deepEqual(files, ['linda_space.mjs', 'lib', 'types']);
-        for (const file of [exports['.'].default, exports['.'].types, types]) assert.ok(readFileSync(path.join(HERE, file), 'utf8').length > 0);
-    });
+test('the package has all its files', () => {
+    const { files, exports } = JSON.parse(readFileSync(path.join(HERE, 'package.json'), 'utf8'));
+    assert.deepEqual(files, ['linda_space.mjs', 'lib', 'types']);
+    assert.ok(readFileSync(path.join(HERE, exports['.'].default), 'utf8').length > 0);
 });
 
 // ---- JSON values as fields

@@ -1,6 +1,6 @@
 // What TypeScript has to let pass, and what it has to refuse: tsc says so of each line after an @ts-expect-error without an error.
 import {
-    ANY, BOOL, Gone, In, INT, NumberInUse, Offer, pack, PACKED, Pool, range, Rd, Refused, Space, SpaceError, TEXT, type Tuple, type Value,
+    ANY, BOOL, Gone, In, INT, NumberInUse, Offer, pack, PACKED, Pool, range, Rd, Refused, Space, SpaceError, TEXT, TRIES, type Tuple, type Value,
 } from 'linda-space';
 
 type Same<A, B> = (<T>() => T extends A ? 1 : 2) extends (<T>() => T extends B ? 1 : 2) ? true : false;
@@ -41,7 +41,9 @@ export async function passes(): Promise<void> {
     await space.out(row);
     await space.out(['doc', 7, number, ...pack({}, 3)]);
     const doc: Tuple = await space.take(['doc', 7, ...PACKED]);
-    const done: number = await space.work(['job', INT], ([, i]) => ['done', i], { tries: 3, delay: 10, stop: Rd('stop'), onerror: console.error });
+    const done: number = await space.work(['job', TRIES, INT], ([, , i]) => ['done', i], {
+        tries: 3, delay: 10, limit: 500, grace: 0, stop: Rd('stop'), onerror: console.error,
+    });
     await space.work([In('urgent', INT), In('job', INT)], () => null);
     await space.work(In('job', INT), async (tuple) => [['done', 1], ['more', 'x']]);
     const pool = new Pool([7000], { size: 4 });

@@ -184,6 +184,9 @@ class WithServers(unittest.TestCase):
     def setUp(self) -> None:
         self.folder = Path(tempfile.mkdtemp())
         self.addCleanup(shutil.rmtree, self.folder)
+        state = mock.patch.dict(os.environ, {"LINDA_STATE": str(self.folder / "of programs")})
+        state.start()
+        self.addCleanup(state.stop)
 
     def serve(self, name: str = "one", port: int = 0, *words: str) -> Server:
         (self.folder / name).mkdir(exist_ok=True)
@@ -512,11 +515,20 @@ class OverServers(WithServers):
         server = self.serve()
         with socket.socket() as taken:
             taken.bind(("127.0.0.1", 0))
-            begin = time.monotonic()
+            port, begin = taken.getsockname()[1], time.monotonic()
             with self.assertRaises(NoConnection) as caught:
-                Space([server.port, taken.getsockname()[1]], 7)
-        self.assertEqual(caught.exception.server, 1)
+                Space([server.port, port], 7)
+        self.assertEqual((caught.exception.server, str(caught.exception)), (1, f"server 1: no connection to port {port}: Connection refused"))
         self.assertLess(time.monotonic() - begin, 5)
+        path = f"{self.folder}/none"
+        with self.assertRaises(NoConnection) as caught:
+            Space([path], 7)
+        self.assertEqual(str(caught.exception), f"server 0: no connection to {path}: No such file or directory")
+        with socket.create_server(("127.0.0.1", 0)) as silent:
+            port = silent.getsockname()[1]
+            with self.assertRaises(NoConnection) as caught:
+                Space([port], 7, patience=0.3)
+        self.assertEqual(str(caught.exception), f"server 0: no connection to port {port}: timed out, no Hello was answered")
         self.assertEqual(self.space(server).out("a"), (0, 1))
 
     def test_leave(self) -> None:
@@ -586,7 +598,7 @@ class OverServers(WithServers):
 
     def test_too_many_clients(self) -> None:
         (self.folder / "one").mkdir()
-        # A bank (docs/FORMATS.md): clients 0 to 65,534 have left with their number 1, and there is no tuple. Then a closed gate.
+        # A bank (docs/PROTOCOL.md): clients 0 to 65,534 have left with their number 1, and there is no tuple. Then a closed gate.
         snapshot = b"".join([frames.spell_number(1), bytes(4), frames.spell_number(MOST_CLIENTS - 1, 4),
                              *(frames.spell_number(client, 4) + frames.spell_number(1) + b"\4" for client in range(MOST_CLIENTS - 1))])
         bank = b"\1LND2" + frames.spell_number(1) + frames.spell_number(len(snapshot), 4) + snapshot + b"\0"

@@ -32,7 +32,8 @@ from test_linda_space import PATIENCE, Going, OverPairs, WithServers, frames, ha
 import test_linda_space
 
 from linda_space.pool import Lent
-from linda_space import ANY, INT, TEXT, Busy, Closed, Gone, In, NoConnection, NoNumber, NumberInUse, OutOfRange, Pool, Rd, Refused, Restored, Space, TimedOut, aio
+from linda_space import (
+    ANY, INT, TEXT, TRIES, Busy, Closed, Gone, In, NoConnection, NoNumber, NumberInUse, OutOfRange, Pool, Rd, Refused, Restored, Space, TimedOut, aio)
 
 
 
@@ -360,23 +361,26 @@ class Cut(OverPairs):
         ours.recv(1)
 
     def test_a_pool_that_is_closed_puts_back(self) -> None:
+        """Only the call that raises has a short patience."""
         self.puts: List[int] = []
-        pool = Pool([1], [7], size=1, connect=self.owing(self.put_back), patience=0.3)
-        with self.assertRaises(NoConnection):
+        pool = Pool([1], [7], size=1, connect=self.owing(self.put_back), patience=PATIENCE)
+        with mock.patch.object(pool._members[0], "_patience", 0.3), self.assertRaises(NoConnection):
             pool.take("job", INT)
         self.may_connect = True
-        with logged("pool") as words:
+        with logged("pool") as words, mock.patch("linda_space.pool.FINISH", PATIENCE):
             pool.close()
             pool.close()
         self.assertEqual((self.puts, words, self.faults), ([9], [], []))
 
         async def course() -> None:
-            async with aio.Pool([1], [7], size=1, connect=self.owing(self.put_back), patience=0.3) as pool:
-                with self.assertRaises(NoConnection):
+            async with aio.Pool([1], [7], size=1, connect=self.owing(self.put_back), patience=PATIENCE) as pool:
+                async with pool._lent(None) as (member, _):
+                    pass
+                with mock.patch.object(member._inner, "_patience", 0.3), self.assertRaises(NoConnection):
                     await pool.take("job", INT)
                 self.may_connect = True
 
-        with logged("pool") as words:
+        with logged("pool") as words, mock.patch("linda_space.aio.FINISH", PATIENCE):
             run(course)
         self.assertEqual((self.puts, words, self.faults), ([9, 9], [], []))
 
@@ -516,6 +520,46 @@ class Pools(WithServers):
                 self.pool(server, range(100, 103), patience=0.3)
         with self.assertRaises(OutOfRange):
             Pool([server.port], 7)
+
+    def test_a_put_that_was_never_sent(self) -> None:
+        """The error says so, and of one that was sent that the pool finishes it."""
+        server = self.serve()
+        pool = self.pool(server, [100, 101], size=1, patience=0.3)
+        server.kill()
+        gone = f"server 0: no connection to port {server.port}: Connection refused; "
+        with self.assertRaises(NoConnection) as sent:
+            pool.out("job", 1)
+        with self.assertRaises(NoConnection) as unsent:
+            pool.out("job", 2)
+        with self.assertRaises(NoConnection) as first:
+            self.pool(server, [102])
+        with mock.patch.object(pool, "_free", []), self.assertRaises(TimedOut) as late:
+            pool.out("job", 3, timeout=0.1)
+        faults = [sent.exception, unsent.exception, first.exception, late.exception]
+        self.assertEqual([(fault.pending, str(fault)) for fault in faults],
+                         [("out", gone + "pending: out, the pool finishes it"), (None, gone + "nothing was sent for this call"), (None, gone[:-2]),
+                          (None, "the time is up, and no member of the pool was free; nothing was sent for this call")])
+
+        async def course() -> List[Any]:
+            async with aio.Pool([server.port], [103], size=1, patience=0.3) as pool:
+                try:
+                    await pool.out("job", 4)
+                except NoConnection as fault:
+                    return [fault.pending, str(fault)]
+                return []
+
+        self.assertEqual(run(course), [None, gone + "nothing was sent for this call"])
+        server = self.serve("one", server.port)
+        self.assertEqual((self.retried(lambda: pool.look("job", 1)), pool.take_many("job", INT, count=9)), (("job", 1), [("job", 1)]))
+
+    def retried(self, call: Callable[[], Any]) -> Any:
+        """What a call returns once the pool has found that its server is there again."""
+        until = time.monotonic() + PATIENCE
+        while True:
+            try:
+                return call()
+            except (NoConnection, TimedOut, Refused):
+                self.assertLess(time.monotonic(), until)
 
     def test_nothing_is_put_twice_while_a_server_is_away(self) -> None:
         server = self.serve()
@@ -841,14 +885,90 @@ class Async(WithServers):
 
         async def course() -> int:
             async with aio.Space([server.port], 7) as space:
-                return await space.work(("job", INT, INT), function, tries=2, delay=0.1, timeout=0.5)
+                return await space.work(("job", INT, TRIES), function, tries=2, delay=0.1, timeout=0.5)
 
         self.assertEqual(run(course), 19)
-        self.assertEqual(({one[1] for one in other.take_many("done", INT, count=50)}, other.take("dead", 3, 2, TEXT, timeout=0)),
-                         (set(range(20)) - {3}, ("dead", 3, 2, "ValueError: three")))
+        self.assertEqual(({one[1] for one in other.take_many("done", INT, count=50)}, other.take("dead", "job", 3, 2, TEXT, timeout=0)),
+                         (set(range(20)) - {3}, ("dead", "job", 3, 2, "ValueError: three")))
+
+    def test_a_limit(self) -> None:
+        """The function is cancelled at its limit; one that is no coroutine has failed then, too."""
+        server = self.serve()
+        other = self.space(server, client=8)
+        other.out_many([("job", number, 0) for number in range(5)])
+        cancelled: list = []
+
+        async def slow(number: int) -> Any:
+            try:
+                await asyncio.sleep(PATIENCE)
+            except asyncio.CancelledError:
+                cancelled.append(number)
+                if number == 1:
+                    raise
+            return "late", number
+
+        def function(job: Any) -> Any:
+            if job[1] == 0:
+                time.sleep(0.4)
+            return slow(job[1]) if job[1] in (1, 2) else ("done", job[1])
+
+        async def course() -> int:
+            async with aio.Space([server.port], 7) as space:
+                return await space.work(("job", INT, TRIES), function, tries=1, timeout=0.5, limit=0.3)
+
+        self.assertEqual((run(course), cancelled, other.look("late", INT)), (2, [1, 2], None))
+        self.assertEqual(([one[1] for one in other.take_many("done", INT, count=9)], other.take_many("dead", *[ANY] * 4, count=9)),
+                         ([3, 4], [("dead", "job", number, 1, "the limit of 0.3 s") for number in range(3)]))
+
+    def test_a_work_that_is_cancelled_ends_its_function_first(self) -> None:
+        server, ends = self.serve(), []         # type: ignore[var-annotated]
+        other = self.space(server, client=8)
+        other.out("job", 1, 0)
+
+        async def function(job: Any) -> None:
+            try:
+                await asyncio.sleep(PATIENCE)
+            finally:
+                await asyncio.sleep(0.1)
+                ends.append("function")
+
+        async def course() -> None:
+            async with aio.Space([server.port], 7) as space:
+                work = asyncio.ensure_future(space.work(("job", INT, TRIES), function, tries=1))
+                await asyncio.sleep(0.3)
+                work.cancel()
+                try:
+                    await work
+                except asyncio.CancelledError:
+                    ends.append("work")
+                self.assertEqual(other.take("job", 1, 0, timeout=PATIENCE), ("job", 1, 0))
+
+        run(course)
+        self.assertEqual(ends, ["function", "work"])
+
+    def test_sigterm_ends_a_function_after_its_grace(self) -> None:
+        server = self.serve()
+        other = self.space(server, client=8)
+        other.out("job", 1, 0)
+        program = f"""
+            import asyncio, os, signal
+            from linda_space import INT, TRIES, aio
+            async def function(job):
+                os.kill(os.getpid(), signal.SIGTERM)
+                await asyncio.sleep({PATIENCE})
+            async def main():
+                async with aio.Space([{server.port}], 7) as space:
+                    print(await space.work(("job", INT, TRIES), function, tries=1, grace=0.5), flush=True)
+            asyncio.run(main())
+        """
+        began = time.monotonic()
+        done = subprocess.run([sys.executable, "-c", textwrap.dedent(program)], stdout=subprocess.PIPE, stderr=subprocess.DEVNULL, timeout=PATIENCE,
+                              env={**os.environ, "PYTHONPATH": str(test_linda_space.HERE)}, universal_newlines=True)
+        self.assertEqual((done.returncode, done.stdout, other.look("job", INT, INT)), (0, "0\n", ("job", 1, 0)))
+        self.assertLess(time.monotonic() - began, PATIENCE / 2)
 
     def test_works_at_once_end_in_any_order(self) -> None:
-        """SIGTERM lets all of them finish their jobs, and does after them what it did before."""
+        """SIGTERM lets all of them finish their jobs and return, and does after them what it did before."""
         server = self.serve()
         program = f"""
             import asyncio, os, signal, sys
@@ -868,10 +988,11 @@ class Async(WithServers):
                         print(await second, flush=True)
                     os.kill(os.getpid(), signal.SIGTERM)
                     print(await second, flush=True)
+                    os.kill(os.getpid(), signal.SIGTERM)
                     await asyncio.sleep(30)
             asyncio.run(main())
         """
-        for words, status, lines in (([], 128 + signal.SIGTERM, "0\n"), (["after"], -signal.SIGTERM, "0\n1\n")):
+        for words, status, lines in (([], -signal.SIGTERM, "0\n1\n"), (["after"], -signal.SIGTERM, "0\n1\n")):
             done = subprocess.run([sys.executable, "-c", textwrap.dedent(program), *words], stdout=subprocess.PIPE, stderr=subprocess.DEVNULL, timeout=PATIENCE,
                                   env={**os.environ, "PYTHONPATH": str(test_linda_space.HERE)}, universal_newlines=True)
             self.assertEqual((done.returncode, done.stdout), (status, lines))

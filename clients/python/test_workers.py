@@ -9,6 +9,7 @@ The program is the one that LINDA names, `linda` at the top of the repository if
 from __future__ import annotations
 
 import errno
+import hashlib
 import inspect
 import logging
 import multiprocessing
@@ -33,8 +34,8 @@ from test_linda_space import PATIENCE, Going, Peer, Server, WithServers, frames,
 
 from linda_space import numbers as client_numbers, working
 from linda_space import (
-    ANY, INT, TEXT, Busy, Choose, Closed, Forked, Gone, In, NoConnection, NoNumber, NumberInUse, Offer, Outcome, OutOfRange, Pool, Rd, Refused, Restored, Space,
-    SpaceError, TimedOut)
+    ANY, INT, TEXT, TRIES, Busy, Choose, Closed, Forked, Gone, In, NoConnection, NoNumber, NumberInUse, Offer, Outcome, OutOfRange, Pool, Rd, Refused, Restored,
+    Space, SpaceError, TimedOut)
 
 HERE = Path(__file__).resolve().parent
 
@@ -397,12 +398,63 @@ class Numbers(WithServers):
             last = space.last_reply()
             return space.client, last.tuple if last and last.kind == "taken" else None
 
-    def test_none_is_looked_at_after_one_that_was_never_used(self) -> None:
+    def test_a_new_number_is_synced(self) -> None:
+        """Its file has it on the disk before anything is done under it: so what a server keeps for it is found after a power cut."""
+        server, own, sync = self.serve(), self.folder / "numbers", os.fsync
+        synced: List[Any] = []
+
+        def noted(file: int) -> None:
+            synced.append((os.readlink(f"/proc/self/fd/{file}"), os.pread(file, 100, 0)))
+            sync(file)
+
+        with mock.patch("os.fsync", noted), Space([server.port], own) as space:
+            self.assertEqual(synced, [(str(own.resolve()), f"{space.client}\n".encode())])
+
+    def test_an_unfinished_job_after_numbers_that_were_never_used(self) -> None:
+        """Of a range, a list and a file; and if the server has no place for those that were never used."""
+        (self.folder / "one").mkdir()
+        # A bank (docs/PROTOCOL.md): clients 0 to 65,534 have left with their number 1, and there is no tuple. Then a closed gate.
+        count, own = 65_535, self.folder / "numbers"
+        snapshot = b"".join([frames.spell_number(1), bytes(4), frames.spell_number(count, 4),
+                             *(frames.spell_number(client, 4) + frames.spell_number(1) + b"\4" for client in range(count))])
+        (self.folder / "one" / "left.bank").write_bytes(b"\1LND2" + frames.spell_number(1) + frames.spell_number(len(snapshot), 4) + snapshot + b"\0")
         server = self.serve()
-        self.kept(server, 102, b"\x02" + frames.spell_items("job", [1]))
-        with Space([server.port], 102) as space:
+        own.write_text("100000\n100002\n100004\n")
+        several: List[Any] = [range(100_000, 100_010), [100_009, 100_002, 100_000], own]
+        self.assertEqual([self.free(lambda: Space([server.port], numbers)) for numbers in several], [(100_000, None), (100_009, None), (100_000, None)])
+        self.kept(server, 100_002, b"\x02" + frames.spell_items("job", [1]))
+        with Space([server.port], 100_002) as space:
             space.take("job", INT)
-        self.assertEqual(self.free(lambda: Space([server.port], range(100, 110))), (100, None))
+        for numbers in several:
+            self.assertEqual(self.free(lambda: Space([server.port], numbers)), (100_002, ("job", 1)))
+        self.server.rest()
+        with self.assertRaisesRegex(Refused, "TooManyClients, detail 65536, client number 100001 is new to it, and it has no place for one: use a number"):
+            Space([server.port], range(100_000, 100_002), patience=0.1)
+
+    def test_a_number_of_a_file_that_was_just_looked_at(self) -> None:
+        """A number that only the server says is in use is waited for before a new one is drawn."""
+        server, own = self.serve(), self.folder / "numbers"
+        own.write_text("1000\n1001\n")
+        for _ in range(4):
+            with self.free_space(lambda: Space([server.port], own)) as one, Space([server.port], own) as two:
+                self.assertEqual((one.client, two.client, own.read_text()), (1000, 1001, "1000\n1001\n"))
+                with Space([server.port], own) as three:            # both are claimed: there is nothing to wait for
+                    self.assertEqual(own.read_text(), f"1000\n1001\n{three.client}\n")
+            own.write_text("1000\n1001\n")
+        self.server.rest()
+        peer = Peer(server.port)                                    # as a program of another machine
+        peer.greet(1000)
+        own.write_text("1000\n")
+        began = time.monotonic()
+        with mock.patch("linda_space.numbers.BUSY_PATIENCE", 0.5), Space([server.port], own) as space:
+            self.assertGreaterEqual(time.monotonic() - began, 0.5)
+            self.assertEqual(own.read_text(), f"1000\n{space.client}\n")
+        own.write_text("1000\n")
+        waiting = Going(lambda: Space([server.port], own))
+        time.sleep(0.2)
+        peer.close()
+        with waiting.end() as space:
+            self.assertEqual((space.client, own.read_text()), (1000, "1000\n"))
 
     def test_as_many_programs_as_numbers(self) -> None:
         """All begin at once, and none stays without a number because others look."""
@@ -552,8 +604,8 @@ class Numbers(WithServers):
                 Space([port], 1)
 
 
-class Work(WithServers):
-    """`work` loses no job."""
+class WithWorkers(WithServers):
+    """What tests of `work` need."""
 
     def worked(self, space: Space, function: Callable[[Any], Any], template: Any = ("job", INT), **how: Any) -> int:
         return space.work(template, function, **{"timeout": 0.3, **how})
@@ -564,6 +616,48 @@ class Work(WithServers):
             while (one := space.take(tag, *[ANY] * fields, timeout=0)) is not None:
                 found.append(one)
         return sorted(found)
+
+    def worker(self, port: int, body: str, how: str, template: str = '("job", INT)', client: int = 7, setting: str = "") -> subprocess.Popen:
+        program = f"""
+            import os, sys, time
+            {setting}
+            from linda_space import INT, TRIES, Rd, Space
+            def function(job):
+                {body}
+            with Space([{port}], {client}) as space:
+                print("connected", flush=True)
+                try:
+                    print("did", space.work({template}, function, {how}), flush=True)
+                finally:
+                    print("over", flush=True)
+        """
+        process = subprocess.Popen([sys.executable, "-c", textwrap.dedent(program)], stdout=subprocess.PIPE, stderr=subprocess.DEVNULL,
+                                   env={**os.environ, "PYTHONPATH": str(HERE)}, universal_newlines=True)
+        assert process.stdout
+        self.addCleanup(process.stdout.close)
+        self.addCleanup(process.wait)
+        self.addCleanup(process.kill)
+        self.assertEqual(process.stdout.readline(), "connected\n")
+        return process
+
+    def noted(self) -> str:
+        """What the one file of notes has, without its blanks."""
+        (file,) = (self.folder / "of programs").iterdir()
+        self.assertRegex(file.name, "^[0-9a-f]{32}-7[.]job$")
+        return file.read_text().rstrip(" ")
+
+    def gather(self, space: Space, jobs: int) -> None:
+        """The results of all jobs come, some perhaps twice."""
+        found: set = set()
+        while len(found) < jobs:
+            one = space.take("done", INT, timeout=20)
+            assert one is not None, f"{jobs - len(found)} of {jobs} jobs are lost: {sorted(set(range(jobs)) - found)[:20]}"
+            found.add(one[1])
+        self.assertEqual(found, set(range(jobs)))
+
+
+class Work(WithWorkers):
+    """`work` loses no job."""
 
     def test_results(self) -> None:
         space = self.space(self.serve())
@@ -615,10 +709,10 @@ class Work(WithServers):
                 raise ValueError("é" * 1_000)
             return "done", job[1], job[2]
 
-        self.assertEqual(self.worked(space, function, ("job", INT, INT), tries=3, delay=0.8, timeout=1.5), 2)
+        self.assertEqual(self.worked(space, function, ("job", INT, TRIES), tries=3, delay=0.8, timeout=1.5), 2)
         self.assertEqual(self.tuples(other, "done", 2), [("done", 1, 0), ("done", 2, 1)])
-        (dead,) = self.tuples(other, "dead", 4)
-        self.assertEqual(dead, ("dead", 3, 3, "ValueError: " + "é" * 494))                 # 12 bytes, and 988 of 1,000
+        (dead,) = self.tuples(other, "dead", 5)
+        self.assertEqual(dead, ("dead", "job", 3, 3, "ValueError: " + "é" * 494))          # 12 bytes, and 988 of 1,000
         at = {(job, failed): when for job, failed, when in seen}
         self.assertEqual(set(at), {(1, 0), (2, 0), (2, 1), (3, 0), (3, 1), (3, 2)})
         self.assertGreaterEqual(at[3, 1] - at[3, 0], 0.8)
@@ -636,10 +730,10 @@ class Work(WithServers):
                 self.worked(space, lambda job: results, ("job", INT, INT))
             self.assertEqual(other.take("job", 1, 0, timeout=PATIENCE), ("job", 1, 0))
             other.out("job", 1, 0)
-            self.assertEqual(self.worked(space, lambda job: results, ("job", INT, INT), tries=2, delay=0.01), 0)
-            dead = other.take("dead", 1, 2, TEXT, timeout=0)
+            self.assertEqual(self.worked(space, lambda job: results, ("job", INT, TRIES), tries=2, delay=0.01), 0)
+            dead = other.take("dead", "job", 1, 2, TEXT, timeout=0)
             assert dead is not None
-            self.assertRegex(str(dead[3]), "^OutOfRange: ")
+            self.assertRegex(str(dead[4]), "^OutOfRange: ")
             other.out("job", 1, 0)
         self.assertIsNone(other.look("log", 1))
 
@@ -653,14 +747,15 @@ class Work(WithServers):
 
         space = self.space(self.serve())
         space.out("job", 1, 0)
-        self.assertEqual(self.worked(space, function, ("job", INT, INT), tries=1), 0)
-        self.assertEqual((space._machine.held, space.take("dead", 1, 1, TEXT, timeout=0)), ({}, ("dead", 1, 1, "Silent: an error without a text")))
+        self.assertEqual(self.worked(space, function, ("job", INT, TRIES), tries=1), 0)
+        dead = space.take("dead", "job", 1, 1, TEXT, timeout=0)
+        self.assertEqual((space._machine.held, dead), ({}, ("dead", "job", 1, 1, "Silent: an error without a text")))
 
     def test_a_job_that_waits_for_its_next_try_is_free_if_the_worker_is_killed(self) -> None:
         server = self.serve()
         other = self.space(server, client=8)
         other.out("job", 1, 0)
-        process = self.worker(server.port, 'print("fails", flush=True); raise ValueError("no")', "tries=9, delay=60", '("job", INT, INT)')
+        process = self.worker(server.port, 'print("fails", flush=True); raise ValueError("no")', "tries=9, delay=60", '("job", INT, TRIES)')
         assert process.stdout
         self.assertEqual(process.stdout.readline(), "fails\n")
         self.assertIsNone(other.take("job", INT, INT, timeout=1.0))         # it is held until its next try
@@ -673,12 +768,12 @@ class Work(WithServers):
         other.out("job", 1, 0)
         other.out("job", 2, 4)
         body = 'print("begins", flush=True); time.sleep(1); print("ends", flush=True); return ("done", job[1]) if job[1] == 1 else 1 // 0'
-        process = self.worker(server.port, body, "tries=9, delay=60", '("job", INT, INT)')
+        process = self.worker(server.port, body, "tries=9, delay=60", '("job", INT, TRIES)')
         assert process.stdout
         self.assertEqual([process.stdout.readline() for _ in range(3)], ["begins\n", "ends\n", "begins\n"])
         process.terminate()
-        self.assertEqual(process.stdout.read(), "ends\nover\n")
-        self.assertEqual(process.wait(PATIENCE), 143)
+        self.assertEqual(process.stdout.read(), "ends\ndid 1\nover\n")
+        self.assertEqual(process.wait(PATIENCE), 0)
         self.assertEqual([other.take("done", INT, timeout=0), other.take("job", INT, INT, timeout=0), other.take("job", INT, INT, timeout=0)],
                          [("done", 1), ("job", 2, 5), None])
 
@@ -701,7 +796,8 @@ class Work(WithServers):
         """Nothing is held then, wherever the interrupt comes between the offer and the end of the job."""
         server = self.serve()
         other = self.space(server, client=8)
-        for call in (working.Worker.next_job, working.Worker.guarded, working.Worker.do, working.Worker.steps, working.play, Space._hold_or):
+        worker = working.Worker
+        for call in (worker.next_job, worker.guarded, worker.do, worker.call, worker.steps, working.play, Space._hold_or):
             lines, first = inspect.getsourcelines(call)
             for place in range(first, first + len(lines)):
                 other.purge("job", INT)
@@ -733,28 +829,6 @@ class Work(WithServers):
         timer.start()
         self.assertEqual((space.work(("never",), lambda job: None), called), (0, [signal.SIGTERM]))
 
-    def worker(self, port: int, body: str, how: str, template: str = '("job", INT)', client: int = 7) -> subprocess.Popen:
-        program = f"""
-            import sys, time
-            from linda_space import INT, Rd, Space
-            def function(job):
-                {body}
-            with Space([{port}], {client}) as space:
-                print("connected", flush=True)
-                try:
-                    print("did", space.work({template}, function, {how}), flush=True)
-                finally:
-                    print("over", flush=True)
-        """
-        process = subprocess.Popen([sys.executable, "-c", textwrap.dedent(program)], stdout=subprocess.PIPE, stderr=subprocess.DEVNULL,
-                                   env={**os.environ, "PYTHONPATH": str(HERE)}, universal_newlines=True)
-        assert process.stdout
-        self.addCleanup(process.stdout.close)
-        self.addCleanup(process.wait)
-        self.addCleanup(process.kill)
-        self.assertEqual(process.stdout.readline(), "connected\n")
-        return process
-
     def test_stop_words_and_flags(self) -> None:
         server = self.serve()
         space, other = self.space(server), self.space(server, client=8)
@@ -771,8 +845,9 @@ class Work(WithServers):
         for stop in (In("stop"), 7, "stop"):
             with self.assertRaises(OutOfRange):
                 space.work(("job", INT), lambda job: None, stop=stop)      # type: ignore[arg-type]
-        for template, how in ((("job", ANY), {"tries": 3}), (("job",), {"tries": 3}), (("job", *[INT] * 32), {"tries": 3}), (("job", INT), {"tries": 0}),
-                              ("job", {}), ([], {}), ([In("a"), "b"], {}), ((7.5,), {}), (("job", INT), {"delay": -1}), (("job", INT), {"keep": 0})):
+        for template, how in ((("job", ANY), {"tries": 3}), (("job",), {"tries": 3}), (("job", TRIES), {"tries": 0}),
+                              ("job", {}), ([], {}), ([In("a"), "b"], {}), ((7.5,), {}), (("job", INT), {"delay": -1}), (("job", INT), {"keep": 0}),
+                              (("job", INT), {"limit": 0}), (("job", INT), {"grace": -1})):
             with self.assertRaises(OutOfRange):
                 space.work(template, lambda job: None, **how)              # type: ignore[arg-type]
 
@@ -849,8 +924,8 @@ class Work(WithServers):
         server = self.serve()
         boss = self.space(server, client=8)
         dice, jobs = random.Random(7), 600
-        body, how = 'return "done", job[1]', "tries=3"
-        workers = {client: self.worker(server.port, body, how, '("job", INT, INT)', client) for client in (21, 22, 23)}
+        body, how, template = 'return "done", job[1]', "tries=99", '("job", INT, TRIES)'
+        workers = {client: self.worker(server.port, body, how, template, client) for client in (21, 22, 23)}
         putting = Going(lambda: [boss.out("job", number, 0) for number in range(jobs)])
         kills = 0
         while putting.ends.empty() or kills < 12:
@@ -858,20 +933,396 @@ class Work(WithServers):
             client = dice.choice(sorted(workers))
             workers[client].kill()
             workers[client].wait()
-            workers[client] = self.worker(server.port, body, how, '("job", INT, INT)', client)
+            workers[client] = self.worker(server.port, body, how, template, client)
             kills += 1
         putting.end()
         self.gather(boss, jobs)
-        self.assertIsNone(boss.look("job", ANY, ANY))
+        until = time.monotonic() + PATIENCE
+        while boss.look("job", ANY, ANY) is not None and time.monotonic() < until:
+            time.sleep(0.01)                                    # it failed when its worker was killed, and waits for its next try
+        self.assertEqual((boss.look("job", ANY, ANY), boss.look("dead", *[ANY] * 4)), (None, None))
 
-    def gather(self, space: Space, jobs: int) -> None:
-        """The results of all jobs come, some perhaps twice."""
-        found: set = set()
-        while len(found) < jobs:
-            one = space.take("done", INT, timeout=20)
-            assert one is not None, f"{jobs - len(found)} of {jobs} jobs are lost: {sorted(set(range(jobs)) - found)[:20]}"
-            found.add(one[1])
-        self.assertEqual(found, set(range(jobs)))
+    def test_sigterm_ends_a_function_after_its_grace(self) -> None:
+        """Its job is free, and has not failed; a second SIGTERM does at once what it did before. So with a program that uses SIGALRM for something else."""
+        server = self.serve()
+        other = self.space(server, client=8)
+        other.out("job", 1, 0)
+        body, how = 'print("begins", flush=True); time.sleep(60)', "tries=1, grace=0.5"
+        for setting in ("", "import signal; signal.signal(signal.SIGALRM, print)"):
+            process = self.worker(server.port, body, how + (", limit=50" if setting else ""), '("job", INT, TRIES)', setting=setting)
+            assert process.stdout
+            self.assertEqual(process.stdout.readline(), "begins\n")
+            process.terminate()
+            self.assertEqual((process.stdout.read(), process.wait(PATIENCE)), ("did 0\nover\n", 0))
+            self.assertEqual((other.look("job", INT, INT), self.noted()), (("job", 1, 0), ""))
+        process = self.worker(server.port, body, "grace=50", '("job", INT, INT)')
+        assert process.stdout
+        self.assertEqual(process.stdout.readline(), "begins\n")
+        process.terminate()
+        time.sleep(0.5)
+        self.assertIsNone(process.poll())
+        process.terminate()
+        self.assertEqual((process.stdout.read(), process.wait(PATIENCE)), ("", -signal.SIGTERM))
+
+
+
+class Tries(WithWorkers):
+    """Jobs that fail, by an exception, by what they return, by their time, or with their worker."""
+
+    def test_the_count_has_a_place_of_its_own(self) -> None:
+        """No number of the job's own changes."""
+        space = self.space(self.serve())
+        for template, place in ((("job", INT, TRIES), 2), (("job", TRIES, INT), 1), ([In("no", TRIES), In("job", INT, TRIES, TEXT)], 2)):
+            wide: Any = ["x"] if template[0] == In("no", TRIES) else []
+            jobs = [("job", *((0, number) if place == 1 else (number, 0)), *wide) for number in (1, 9, 4)]
+            space.out_many(jobs)
+            seen: list = []
+
+            def function(job: Any) -> Any:
+                seen.append(job)
+                if job[place] == 0 and job[3 - place] in (1, 9):
+                    raise ConnectionError("a passing fault")
+                return "done", job[3 - place], job[3 - place] ** 2
+
+            self.assertEqual(self.worked(space, function, template, tries=3, delay=0.01), 3)
+            self.assertEqual(self.tuples(space, "done", 2), [("done", 1, 1), ("done", 4, 16), ("done", 9, 81)])
+            again = [("job", *((1, number) if place == 1 else (number, 1)), *wide) for number in (1, 9)]
+            self.assertEqual((seen, self.tuples(space, "dead", 5)), ([*jobs, *again], []))
+
+    def test_a_place_for_the_count_is_for_work_with_tries(self) -> None:
+        """All else with TRIES, and `tries` without it, is refused before anything is sent."""
+        server = self.serve()
+        space, pool = self.space(server), Pool([server.port], range(100, 110))
+        self.addCleanup(pool.close)
+        space.out("job", 1, 0)
+        none: Callable[[Any], Any] = lambda job: None       # noqa: E731
+        calls: List[Callable[[], Any]] = [
+            *(lambda call=call: call("job", INT, TRIES, timeout=0) for call in (space.take, space.read, space.look, space.purge, pool.take, pool.look)),
+            lambda: space.hold("job", INT, TRIES).__enter__(), lambda: space.take_many("job", INT, TRIES, count=1), lambda: space.sync(In("job", INT, TRIES)),
+            lambda: space.choose(In("job", INT, TRIES), timeout=0), lambda: space.choose(Choose(Rd("a"), In("job", INT, TRIES).nack(1))),
+            lambda: Rd("job", TRIES).wrap(1),
+            lambda: In(TRIES), lambda: space.out("job", TRIES),                             # type: ignore[arg-type]
+            lambda: space.work(("job", INT, TRIES), none), lambda: space.work([In("a"), In("job", INT, TRIES)], none),
+            lambda: space.work(("job", INT, TRIES), none, stop=Rd("stop", TRIES), tries=3),
+            lambda: space.work(("job", INT, INT), none, tries=3), lambda: space.work(("job", TRIES, TRIES), none, tries=3),
+            lambda: space.work([In("job", INT, TRIES), In("job", INT, INT)], none, tries=3), lambda: space.work(("job", *[INT] * 30, TRIES), none, tries=3)]
+        with mock.patch("linda_space.machine.spell_ask", side_effect=AssertionError), mock.patch("linda_space.together.spell_ask", side_effect=AssertionError):
+            for call in calls:
+                with self.assertRaises(OutOfRange):
+                    call()
+        self.assertEqual((space.look("job", INT, INT), (self.folder / "of programs").exists()), (("job", 1, 0), False))
+
+    def test_dead_letters_have_the_whole_job(self) -> None:
+        space = self.space(self.serve())
+        space.out_many([("email", 5, 0), ("sms", 5, 0), ("old", -7), ("wide", *[1] * 29, 8)])
+
+        def function(job: Any) -> Any:
+            raise ValueError("no")
+
+        templates = [In("email", INT, TRIES), In("sms", INT, TRIES), In("old", TRIES), In("wide", *[INT] * 29, TRIES)]
+        self.assertEqual(self.worked(space, function, templates, tries=1), 0)
+        self.assertEqual([self.tuples(space, "dead", count) for count in (3, 4, 32)],
+                         [[("dead", "old", 1, "ValueError: no")], [("dead", tag, 5, 1, "ValueError: no") for tag in ("email", "sms")],
+                          [("dead", "wide", *[1] * 29, 9, "ValueError: no")]])
+
+    def test_what_a_function_may_not_return_is_a_failure(self) -> None:
+        """And so is an error of the library, of another space for example, as long as the worker can go on."""
+        server = self.serve()
+        space, other = self.space(server), self.space(server, client=8)
+
+        def lost(job: Any) -> Any:
+            other.out("lock", 1)
+            with other.hold("lock", INT) as lock:
+                other._let_go_all()
+                lock.renew()
+
+        def refused(job: Any) -> Any:
+            raise Refused(0, 6, 0, 7)
+
+        wrong: List[Callable[[Any], Any]] = [lambda job: 7, lambda job: [("a",), 7], lambda job: ("a", 1.5), lost, refused, lambda job: Space([1], 9)]
+        names = ("TypeError", "TypeError", "OutOfRange", "Gone", "Refused", "NoConnection")
+        for number, (function, name) in enumerate(zip(wrong, names)):
+            space.out("job", number, 0)
+            self.assertEqual(self.worked(space, function, ("job", INT, TRIES), tries=1), 0)
+            dead = space.take("dead", "job", number, 1, TEXT, timeout=0)
+            self.assertRegex(str(dead), name)
+            with self.assertRaises((SpaceError, TypeError)):                # without tries the job is free again
+                space.out("job", number, 0)
+                self.worked(space, function, ("job", INT, INT))
+            self.assertEqual((space._machine.held, space.take("job", number, 0)), ({}, ("job", number, 0)))
+
+    # ---- a job that ends its worker
+
+    def lives(self, server: Any, body: str, how: str, count: int) -> List[int]:
+        """The statuses of so many lives of worker 7, one after another."""
+        return [self.worker(server.port, body, "timeout=0.5, " + how, '("job", INT, TRIES)').wait(PATIENCE) for _ in range(count)]
+
+    def test_a_job_that_ends_its_worker(self) -> None:
+        server = self.serve()
+        other = self.space(server, client=8)
+        for number in (7, 8):
+            other.out("job", number, 0)
+        body, how = 'sys.stdout.flush(); os._exit(9) if job[1] == 7 else None; return "done", job[1]', "tries=2, delay=0.01"
+        sha = hashlib.sha256(frames.spell_items("job", [7, 0])).hexdigest()[:32]
+        self.assertEqual((self.lives(server, body, how, 1), self.noted(), other.look("done", INT)), ([9], f"1 {sha} {server.port}\n", None))
+        (file,) = (self.folder / "of programs").iterdir()
+        self.assertEqual(file.name, hashlib.sha256(f"ports {server.port}".encode()).hexdigest()[:32] + "-7.job")
+        self.assertEqual((self.lives(server, body, how, 1), other.take("done", INT), other.look("job", INT, INT)), ([9], ("done", 8), ("job", 7, 1)))
+        self.assertEqual((self.lives(server, body, how, 2), self.noted()), ([0, 0], ""))
+        self.assertEqual(self.tuples(other, "dead", 4), [("dead", "job", 7, 2, "the worker ended")])
+
+    def test_exit_in_a_function_ends_a_life_too(self) -> None:
+        server = self.serve()
+        other = self.space(server, client=8)
+        other.out("job", 7, 0)
+        self.assertEqual(self.lives(server, "sys.exit(3)", "tries=1", 2), [3, 0])
+        self.assertEqual(self.tuples(other, "dead", 4), [("dead", "job", 7, 1, "the worker ended")])
+
+    def test_several_such_jobs_and_one_worker(self) -> None:
+        """Each is counted though the next one ends the worker before its delay is over, and all others are done."""
+        server = self.serve()
+        other = self.space(server, client=8)
+        other.out_many([("job", number, 0) for number in range(9)])
+        body = 'os._exit(9) if job[1] < 2 else None; return "done", job[1]'
+        self.assertEqual(self.lives(server, body, "tries=2, delay=0.3", 5), [9, 9, 9, 9, 0])
+        self.assertEqual(self.tuples(other, "dead", 4), [("dead", "job", number, 2, "the worker ended") for number in (0, 1)])
+        self.assertEqual((self.tuples(other, "done", 1), self.tuples(other, "job", 2)), ([("done", number) for number in range(2, 9)], []))
+
+    def note(self, space: Space, text: str) -> Path:
+        """Writes the note of the space's number."""
+        file = self.folder / "of programs" / f"{space._numbers.key(space._ports)}-{space.client}.job"
+        file.parent.mkdir(exist_ok=True)
+        file.write_text(text)
+        return file
+
+    def test_only_the_very_job_is_counted(self) -> None:
+        server = self.serve()
+        space = self.space(server)
+        sha, port = hashlib.sha256(frames.spell_items("job", [1, 0])).hexdigest()[:32], server.port
+        notes = ["", "\n", f"{{id}} {sha} {port}", f"{{next}} {sha} {port}\n", f"{{id}} {sha[::-1]} {port}\n", f"{{id}} {sha} {port + 1}\n",
+                 f"0{{id}} {sha} {port}\n", f"-{{id}} {sha} {port}\n", f"{{id}} {sha} {port}\n", f"\n{{id}} {sha} {port}\n left of a longer one"]
+        for place, words in enumerate(notes):
+            (_, id), seen = space.out("job", 1, 0), []
+            file = self.note(space, words.format(id=id, next=id + 1))
+            self.assertEqual(self.worked(space, lambda job: seen.append(job), ("job", INT, TRIES), tries=3, delay=0.01), 1)
+            self.assertEqual(seen, [("job", 1, 1 if place >= 8 else 0)])
+            self.assertNotRegex(file.read_text(), "[0-9a-f]{32}[^\n]*\n")
+
+    def test_the_noted_job_comes_before_all_others(self) -> None:
+        """Those that are looked at before it are free again."""
+        left, right = self.serve("left"), self.serve("right")
+        space, other = self.space(left, right), self.space(left, right, client=8)
+        places = dict(zip(range(8), other.out_many([("job", number, 0) for number in range(8)])))
+        seen: list = []
+        noted = next(number for number in range(7, -1, -1) if places[number][0] == 1)
+        sha = hashlib.sha256(frames.spell_items("job", [noted, 0])).hexdigest()[:32]
+        self.note(space, f"{places[noted][1]} {sha} {right.port}\n")
+
+        def function(job: Any) -> Any:
+            if not seen:
+                self.assertEqual(other.look("dead", *[ANY] * 4), ("dead", "job", noted, 1, "the worker ended"))
+            seen.append(job)
+
+        self.assertEqual(self.worked(space, function, [In("none", TRIES), In("job", INT, TRIES)], tries=1), 7)
+        self.assertEqual((sorted(seen), self.tuples(other, "job", 2)), ([("job", number, 0) for number in range(8) if number != noted], []))
+
+    def test_a_noted_job_that_somebody_else_has(self) -> None:
+        server = self.serve()
+        space, other = self.space(server), self.space(server, client=8)
+        (_, id), seen = other.out("job", 1, 0), []
+        other.out("job", 2, 0)
+        file = self.note(space, f"{id} {hashlib.sha256(frames.spell_items('job', [1, 0])).hexdigest()[:32]} {server.port}\n")
+
+        def function(job: Any) -> Any:
+            seen.append(job)
+            lock.release()
+
+        with other.hold("job", 1, 0) as lock:
+            self.assertEqual(self.worked(space, function, ("job", INT, TRIES), tries=3), 2)
+        self.assertEqual((seen, file.read_text().strip(" ")), ([("job", 2, 0), ("job", 1, 1)], ""))
+
+    def test_the_note_ends_with_the_job(self) -> None:
+        """However it ends, as long as this process sees it; the file is written over, and not made anew."""
+        server = self.serve()
+        space, other = self.space(server), self.space(server, client=8)
+        notes: list = []
+
+        def function(job: Any) -> Any:
+            notes.append(self.noted())
+            if job[1] == 1:
+                raise ValueError
+            if job[1] == 2:
+                raise KeyboardInterrupt
+            if job[1] == 3:
+                space._release(next(iter(space._machine.held.values())))
+                other.take("job", INT, INT)
+
+        for number in range(4):
+            _, id = other.out("job", number, 0)
+            try:
+                self.worked(space, function, ("job", INT, TRIES), tries=1)
+            except KeyboardInterrupt:
+                pass
+            sha = hashlib.sha256(frames.spell_items("job", [number, 0])).hexdigest()[:32]
+            self.assertEqual((notes[number], self.noted(), (self.folder / "of programs").stat().st_nlink), (f"{id} {sha} {server.port}\n", "", 2))
+            other.purge("job", INT, INT)
+
+    def test_no_folder_for_notes(self) -> None:
+        space = self.space(self.serve())
+        (self.folder / "of programs").write_text("")
+        for number in range(3):
+            space.out("job", number, 0)
+        with logged("notes") as words:
+            self.assertEqual(self.worked(space, lambda job: None, ("job", INT, TRIES), tries=1), 3)
+        self.assertEqual(len(words), 1, words)
+
+    def test_no_room_for_notes(self) -> None:
+        space = self.space(self.serve())
+        for number in range(3):
+            space.out("job", number, 0)
+        with logged("notes") as words, mock.patch.object(os, "pwrite", side_effect=OSError(errno.ENOSPC, "none is left")):
+            self.assertEqual(self.worked(space, lambda job: None, ("job", INT, TRIES), tries=1), 3)
+        self.assertEqual(len(words), 1, words)
+
+    def test_no_file_without_tries(self) -> None:
+        space = self.space(self.serve())
+        space.out("job", 1)
+        self.assertEqual((self.worked(space, lambda job: None), (self.folder / "of programs").exists()), (1, False))
+
+    def test_many_workers_and_one_such_job(self) -> None:
+        server, jobs = self.serve(), 40
+        boss = self.space(server, client=8)
+        boss.out_many([("job", number, 0) for number in range(jobs)])
+        body, how = 'time.sleep(0.02); os._exit(9) if job[1] == 0 else None; return "done", job[1]', 'tries=2, delay=0.1, stop=Rd("stop")'
+        start: Callable[[int], Any] = lambda client: self.worker(server.port, body, how, '("job", INT, TRIES)', client)     # noqa: E731
+        workers, dead = {client: start(client) for client in (21, 22, 23)}, None
+        while dead is None:
+            dead = boss.take("dead", *[ANY] * 4, timeout=0.05)
+            workers = {client: start(client) if process.poll() is not None else process for client, process in workers.items()}
+        self.assertEqual(dead, ("dead", "job", 0, 2, "the worker ended"))
+        done = {boss.take("done", INT, timeout=PATIENCE) for _ in range(jobs - 1)}
+        boss.out("stop")
+        self.assertEqual([process.wait(PATIENCE) for process in workers.values()], [0, 0, 0])
+        self.assertEqual((done, boss.look("done", INT), boss.look("job", INT, INT)), ({("done", number) for number in range(1, jobs)}, None, None))
+
+    # ---- time
+
+    def test_a_limit_in_the_main_thread(self) -> None:
+        space = self.space(self.serve())
+        before = signal.getsignal(signal.SIGALRM)
+        for number in range(3):
+            space.out("job", number, 0)
+
+        def function(job: Any) -> Any:
+            try:
+                time.sleep(PATIENCE if job[1] == 1 else 0.01)
+            except Exception:                       # the limit is none of these
+                pass
+            return "done", job[1]
+
+        began = time.monotonic()
+        self.assertEqual(self.worked(space, function, ("job", INT, TRIES), tries=1, limit=0.5), 2)
+        self.assertLess(time.monotonic() - began, PATIENCE / 2)
+        dead = [("dead", "job", 1, 1, "the limit of 0.5 s")]
+        self.assertEqual((self.tuples(space, "done", 1), self.tuples(space, "dead", 4)), ([("done", 0), ("done", 2)], dead))
+        self.assertEqual((signal.getsignal(signal.SIGALRM), signal.getitimer(signal.ITIMER_REAL)), (before, (0.0, 0.0)))
+        space.out("job", 1, 0)
+        with self.assertRaisesRegex(TimeoutError, "the limit of 0.5 s"):
+            self.worked(space, function, ("job", INT, INT), limit=0.5)
+        self.assertEqual((signal.getsignal(signal.SIGALRM), space.take("job", INT, INT, timeout=0)), (before, ("job", 1, 0)))
+
+    def test_a_limit_in_a_call_of_the_same_space(self) -> None:
+        """Its connections end with the function, and the job is found again and counted."""
+        server = self.serve()
+        space, other = self.space(server), self.space(server, client=8)
+        other.out_many([("job", number, 0) for number in range(3)])
+
+        def function(job: Any) -> Any:
+            if job[1] == 1:
+                space.take("never")
+            return "done", job[1]
+
+        self.assertEqual(self.worked(space, function, ("job", INT, TRIES), tries=2, delay=0.01, limit=0.3), 2)
+        dead = [("dead", "job", 1, 2, "the limit of 0.3 s")]
+        self.assertEqual((self.tuples(other, "done", 1), self.tuples(other, "dead", 4)), ([("done", 0), ("done", 2)], dead))
+
+    def limited_beside(self, work: Callable[[Space, Any], int]) -> None:
+        """What such a function returns late is not put, and other jobs are done meanwhile."""
+        server = self.serve()
+        space, other = self.space(server), self.space(server, client=8)
+        goes, threads = threading.Event(), []
+        for number in range(3):
+            other.out("job", number, 0)
+
+        def function(job: Any) -> Any:
+            threads.append(threading.current_thread())
+            if job[1] == 2:
+                raise ValueError("two")
+            if job[1] == 1:
+                goes.wait(PATIENCE)
+            return "done", job[1]
+
+        self.assertEqual(work(space, function), 1)
+        dead = [("dead", "job", 1, 1, "the limit of 0.3 s"), ("dead", "job", 2, 1, "ValueError: two")]
+        self.assertEqual((self.tuples(other, "done", 1), self.tuples(other, "dead", 4)), ([("done", 0)], dead))
+        goes.set()
+        for thread in threads:
+            thread.join(PATIENCE)
+        self.assertEqual((len(set(threads)), other.look("done", INT)), (3, None))
+
+    def test_a_limit_in_another_thread(self) -> None:
+        def work(space: Space, function: Any) -> int:
+            return int(Going(lambda: self.worked(space, function, ("job", INT, TRIES), tries=1, limit=0.3)).end())
+
+        self.limited_beside(work)
+
+    def test_a_limit_beside_an_alarm_of_the_program(self) -> None:
+        own: Callable[[int, Any], None] = lambda number, frame: None         # noqa: E731
+        self.addCleanup(signal.signal, signal.SIGALRM, signal.signal(signal.SIGALRM, own))
+        self.limited_beside(lambda space, function: self.worked(space, function, ("job", INT, TRIES), tries=1, limit=0.3))
+        self.assertIs(signal.getsignal(signal.SIGALRM), own)
+
+    def test_the_hold_of_a_function_that_cannot_be_ended(self) -> None:
+        """It is not renewed after its limit, so that the lease frees the job, and nothing is put for it."""
+        server = self.serve("one", 0, "--lease", "2")
+        space, other = self.space(server), self.space(server, client=8)
+        other.out("job", 1, 0)
+        taken: list = []
+
+        def function(job: Any) -> Any:
+            signal.pthread_sigmask(signal.SIG_BLOCK, [signal.SIGALRM])
+            try:
+                taken.append(other.take("job", INT, INT, timeout=PATIENCE))
+            finally:
+                signal.pthread_sigmask(signal.SIG_UNBLOCK, [signal.SIGALRM])
+            return "done", job[1]
+
+        self.assertEqual(self.worked(space, function, ("job", INT, TRIES), tries=9, limit=0.5), 0)
+        self.assertEqual((taken, other.look("done", INT), other.look("job", INT, INT), other.look("dead", *[ANY] * 4)), ([("job", 1, 0)], None, None, None))
+
+    def test_a_job_that_waits_is_renewed_while_another_is_late(self) -> None:
+        """Also if the function of that cannot be ended."""
+        server = self.serve("one", 0, "--lease", "2")
+        space, other = self.space(server), self.space(server, client=8)
+        other.out("job", 1, 0)
+        other.out("job", 2, 0)
+        seen: list = []
+
+        def function(job: Any) -> Any:
+            seen.append(job)
+            if job == ("job", 1, 0):
+                raise ValueError
+            if job == ("job", 2, 0):
+                taking = Going(lambda: seen.append(other.take("job", 1, INT, timeout=5)))
+                signal.pthread_sigmask(signal.SIG_BLOCK, [signal.SIGALRM])
+                try:
+                    taking.end()
+                finally:
+                    signal.pthread_sigmask(signal.SIG_UNBLOCK, [signal.SIGALRM])
+            return "done", job[1]
+
+        self.assertEqual(self.worked(space, function, ("job", INT, TRIES), tries=9, delay=0.5, limit=0.4), 2)
+        self.assertEqual(seen, [("job", 1, 0), ("job", 2, 0), None, ("job", 1, 1), ("job", 2, 1)])
 
 
 if __name__ == "__main__":

@@ -13,11 +13,11 @@ import client as frames
 from played.members import Crowd, Member, are_free_soon
 from played.peers import Peer
 from played.program import PATIENCE, SOON, equal
-from played.servers import WAYS, Server, free_port, in_both_ways, is_refused, many_files
+from played.servers import Server, free_port, is_refused, many_files, over_a_server
 from served import listing
 
 
-@in_both_ways
+@over_a_server
 def waits_for_others_puts(server):
     """A hundred clients, half of which wait for what the others put: each tuple goes to one of them, and each client hears in order of its tickets and of the tuples."""
     many_files()
@@ -75,7 +75,7 @@ def waits_for_others_puts(server):
     eyes.close()
 
 
-@in_both_ways
+@over_a_server
 def sessions_that_come_again(server):
     """Forty clients whose sessions end and begin again at once, 2,000 times, while others put what they wait for: none hears of its session before, and none is
     Busy for ever."""
@@ -153,74 +153,68 @@ def sessions_that_come_again(server):
 
 def sessions_of_a_crowd(folder):
     """A server that ends after a hundred connections serves each of them to its end, whichever loop has it, and none of those after them."""
-    for way, words in WAYS.items():
-        own = folder / way
-        own.mkdir()
-        with Server(own, free_port(), "--sessions", "100", *words) as server:
-            peers = [Peer(server.port, client) for client in range(100)]
-            more = [socket.create_connection(("127.0.0.1", server.port), timeout=SOON) for _ in range(5)]
-            for one in more:
-                one.sendall(frames.hello(200, True))
-            for number, peer in enumerate(random.Random(3).sample(peers, 100), 1):
-                equal((way, server.process.poll()), (way, None))
-                equal((way, peer.ask(frames.out(1, "a"))), (way, f"Stored number 1, id {number}"))
-                peer.close()
-            equal((way, server.end()), (way, (0, "", "")))
-            for one in more:
-                try:
-                    equal((way, one.recv(1)), (way, b""))
-                except ConnectionResetError:
-                    pass
-                one.close()
-            is_refused(server.port)
+    with Server(folder, free_port(), "--sessions", "100") as server:
+        peers = [Peer(server.port, client) for client in range(100)]
+        more = [socket.create_connection(("127.0.0.1", server.port), timeout=SOON) for _ in range(5)]
+        for one in more:
+            one.sendall(frames.hello(200, True))
+        for number, peer in enumerate(random.Random(3).sample(peers, 100), 1):
+            equal(server.process.poll(), None)
+            equal(peer.ask(frames.out(1, "a")), f"Stored number 1, id {number}")
+            peer.close()
+        equal(server.end(), (0, "", ""))
+        for one in more:
+            try:
+                equal(one.recv(1), b"")
+            except ConnectionResetError:
+                pass
+            one.close()
+        is_refused(server.port)
 
 
 def a_kill_under_a_crowd(folder):
     """A server is killed while a hundred clients put and take. All that was answered is there after it, and of what was not, each is done or not; the clients go on."""
-    for way, words in WAYS.items():
-        own = folder / way
-        own.mkdir()
-        with Server(own, 0, *words) as server:
-            crowd = Crowd(server.port, range(1, 101))
+    with Server(folder, 0) as server:
+        crowd = Crowd(server.port, range(1, 101))
 
-            def kill():
-                # (on a busy machine the first answers come late)
-                until = time.monotonic() + SOON
-                time.sleep(1)
-                while len(crowd.stored) < 200 and time.monotonic() < until:
-                    time.sleep(0.01)
-                server.process.kill()
+        def kill():
+            # (on a busy machine the first answers come late)
+            until = time.monotonic() + SOON
+            time.sleep(1)
+            while len(crowd.stored) < 200 and time.monotonic() < until:
+                time.sleep(0.01)
+            server.process.kill()
 
-            killer = threading.Thread(target=kill)
-            killer.start()
-            try:
-                crowd.work(PATIENCE, PATIENCE)
-                raise AssertionError(f"{way}: the crowd works on without a server")
-            except (ConnectionError, AssertionError) as fault:
-                if server.process.wait(PATIENCE) != -signal.SIGKILL or not isinstance(fault, ConnectionError) and "ended" not in str(fault):
-                    raise
-        with Server(own, 0, *words) as server:
-            done = 0
-            for member in crowd.members:
-                member.close()
-                # (what it may have had under way is an Accept and an Out)
-                again = Peer(server.port)
-                last = int(again.ask(frames.hello(member.client, False)).rpartition(" ")[2])
-                heard = member.number - sum(name != "Offer" for name in member.wanted)
-                equal((way, member.client, heard <= last <= member.number), (way, member.client, True))
-                done += last - heard
-                again.close()
-            free = set(listing(server.port, frames.spell_items("work", [frames.ANY]), 1_000_000, PATIENCE))
-            kept = crowd.stored - crowd.taken
-            equal((way, len(crowd.stored) > 100), (way, True))
-            equal((way, free & crowd.taken), (way, set()))
-            # (of the tuples that were put or taken by a message that was not answered, some were put so and then taken, and for these both messages may be
-            # unanswered)
-            seen = len(kept - free) + len(free - kept) + len(crowd.taken - crowd.stored)
-            equal((way, seen <= done, (done - seen) % 2, done <= 200), (way, True, 0, True))
+        killer = threading.Thread(target=kill)
+        killer.start()
+        try:
+            crowd.work(PATIENCE, PATIENCE)
+            raise AssertionError("the crowd works on without a server")
+        except (ConnectionError, AssertionError) as fault:
+            if server.process.wait(PATIENCE) != -signal.SIGKILL or not isinstance(fault, ConnectionError) and "ended" not in str(fault):
+                raise
+    with Server(folder, 0) as server:
+        done = 0
+        for member in crowd.members:
+            member.close()
+            # (what it may have had under way is an Accept and an Out)
+            again = Peer(server.port)
+            last = int(again.ask(frames.hello(member.client, False)).rpartition(" ")[2])
+            heard = member.number - sum(name != "Offer" for name in member.wanted)
+            equal((member.client, heard <= last <= member.number), (member.client, True))
+            done += last - heard
+            again.close()
+        free = set(listing(server.port, frames.spell_items("work", [frames.ANY]), 1_000_000, PATIENCE))
+        kept = crowd.stored - crowd.taken
+        equal(len(crowd.stored) > 100, True)
+        equal(free & crowd.taken, set())
+        # (of the tuples that were put or taken by a message that was not answered, some were put so and then taken, and for these both messages may be
+        # unanswered)
+        seen = len(kept - free) + len(free - kept) + len(crowd.taken - crowd.stored)
+        equal((seen <= done, (done - seen) % 2, done <= 200), (True, 0, True))
 
 
-@in_both_ways
+@over_a_server
 def crowds(server):
     """256 clients, and then 1,000, put and take at once for three seconds: each has its answers, no tuple is taken twice, and what is left is there."""
     many_files()

@@ -8,13 +8,12 @@ import banks
 import client as frames
 from played.peers import Peer, has_by_rest, keys_that_are_free
 from played.program import SOON, equal, most
-from played.servers import SNAPSHOT_RECORDS, WAYS, Server, each_way, free_port, is_refused
+from played.servers import SNAPSHOT_RECORDS, Server, free_port, is_refused
 
 
-@each_way
 def connections_of_a_failed_device(folder):
     """If the server goes down, what is not answered is refused Down, every connection ends, one that was never greeted too, and no other is accepted: the
-    server ends by itself, and one that serves by threads at the next connection."""
+    server ends by itself."""
     with Server(folder, free_port(), before=lambda: most(resource.RLIMIT_FSIZE, 2000)) as server:
         with keys_that_are_free(server.port):
             silent, half, waiting = Peer(server.port), Peer(server.port), Peer(server.port, 8)
@@ -27,12 +26,8 @@ def connections_of_a_failed_device(folder):
             equal(reply, f"Stored number {number}, id {number}")
         equal((reply, number < 19), ("Refused Down, detail 0", True))
         for one in (peer, waiting, silent, half):
-            if not Server.way:
-                has_by_rest(server, one)
+            has_by_rest(server, one)
             one.end_comes()
-        if Server.way:
-            equal(server.process.poll(), None)
-            Peer(server.port).end_comes()
         equal(server.end(), (3, "", "store: down\n"))
         is_refused(server.port)
 
@@ -59,7 +54,6 @@ def a_failed_device_beside_a_peer_that_never_reads(folder):
         equal(server.end(), (3, "", "store: down\n"))
 
 
-@each_way
 def a_failed_device_is_told_past_a_stuck_peer(folder):
     """A client does not read the 8 MB that are due to it. The server goes down by the put of another, and the connections of all others end at once,
     whatever becomes of that client."""
@@ -79,12 +73,9 @@ def a_failed_device_is_told_past_a_stuck_peer(folder):
         waiting.end_comes()
         other.end_comes()
         stuck.close()
-        if Server.way:
-            Peer(server.port).end_comes()
         equal(server.end(), (3, "", "store: down\n"))
 
 
-@each_way
 def a_snapshot_ends_a_server(folder):
     """If the server goes down in a snapshot, and no message comes after that, every connection ends all the same, one that waits and one that never greeted
     too."""
@@ -103,39 +94,34 @@ def a_snapshot_ends_a_server(folder):
         for peer in (silent, waiting):
             peer.stream.settimeout(SOON)
             peer.end_comes()
-        if Server.way:
-            Peer(server.port).end_comes()
         equal(server.end(), (3, "", "store: down\n"))
 
 
 def a_failed_device_ends_a_crowd(folder):
     """If the server goes down by the put of one of a hundred clients, all of them get nothing more, and their connections end, whichever loop has them."""
-    for way, words in WAYS.items():
-        for who in (0, 99):
-            own = folder / f"{way}{who}"
-            own.mkdir()
-            with Server(own, 0, *words, before=lambda: most(resource.RLIMIT_FSIZE, 2_000)) as server:
-                peers, others = [], []
-                for client in range(100):
-                    # (each tenth has one before it that goes, so keys of both loops are free)
-                    if client % 10 == 0:
-                        others.append(Peer(server.port, 1_000 + client))
-                    peers.append(Peer(server.port, client))
-                for peer in peers:
-                    equal(peer.ask(frames.ask(1, True, "never"), frames.out(0, "a")), "Refused Old, detail 0")
-                for peer in others:
-                    peer.close()
-                putter = peers.pop(who)
-                for number in range(1, 20):
-                    if (reply := putter.ask(frames.out(number, "a", "x" * 200))) == "Refused Down, detail 0":
-                        break
-                equal((way, reply), (way, "Refused Down, detail 0"))
-                for peer in [putter, *peers]:
-                    peer.stream.settimeout(SOON)
-                    try:
-                        peer.end_comes()
-                    except TimeoutError:
-                        raise AssertionError(f"{way}: a connection does not end though the server is down") from None
-                if words:
-                    Peer(server.port).end_comes()
-                equal((way, server.end()), (way, (3, "", "store: down\n")))
+    for who in (0, 99):
+        own = folder / str(who)
+        own.mkdir()
+        with Server(own, 0, before=lambda: most(resource.RLIMIT_FSIZE, 2_000)) as server:
+            peers, others = [], []
+            for client in range(100):
+                # (each tenth has one before it that goes, so keys of both loops are free)
+                if client % 10 == 0:
+                    others.append(Peer(server.port, 1_000 + client))
+                peers.append(Peer(server.port, client))
+            for peer in peers:
+                equal(peer.ask(frames.ask(1, True, "never"), frames.out(0, "a")), "Refused Old, detail 0")
+            for peer in others:
+                peer.close()
+            putter = peers.pop(who)
+            for number in range(1, 20):
+                if (reply := putter.ask(frames.out(number, "a", "x" * 200))) == "Refused Down, detail 0":
+                    break
+            equal(reply, "Refused Down, detail 0")
+            for peer in [putter, *peers]:
+                peer.stream.settimeout(SOON)
+                try:
+                    peer.end_comes()
+                except TimeoutError:
+                    raise AssertionError("a connection does not end though the server is down") from None
+            equal(server.end(), (3, "", "store: down\n"))

@@ -223,8 +223,8 @@ with Space([int(sys.argv[2])], 7) as space, space.hold("job", INT) as offer:
 
 
 def refused_leases(folder):
-    """A lease is a number of seconds, and is not kept by threads: the command line is refused before a folder is made."""
-    for words, why in ((["--lease", "0"], "0"), (["--lease", "1s"], "1s"), (["--lease", "1", "--threads"], "--threads"), (["--lease", "4294967296"], "4294967296")):
+    """A lease is a number of seconds, from 1 on: the command line is refused before a folder is made."""
+    for words, why in ((["--lease", "0"], "0"), (["--lease", "1s"], "1s"), (["--lease", "4294967296"], "4294967296")):
         status, out, err = run("serve", "--port", 0, "--dir", folder / "none", *words)
         equal((status, out, why in err), (2, "", True))
     equal((folder / "none").exists(), False)

@@ -14,11 +14,11 @@ import client as frames
 from played.lines import BANK, TIME, log_lines
 from played.peers import Peer, connection, ended, puts
 from played.program import PATIENCE, equal, most, wait_until
-from played.servers import Server, each_way, free_port
+from played.servers import Server, free_port
 from served import rest, use_of
 
-# The bytes of address space in which a server can begin, and can have two threads for each of a few connections.
-ROOM_OF_THREADS = 200 * 2**20
+# The bytes of address space in which a server can begin, and could not have two threads for each of sixty connections.
+LITTLE_ROOM = 200 * 2**20
 
 
 def logs(folder):
@@ -51,7 +51,6 @@ def logs(folder):
                   rf"end cause sessions connections 0 deeds 0 tuples 1099 clients 2 next 1102 {BANK}")
 
 
-@each_way
 def logs_of_a_failed_device(folder):
     """The file of the bank in use takes no more: the log says which bank that is."""
     for side, generation in (("left", 1), ("right", 2)):
@@ -65,9 +64,6 @@ def logs_of_a_failed_device(folder):
             send(frames.hello(7, True) + b"".join(frames.out(number, "a", "x" * 200) for number in range(1, 20)))
             while receive() != "Refused Down, detail 0":
                 pass
-            if Server.way:
-                time.sleep(0.5)
-                socket.create_connection(("127.0.0.1", server.port)).close()
             status, _, err = server.end()
             equal(status, 3)
         equal(err.splitlines()[-1], "store: down")
@@ -104,31 +100,9 @@ def logs_of_a_bank_without_room(folder):
     equal(len(taken) > 0, True)
 
 
-def logs_of_no_threads(folder):
-    """Each connection has two threads: with little room for their stacks some are closed, and the log says so; others are served."""
-    with Server(folder, 0, "--threads", "--log", before=lambda: most(resource.RLIMIT_AS, ROOM_OF_THREADS)) as server:
-        peers = [Peer(server.port) for _ in range(60)]
-        told = []
-        for number, peer in enumerate(peers):
-            try:
-                told.append(peer.ask(frames.hello(number, True)))
-            except OSError:
-                told.append("closed")
-        equal(("Welcome last 0" in told, "closed" in told, set(told) - {"Welcome last 0", "closed"}), (True, True, set()))
-        server.hears(" limit lacks thread ")
-        for peer in peers:
-            peer.close()
-        # (threads that are gone leave their room)
-        rest(server.process.pid)
-        equal(Peer(server.port).ask(frames.hello(100, True)), "Welcome last 0")
-        server.process.terminate()
-        _, _, err = server.end()
-    log_lines(err, f"opened port {server.port} .*", r"limit lacks thread connections \d+")
-
-
-def loops_want_no_room(folder):
-    """In the room in which not all connections can have threads of their own, loops serve all of them, with no further thread, and log nothing."""
-    with Server(folder, 0, "--log", before=lambda: most(resource.RLIMIT_AS, ROOM_OF_THREADS)) as server:
+def connections_want_no_room(folder):
+    """In little room sixty connections are served, with no further thread, and nothing is logged."""
+    with Server(folder, 0, "--log", before=lambda: most(resource.RLIMIT_AS, LITTLE_ROOM)) as server:
         peers = [Peer(server.port, 0)]
         # (it says that it is ready before all its own threads are begun)
         rest(server.process.pid)
@@ -220,7 +194,6 @@ def logs_of_refusals(folder):
               rf"minute connections \d+ deeds 0 refused 0 unserved 0 {kept} busy {second} toomany 0 greetings 0 malformed 0 late 0", r"refused why malformed connections \d+")
 
 
-@each_way
 def logs_to_the_end(folder):
     """What happened just before the end is logged before the last line."""
     for _ in range(4):

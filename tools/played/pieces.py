@@ -13,14 +13,14 @@ import client as frames
 from played.members import Crowd
 from played.peers import Peer, again
 from played.program import PATIENCE, SOON, equal
-from played.servers import Server, in_both_ways
+from played.servers import Server, over_a_server
 from served import rest, use_of
 
 # A loop reads a connection in pieces of this many bytes.
 READ_AT_ONCE = 16_384
 
 
-@in_both_ways
+@over_a_server
 def ends_of_streams(server):
     """The last bytes and the end of the stream come at once, in pieces as long as one read, or shorter, or longer: all is answered, and then the connection
     ends."""
@@ -57,7 +57,7 @@ def ends_of_streams(server):
             peer.close()
 
 
-@in_both_ways
+@over_a_server
 def faults_of_a_length(server):
     """A length that no frame has is a fault by itself, after a Hello too: the client sends not a byte more, and does not end its side."""
     client = 0
@@ -80,7 +80,7 @@ def faults_of_a_length(server):
                 peer.close()
 
 
-@in_both_ways
+@over_a_server
 def many_messages_at_once(server):
     """More messages in one piece than a connection may have under way: all are answered, in order."""
     dice = random.Random(2)
@@ -113,7 +113,7 @@ def many_messages_at_once(server):
         peer.close()
 
 
-@in_both_ways
+@over_a_server
 def asks_behind_puts(server):
     """An Ask sees what came before it on its connection in the same piece, and not what comes after it, while others put and take."""
     others, faults = Crowd(server.port, range(100, 112)), []
@@ -161,7 +161,7 @@ def waiting_at(port, peer):
     return queued(port, peer.stream.getsockname()[1])[1]
 
 
-@in_both_ways
+@over_a_server
 def a_peer_that_never_reads(server):
     """Replies of 200 MB are due to it: it is read no more once some of them wait, the server rests and has little memory, others are answered; and once it reads, all come in order."""
     count, other = 1_500, Peer(server.port, 1)
@@ -215,7 +215,7 @@ def a_greeting_on_a_broken_connection(folder):
         other.close()
 
 
-@in_both_ways
+@over_a_server
 def halves_and_silence(server):
     """Connections that sent a part of a frame, cut at each place, keep nobody else waiting, and are answered when the rest comes."""
     hello, put = frames.hello(0, True), frames.out(1, "half", "x" * 40)
@@ -237,7 +237,7 @@ def halves_and_silence(server):
         peer.close()
 
 
-@in_both_ways
+@over_a_server
 def halves_cost_no_processor(server):
     """While connections wait that sent a part of a frame, greeted or not, the server does nothing."""
     peers = [Peer(server.port) for _ in range(4)] + [Peer(server.port, client) for client in range(1, 5)]

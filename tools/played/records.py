@@ -10,11 +10,10 @@ import client as frames
 from played.inspection import bank_of, records_in
 from played.peers import Peer, again
 from played.program import SOON, equal, most, wait_until
-from played.servers import SNAPSHOT_RECORDS, Server, each_way
+from played.servers import SNAPSHOT_RECORDS, Server
 from served import listing
 
 
-@each_way
 def a_burst_is_one_record(folder):
     """Messages that come at once are one record, 64 at most, a Leave among them; a Hello goes by itself, and so does a single message."""
     with Server(folder) as server:

@@ -1,4 +1,4 @@
-"""Servers, each a process on a folder; checks that are played for each way of serving; ports and open files."""
+"""Servers, each a process on a folder; checks over a server; ports and open files."""
 
 import functools
 import os
@@ -14,19 +14,14 @@ from served import free_port  # noqa: F401
 
 # The records after which a snapshot is due.
 SNAPSHOT_RECORDS = 1_024
-# The ways of serving, each with the words for it.
-WAYS = {"loops": (), "threads": ("--threads",)}
 
 
 class Server:
     """A server on a folder. `ready` waits for its line; `kill` is kill -9."""
 
-    # Words that each server is given, besides its own.
-    way = ()
-
     def __init__(self, folder, port=0, *words, before=None):
         where = () if port is None else ("--port", str(port))
-        self.process = subprocess.Popen([PROGRAM, "serve", *where, "--dir", str(folder), *self.way, *map(str, words)], preexec_fn=before,
+        self.process = subprocess.Popen([PROGRAM, "serve", *where, "--dir", str(folder), *map(str, words)], preexec_fn=before,
                                         stdout=subprocess.PIPE, stderr=subprocess.PIPE, text=True)
         self.heard = ""
         line = self.process.stdout.readline()
@@ -66,35 +61,12 @@ class Server:
         return self.process.returncode, out, self.heard + err
 
 
-def each_way(check):
-    """The check for each way of serving, in a folder of its own: all its servers serve in that way."""
+def over_a_server(check):
+    """The check over a new server."""
     @functools.wraps(check)
     def whole(folder):
-        for way, words in WAYS.items():
-            own = folder / way
-            own.mkdir()
-            Server.way = words
-            try:
-                check(own)
-            except (AssertionError, OSError) as fault:
-                raise AssertionError(f"{way}: {fault}") from fault
-            finally:
-                Server.way = ()
-    return whole
-
-
-def in_both_ways(check):
-    """The check over a server with loops, and over one with two threads for each connection."""
-    @functools.wraps(check)
-    def whole(folder):
-        for way, words in WAYS.items():
-            own = folder / way
-            own.mkdir()
-            with Server(own, 0, *words) as server:
-                try:
-                    check(server)
-                except (AssertionError, OSError) as fault:
-                    raise AssertionError(f"{way}: {fault}") from fault
+        with Server(folder) as server:
+            check(server)
     return whole
 
 

@@ -6,10 +6,9 @@ import time
 import client as frames
 from played.peers import Peer, again, connection, ended
 from played.program import equal, run, wait_until
-from played.servers import Server, each_way, free_port, is_refused
+from played.servers import Server, free_port, is_refused
 
 
-@each_way
 def greetings(folder):
     with Server(folder) as server:
         send, receive = connection(server.port)
@@ -43,7 +42,6 @@ def greetings(folder):
         wait_until(lambda: run("call", "--client", 7, server.port, given=""), (3, "", "server 0: refused 2 1\n"))
 
 
-@each_way
 def offers_to_others(folder):
     with Server(folder) as server:
         first, hear_first = connection(server.port)
@@ -61,7 +59,6 @@ def offers_to_others(folder):
         equal(hear_second(), 'Taken number 1, id 1, tuple ("a", 9)')
 
 
-@each_way
 def a_client_leaves(folder):
     """It holds a tuple for which another client waits, and waits for one itself. What it said is there after a kill."""
     with Server(folder) as server:
@@ -92,7 +89,6 @@ def a_client_leaves(folder):
     equal(run("inspect", folder, "--clients")[1].splitlines()[-2:], ["client 7 2 left", "client 8 1 stored 2"])
 
 
-@each_way
 def ends_of_connections(folder):
     """However a connection ends, its client leaves: what it held is free, what it waited for is over, and it may come again."""
     def closed(peer):
@@ -132,7 +128,6 @@ def ends_of_connections(folder):
             peer.close()
 
 
-@each_way
 def replies_of_a_batch(folder):
     """What comes at once is answered in its order: deeds, refusals, offers and greetings, and a malformed frame after them."""
     with Server(folder) as server:
@@ -146,7 +141,6 @@ def replies_of_a_batch(folder):
         peer.end_comes()
 
 
-@each_way
 def news_before_the_last_word(folder):
     """What another's message sent goes out before the word with which a connection ends, however close together both come."""
     with Server(folder) as server:
@@ -166,7 +160,6 @@ def news_before_the_last_word(folder):
                 peer.close()
 
 
-@each_way
 def sessions_of_a_server(folder):
     """So many connections are served and no more, each to its end, with a log and without one."""
     for words in ([], ["--log"]):
@@ -195,7 +188,6 @@ def only_this_machine(folder):
         Peer(port, 2).close()
 
 
-@each_way
 def peers_that_stop_reading(folder):
     with Server(folder) as server:
         stuck = socket.create_connection(("127.0.0.1", server.port))

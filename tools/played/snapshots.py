@@ -2,6 +2,7 @@
 
 import json
 import os
+import re
 import subprocess
 import time
 import urllib.request
@@ -111,6 +112,33 @@ def copies_to_one_place(folder):
         other.communicate(timeout=PATIENCE)
     equal(found, ((None, ""), 0, ["left.bank", "right.bank"]))
     equal((other.returncode, len(tuples_in(copy)), list(folder.glob("copy.*"))), (1, 10, []))
+
+
+# Says of each file whether the copy was there by its sync.
+NOTED_SYNC = """#!/bin/sh
+for it; do
+    if [ -e '{folder}/copy' ]; then echo "after $it"; else echo "before $it"; fi
+done >>'{folder}/synced'
+exec /bin/sync "$@"
+"""
+
+
+def a_copy_is_synced_and_private(folder):
+    """Of a copy by examples/backup.sh both files and their folder are synced before it has its name, and the folder above it afterwards; nobody else may
+    enter its folder or read its files, whatever whoever made it lets others do."""
+    space, copy, syncs = (folder / name for name in ("space", "copy", "syncs"))
+    for it in (space, syncs):
+        it.mkdir()
+    (syncs / "sync").write_text(NOTED_SYNC.format(folder=folder))
+    (syncs / "sync").chmod(0o755)
+    with Server(space) as server:
+        puts(server.port, 7, 10)
+        for bank in space.iterdir():
+            bank.chmod(0o666)
+        subprocess.run([TOP / "examples/backup.sh", space, copy], env={**os.environ, "PATH": f"{syncs}:{os.environ['PATH']}"}, umask=0, check=True)
+    synced = re.sub(r"copy\.part\.\w+", "part", (folder / "synced").read_text()).splitlines() if (folder / "synced").exists() else []
+    equal(synced, [*(f"before {folder}/part{name}" for name in ("/left.bank", "/right.bank", "")), f"after {folder}"])
+    equal([(it.name, oct(it.stat().st_mode & 0o077)) for it in sorted([copy, *copy.iterdir()])], [(name, "0o0") for name in ("copy", "left.bank", "right.bank")])
 
 
 def snapshots_in_steps(folder):

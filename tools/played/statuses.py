@@ -28,6 +28,17 @@ def refused_words(folder):
     for words in [["call", "--client", 1], ["call", "--help"]]:
         equal((words, [form for form in CALLS if form not in "".join(run(*words)[1:])]), (words, []))
     equal([line.split()[:2] for line in run("call", "--help")[1].splitlines() if line.startswith("      --socket")], [["--socket", "<PATH>"]])
+    # What is refused has the usage of its own command.
+    serve, call = ["serve", "--port", 0, "--dir", folder], ["call", "--client", 1]
+    for forms, words in ((SERVES, [*serve, "--socket", "s", "--mode", 608]), (SERVES, [*serve, "--mode", 600]), (SERVES, [*serve, "--status", "q"]),
+                         (SERVES, [*serve, "--status", 0]), (SERVES, [*serve, "--metric", "job"]), (CALLS, [*call, "--socket", "s", 7000]),
+                         (CALLS, [*call, *(it for _ in range(17) for it in ("--socket", "s"))])):
+        status, out, err = run(*words)
+        equal((words, status, out, "".join(forms) in err), (words, 2, "", True))
+    # The help has the bounds of each number.
+    for command, option, bounds in (("serve", "--lease", "from 1 to 4294967295"), ("serve", "--sessions", "from 0 to 4294967295"), ("call", "--client", "from 0 to 4294967295"),
+                                    ("serve", "--mode", "three octal digits"), ("serve", "--status", "from 1 to 65535")):
+        equal((option, [bounds in line for line in run(command, "--help")[1].splitlines() if line.startswith(f"      {option} ")]), (option, [True]))
 
 
 def refused_calls(folder):
@@ -42,7 +53,7 @@ def refused_calls(folder):
 
 
 def statuses_of_the_program(folder):
-    for words in [[], ["store"], ["--servers", 2], ["--version", "more"], ["--versions"]]:
+    for words in [[], ["store"], ["--servers", 2], ["--version", "more"], ["--versions"], ["-V", "more"], ["version", "more"], ["versions"]]:
         refused_as_words(*words)
     for words in [["--help"], ["pipe", "--help"], ["run", "--help"], ["serve", "--help"], ["call", "--help"], ["inspect", "--help"]]:
         status, out, err = run(*words)
@@ -50,6 +61,8 @@ def statuses_of_the_program(folder):
         equal([command for command in ("pipe", "run", "serve", "call", "inspect") if len(words) == 1 and command not in out], [])
         equal(len(words) == 1 or words[0] in out, True)
     status, out, err = run("--version")
+    for word in ("-V", "version"):
+        equal(run(word), (status, out, err))
     lines = out.splitlines()
     equal((status, lines[1:], err, bool(re.fullmatch(r"linda \d+\.\d+\.\d+", lines[0]))), (0, ["bank LND2", "frame 2"], "", True))
     fails_at_streams("--version", reads=False)

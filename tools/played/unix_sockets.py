@@ -91,7 +91,7 @@ def modes_of_a_socket(folder):
     path.unlink()
     with Server(store, None, "--socket", path, before=lambda: os.umask(0)):
         equal(oct(path.lstat().st_mode), oct(stat.S_IFSOCK | 0o600))
-    for words in [["--mode", "8"], ["--mode", "0600"], ["--mode", "689"], ["--mode", "-60"], ["--mode", "+60"], ["--mode", ""], ["--threads"], ["--socket", path]]:
+    for words in [["--mode", "8"], ["--mode", "0600"], ["--mode", "689"], ["--mode", "-60"], ["--mode", "+60"], ["--mode", ""], ["--socket", path]]:
         refused_as_words("serve", "--dir", folder, "--socket", path, *words)
     refused_as_words("serve", "--dir", folder, "--port", 0, "--mode", "600")
     refused_as_words("serve", "--dir", folder, "--socket", "")

@@ -2,7 +2,7 @@
 
 disk.c, which is preloaded into the server, keeps for each bank the calls since its last sync. A stop of only the process
 leaves the files as the system has them, and those calls are still not synced in the next life. A power cut leaves
-what docs/DISK.md allows: from what was synced, each call since is done, left out, or done in part, with any bytes in
+what crates/linda_disk/README.md allows: from what was synced, each call since is done, left out, or done in part, with any bytes in
 its range.
 """
 

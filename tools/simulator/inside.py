@@ -1,4 +1,4 @@
-"""Runs of the programs linda_test_simulator and linda_test_simulator_clients: servers, disks, networks and clients in one process, all by a seed."""
+"""Runs of the program linda_test_simulator: servers, disks, networks and clients in one process, all by a seed."""
 
 from __future__ import annotations
 
@@ -18,17 +18,20 @@ EVENTS, RUNS = 100_000, 40
 LIMIT = 600
 
 
-class Kind(NamedTuple):
-    """A program that plays runs, the option of tools/simulate that asks for it, and the first words of a line that says a run."""
+CRATE = "linda_test_simulator"
 
-    crate: str
+
+class Kind(NamedTuple):
+    """A kind of runs: the option of tools/simulate that asks for it, the first word of a line that says one, and the word before its seed."""
+
     option: str = ""
+    first: str = ""
     before: str = ""
 
 
-SERVER = Kind("linda_test_simulator")
-SCARCE = Kind("linda_test_simulator", " --scarce", "scarce ")
-CLIENTS = Kind("linda_test_simulator_clients", " --clients")
+SERVER = Kind()
+SCARCE = Kind(" --scarce", before="scarce ")
+CLIENTS = Kind(" --clients", first="clients ")
 # The share of the time that each has with --all.
 SHARES = ((SERVER, 0.5), (SCARCE, 0.25), (CLIENTS, 0.25))
 
@@ -41,14 +44,14 @@ def is_newer(program: Path) -> bool:
     return all(it.stat().st_mtime <= built for it in (TOP / "crates").glob("*/src/**/*.rt"))
 
 
-def program(crate: str) -> Path:
+def program() -> Path:
     """The program that `rt ci` built, or one that is built now, without a proof, as tools/quick does."""
-    out = TOP / "crates" / crate / "out"
-    if is_newer(out / crate):
-        return out / crate
-    quick = out / "quick" / crate
+    out = TOP / "crates" / CRATE / "out"
+    if is_newer(out / CRATE):
+        return out / CRATE
+    quick = out / "quick" / CRATE
     if not is_newer(quick):
-        subprocess.run([TOP / "tools/quick", quick, crate], check=True)
+        subprocess.run([TOP / "tools/quick", quick, CRATE], check=True)
     return quick
 
 
@@ -87,12 +90,12 @@ def play(seed: int, seconds: float, shrinks: bool, kind: Kind) -> None:
 
 
 def play_over(below: Path | None, seed: int, seconds: float, shrinks: bool, kind: Kind) -> None:
-    it = program(kind.crate)
+    it = program()
     began, first, events = time.monotonic(), seed, 0
     while True:
         count = RUNS if seconds else 1
         hows = ["tell" if not seconds else "twice" if at == 0 else "" for at in range(count)]
-        status, said = played(it, [f"{how} {kind.before}{first + at} {EVENTS}".strip() for at, how in enumerate(hows)], below)
+        status, said = played(it, [f"{kind.first}{how} {kind.before}{first + at} {EVENTS}".replace("  ", " ").strip() for at, how in enumerate(hows)], below)
         if status != 0:
             report(it, said, shrinks, below, kind)
         events += count * EVENTS
@@ -111,9 +114,9 @@ def report(it: Path, said: list[str], shrinks: bool, below: Path | None, kind: K
     if seed is None:
         sys.exit("the program ended without a word of a run that differs")
     if shrinks:
-        _, few = played(it, [f"shrink {kind.before}{seed} {EVENTS}"], below)
-        row = next((line for line in few if line.startswith("tell ")), "")
-        print(f"shrunk, as a line that {kind.crate} reads:\n{row}")
+        _, few = played(it, [f"{kind.first}shrink {kind.before}{seed} {EVENTS}"], below)
+        row = next((line for line in few if line.startswith(f"{kind.first}tell ")), "")
+        print(f"shrunk, as a line that {CRATE} reads:\n{row}")
         print("\n".join(played(it, [row], below)[1]) if row else "it does not differ again")
     print(f"again: tools/simulate --inside {seed}{kind.option} --shrink")
     sys.exit(1)

@@ -1,4 +1,4 @@
-"""What a server may answer, from what went over its connections: docs/FORMATS.md, as it is seen from outside.
+"""What a server may answer, from what went over its connections: docs/PROTOCOL.md, as it is seen from outside.
 
 The network hands over each message before it reaches the server, and each reply as it comes from there. An answered
 message stays answered; an unanswered one may be done or not, and the banks say which at each stop (states.py). All else

@@ -1,7 +1,7 @@
 /* Memory that is refused below linda_test_simulator: preloaded into it, this is between the program and its allocator.
 
    The program asks for SIGN bytes and N more to have the N-th allocation from then on refused, and for SIGN bytes to have none refused any more
-   (crates/linda_test_simulator/src/scarce.rt). The former allocation is refused itself: so the program knows that this library is there. The latter is refused
+   (crates/linda_test_simulator/src/servers/scarce.rt). The former allocation is refused itself: so the program knows that this library is there. The latter is refused
    exactly if one was refused meanwhile. */
 
 #include <errno.h>

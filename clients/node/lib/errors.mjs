@@ -1,6 +1,6 @@
 /**
  * The errors of a space. Each is a SpaceError, and has a `code`: the name of its class, as a text that stays the same;
- * but the `code` of a Refused is the number of docs/FORMATS.md, and its `reason` the text.
+ * but the `code` of a Refused is the number of docs/PROTOCOL.md, and its `reason` the text.
  */
 
 import { plain, REFUSALS, shown } from './limits.mjs';
@@ -27,7 +27,7 @@ export class OutOfRange extends SpaceError {
 }
 
 /**
- * A server refused: `server` is its number, `code` and `reason` say why, `detail` is what docs/FORMATS.md gives for that
+ * A server refused: `server` is its number, `code` and `reason` say why, `detail` is what docs/PROTOCOL.md gives for that
  * code. `client` is the number of this client. Of `Space.outMany` it has `stored`: what was put, null in the place of
  * what was not.
  */
@@ -38,7 +38,8 @@ export class Refused extends SpaceError {
     constructor(server, code, detail, client) {
         const reason = REFUSALS[code] || `code ${code}`;
         const why = reason === 'Busy' ? `, another connection has client number ${client}`
-            : reason === 'Known' ? `, client number ${client} was used before` : '';
+            : reason === 'Known' ? `, client number ${client} was used before`
+            : reason === 'TooManyClients' ? ', it keeps as many client numbers as it can: use one again, of a range or of a file that stays' : '';
         super(`server ${server}: refused ${reason}, detail ${detail}${why}`);
         this.server = server;
         this.code = code;
@@ -48,17 +49,22 @@ export class Refused extends SpaceError {
     }
 }
 
+/** What the errors of a stream mean. */
+const REASONS = new Map([['ECONNREFUSED', 'refused'], ['ENOENT', 'no such file'], ['EACCES', 'not allowed'], ['EPERM', 'not allowed']]);
+
 /**
- * The server `server` could not be reached at first, or could not be greeted for `patience` milliseconds. `cause` is
- * the error of its last stream, if that had one.
+ * The server `server`, at `port`, could not be reached at first, or could not be greeted for `patience` milliseconds.
+ * `cause` is the error of its last stream, if that had one.
  */
 export class NoConnection extends SpaceError {
     static code = 'NoConnection';
 
-    /** @param {number} server @param {{ cause?: unknown }} [more] */
-    constructor(server, more) {
-        super(`server ${server}: no connection`, more);
+    /** @param {number} server @param {number | string} port @param {{ cause?: any }} [more] */
+    constructor(server, port, more) {
+        const why = more === undefined ? 'timed out' : REASONS.get(more.cause?.code) ?? String(more.cause?.message ?? more.cause);
+        super(`server ${server}: no connection to ${typeof port === 'number' ? 'port ' : ''}${port}: ${why}`, more);
         this.server = server;
+        this.port = port;
     }
 }
 
@@ -116,8 +122,8 @@ export class BadReply extends SpaceError {
 }
 
 /**
- * Each of the client numbers is in use, or was given up, or, if `fresh` is set, was used before; or the file of client
- * numbers cannot be read or written.
+ * Each of the client numbers is in use, or was given up, or, if `fresh` is set, was used before: give more of them. Or
+ * the file of client numbers cannot be read or written.
  */
 export class NoNumber extends SpaceError {
     static code = 'NoNumber';

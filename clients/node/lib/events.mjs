@@ -1,8 +1,8 @@
-/** Events: what a synchronization waits for (docs/EVENTS.md). */
+/** Events: what a synchronization waits for (docs/PROTOCOL.md). */
 
 import { OutOfRange } from './errors.mjs';
 import { MOST_ASKS, MOST_BASES, MOST_DEPTH, MOST_LABEL, shown } from './limits.mjs';
-import { checkedTemplate, checkedValue, within } from './values.mjs';
+import { checkedTemplate, checkedValue, TRIES, within } from './values.mjs';
 
 /**
  * @typedef {import('./values.mjs').Value} Value
@@ -98,11 +98,11 @@ export function checkedEvent(event) {
 }
 
 /**
- * An input: chosen when a server has taken a tuple that matches away for this client.
+ * An input: chosen when a server has taken a tuple that matches away for this client. TRIES is in it only for `work`.
  * @param {...Pattern} template
  */
 export function In(...template) {
-    return new SpaceEvent('in', { template: checkedTemplate(template) });
+    return new SpaceEvent('in', { template: checkedTemplate(template, true) });
 }
 
 /**
@@ -202,6 +202,7 @@ export function basesAndNacks(event) {
     for (let next = left.pop(); next !== undefined; next = left.pop()) {
         let { node, labels, above } = next;
         if (!isNode(node.kind)) {
+            if (node.template.includes(TRIES)) throw new OutOfRange('TRIES is only in a job of work with tries');
             bases.push({ number: bases.length, leaf: node, labels: listed(labels), above: listed(above).reverse() });
             continue;
         }

@@ -1,4 +1,4 @@
-/** The frames of docs/FORMATS.md: how those of a client are spelled, and those of a server are read. */
+/** The frames of docs/PROTOCOL.md: how those of a client are spelled, and those of a server are read. */
 
 import { isUtf8 } from 'node:buffer';
 import { MOST_FIELDS, MOST_TEXT, plain, VERSION } from './limits.mjs';
@@ -31,8 +31,11 @@ function spellItem(item) {
     return Buffer.concat([Buffer.of(1), spellNumber(BigInt.asUintN(64, BigInt(item)))]);
 }
 
-/** @param {Template} items */
-function spellItems(items) {
+/**
+ * A tuple, or a template, as bytes.
+ * @param {Template} items
+ */
+export function spellItems(items) {
     return Buffer.concat([spellItem(items[0]), Buffer.of(items.length - 1), ...items.slice(1).map(spellItem)]);
 }
 

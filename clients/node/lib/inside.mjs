@@ -6,7 +6,7 @@
  * - `finish`: finishes what is pending after an error, in the milliseconds given, `patience` at most. What was taken by that
  *   is in hand: the next take gets it.
  * - `isOver`: whether all calls throw. `onOver`: is called once an offer was taken or released, or Gone was thrown.
- * - `keep`: renews an offer at this interval of milliseconds.
+ * - `keep`: renews an offer at this interval of milliseconds. `notes`: opens the notes of this client's jobs.
  * @typedef {{
  *     call: (begin: (machine: import('./machine.mjs').Machine) => void,
  *         limits: { timeout: number | null, signal: AbortSignal | null },
@@ -18,6 +18,7 @@
  *     onOver: (offer: import('./results.mjs').Offer<any>, hear: () => void) => void,
  *     patience: number,
  *     keep: (offer: import('./results.mjs').Offer<any>, every: number) => void,
+ *     notes: () => Promise<import('./notes.mjs').Notes>,
  * }} Inside
  */
 

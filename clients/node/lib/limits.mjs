@@ -1,4 +1,4 @@
-/** The limits of frames (docs/FORMATS.md), of events and of clients (docs/EVENTS.md). */
+/** The limits of frames, of events and of clients (docs/PROTOCOL.md). */
 
 export const VERSION = 2;
 export const MOST_TEXT = 4_095;                // bytes of UTF-8 in a text

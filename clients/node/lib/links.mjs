@@ -72,7 +72,7 @@ export class Link {
 
     /** That there is no connection, and why, if that is known. */
     noConnection() {
-        return new NoConnection(this.server, this.fault === undefined ? undefined : { cause: this.fault });
+        return new NoConnection(this.server, this.port, this.fault === undefined ? undefined : { cause: this.fault });
     }
 
     /** The next reply that came whole. Throws BadFrame if there can be none. */

@@ -1,4 +1,4 @@
-/** The client that docs/EVENTS.md describes: a machine that says what must be sent, and is given what arrives. */
+/** The client that docs/PROTOCOL.md describes: a machine that says what must be sent, and is given what arrives. */
 
 import { Busy, Gone, Idle, Left, NumberInUse, Refused, Spent } from './errors.mjs';
 import { basesAndNacks } from './events.mjs';
@@ -29,8 +29,8 @@ import { bindsOf, matches, range } from './values.mjs';
  * @typedef {Stored | Kept | Outcome | Offer | Gone | Refused | Taken | Many | 'left' | 'passed'} Ended
  *
  * `hasLimit`: the last base is the alarm of the call's own time. `isPoll`, `isHold`: see Sync. `isOwn`: the caller
- * that holds the tuple sees its loss itself, and no call reports it.
- * @typedef {{ hasLimit?: boolean, isPoll?: boolean, isHold?: boolean, isOwn?: boolean }} Ways
+ * that holds the tuple sees its loss itself, and no call reports it. `at`: the only server that is asked.
+ * @typedef {{ hasLimit?: boolean, isPoll?: boolean, isHold?: boolean, isOwn?: boolean, at?: number | null }} Ways
  *
  * @typedef {import('./values.mjs').Value} Value
  * @typedef {import('./values.mjs').Tuple} Tuple
@@ -56,7 +56,7 @@ export class Taken {
  *   is always answered; `unsure` are those that have not answered it. It is chosen once all have.
  * - `isPoll`: there is no time: the servers are asked that at once.
  * - `isHold`: an offer is not accepted, but handed on as it is.
- * - `askedAgain`: the servers that the Asks were sent to again.
+ * - `servers`: those that are asked. `askedAgain`: those that the Asks were sent to again.
  * - `isDropped`: it ended by an error. Only the answer to its Accept is waited for.
  */
 export class Sync {
@@ -73,9 +73,10 @@ export class Sync {
     unsure = null;
     isDropped = false;
 
-    /** @param {SpaceEvent} event @param {Ways} ways */
-    constructor(event, { hasLimit = false, isPoll = false, isHold = false, isOwn = false }) {
+    /** @param {SpaceEvent} event @param {Ways} ways @param {number[]} servers */
+    constructor(event, { hasLimit = false, isPoll = false, isHold = false, isOwn = false, at = null }, servers) {
         const { bases, nacks } = basesAndNacks(event);
+        this.servers = at === null ? servers : [at];
         this.bases = bases;
         this.nacks = nacks;
         this.asked = bases.filter((base) => base.leaf.isAsked);
@@ -323,7 +324,7 @@ export class Machine {
     /** @param {SpaceEvent} event @param {Ways} ways */
     sync(event, ways) {
         this.beIdle();
-        const sync = new Sync(event, ways);
+        const sync = new Sync(event, ways, this.servers);
         this.dropped = null;
         for (const base of sync.bases) {
             const { leaf } = base;
@@ -483,7 +484,7 @@ export class Machine {
                 const packets = own === null ? [] : [[own.server, frames.accept(own.number, own.ticket, own.id)]];
                 for (const [ticket, { leaf }] of task.isDropped ? [] : task.tickets) {
                     const ask = frames.ask(ticket, leaf.kind === 'in', leaf.template);
-                    for (const server of this.servers) packets.push([server, ask]);
+                    for (const server of task.servers) packets.push([server, ask]);
                 }
                 return packets;
             }
@@ -514,7 +515,7 @@ export class Machine {
         if (isTrain(task)) return task.needs(server);
         if (task.kind === 'leave') return task.numbers.has(server);
         if (task.kind !== 'sync') return task.server === server;
-        return task.isDropped ? task.accepted?.server === server : task.tickets.size > 0;
+        return task.isDropped ? task.accepted?.server === server : task.tickets.size > 0 && task.servers.includes(server);
     }
 
     /** The servers whose answer is waited for; for a synchronization those that are away, if there are any. */
@@ -525,8 +526,8 @@ export class Machine {
         if (task.kind === 'leave') return [...task.numbers.keys()];
         if (task.kind !== 'sync') return [task.server];
         if (task.accepted !== null) return [task.accepted.server];
-        const away = this.servers.filter((server) => !this.isUp[server]);
-        return away.length > 0 ? away : this.servers.filter((server) => task.unsure?.has(server) ?? true);
+        const away = task.servers.filter((server) => !this.isUp[server]);
+        return away.length > 0 ? away : task.servers.filter((server) => task.unsure?.has(server) ?? true);
     }
 
     /**
@@ -572,8 +573,8 @@ export class Machine {
         if (base === null) return;
         if (base === sync.limit) {
             if (sync.unsure === null) {
-                sync.unsure = new Set(this.servers);
-                for (const server of this.servers) {
+                sync.unsure = new Set(sync.servers);
+                for (const server of sync.servers) {
                     if (this.isUp[server]) this.probe(server);
                 }
             }
@@ -834,7 +835,7 @@ export class Machine {
      */
     cancel(sync, spared) {
         for (const ticket of sync.tickets.keys()) {
-            for (const server of this.servers) {
+            for (const server of sync.servers) {
                 if (spared === null || spared.server !== server || spared.ticket !== ticket) {
                     this.sent.push([server, frames.cancel(ticket)]);
                 }

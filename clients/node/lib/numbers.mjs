@@ -10,16 +10,20 @@ import { MOST_CLIENT } from './limits.mjs';
 const LEAST_DRAWN = 2 ** 31;
 const DIGITS_OF_SUM = 12;
 
+/** The folder for what a program keeps of its client numbers. */
+export function stateFolder() {
+    const { LINDA_STATE, XDG_STATE_HOME } = process.env;
+    return LINDA_STATE || path.join(XDG_STATE_HOME || path.join(homedir(), '.local', 'state'), 'linda');
+}
+
 /**
  * The file of the program that runs: it is named after the program's file, and after its absolute path. A program
  * without a file, as of `node -e`, shares that of node.
  */
 export function defaultFile() {
-    const { LINDA_STATE, XDG_STATE_HOME } = process.env;
-    const folder = LINDA_STATE || path.join(XDG_STATE_HOME || path.join(homedir(), '.local', 'state'), 'linda');
     const program = path.resolve(process.argv[1] ?? process.execPath);
     const sum = createHash('sha256').update(program).digest('hex').slice(0, DIGITS_OF_SUM);
-    return path.join(folder, `${path.parse(program).name}-${sum}.numbers`);
+    return path.join(stateFolder(), `${path.parse(program).name}-${sum}.numbers`);
 }
 
 /**
@@ -72,7 +76,7 @@ export async function addNumber(file, number) {
  * never be made, as below /proc.)
  * @param {string} folder
  */
-async function makeFolder(folder) {
+export async function makeFolder(folder) {
     for (let isLast = false; ; isLast = true) {
         try {
             await mkdir(folder, 0o700);
@@ -94,5 +98,5 @@ export function drawnNumber() {
 /** @param {string} file @param {unknown} fault */
 function unusable(file, fault) {
     const { message } = /** @type {Error} */ (fault);
-    return new NoNumber(`the file of client numbers ${file}: ${message}`, { cause: fault });
+    return new NoNumber(`the file of client numbers ${file}: ${message}; give another one, or a number`, { cause: fault });
 }

@@ -2,7 +2,7 @@
 
 import { Aborted, Closed, OutOfRange, SpaceError, TimedOut } from './errors.mjs';
 import { basesAndNacks, Choose, SpaceEvent } from './events.mjs';
-import { insideOf } from './inside.mjs';
+import { insideOf, turned } from './inside.mjs';
 import { ASYNC_DISPOSE, DISPOSE, LONGEST_TIMER, shown } from './limits.mjs';
 import { Queue } from './queue.mjs';
 import { checkedSpace, connectedBut } from './space.mjs';
@@ -35,6 +35,7 @@ import { checkedLimits, checkedTemplate, matches, within } from './values.mjs';
 /** @template {readonly any[]} T @typedef {import('./results.mjs').Offer<T>} Offer */
 
 const SIZE = 16;
+const UNSENT = '; nothing was sent for this call';
 const GROWN_AFTER = 1_000;              // milliseconds after which a member is made again, if none could be
 /** The milliseconds that a call waits at least for a member that is made or finished for it, even if its time is less. */
 const MAKING = 2_000;
@@ -55,8 +56,8 @@ const MAKING = 2_000;
  * - A hold keeps its member until it is accepted or released, or its block ends.
  * - **After an error** the call that failed has thrown it, and its member is finished, as by `again`, before it is lent
  *   again: so what was pending is done or not, and nothing is done twice. If its server is away the member is lent
- *   last. A tuple that was just being taken is not lost: the next `take`, `takeMany`, `choose` or `sync` that it fits
- *   gets it.
+ *   last. If nothing was sent for a call the text of its error says so. A tuple that was just being taken is not lost:
+ *   the next `take`, `takeMany`, `choose` or `sync` that it fits gets it.
  */
 export class Pool {
     #ports;
@@ -301,7 +302,7 @@ export class Pool {
             const look = () => {
                 const left = until - performance.now();
                 if (isOver || left === Infinity) return;
-                if (left <= 0) waiting.fail(new TimedOut([], 'no member of the pool was free in time'));
+                if (left <= 0) waiting.fail(new TimedOut([], `no member of the pool was free in time${UNSENT}`));
                 else timer = setTimeout(look, Math.min(LONGEST_TIMER, Math.ceil(left)));
             };
             const remove = this.#waiting.push(waiting);
@@ -346,7 +347,7 @@ export class Pool {
      */
     #failed(begin, fault) {
         const latest = (begin + performance.now()) / 2;
-        if (fault instanceof SpaceError) fault.pending = null;
+        if (fault instanceof SpaceError) Object.assign(fault, { pending: null, message: `${fault.message}${UNSENT}` });
         for (const waiting of [...this.#waiting]) {
             if (waiting.since <= latest) waiting.fail(fault);
         }
@@ -402,6 +403,7 @@ export class Pool {
             await insideOf(member).finish(Math.max(0, most - begin));
         } catch (thrown) {
             fault = thrown;
+            await turned();             // calls whose time is over have ended
         }
         this.#finishing -= 1;
         const isLent = this.#members.size > this.#idle.length + this.#finishing + 1;

@@ -1,5 +1,6 @@
 /** A space: a client of servers, over its connections. */
 
+import path from 'node:path';
 import {
     Aborted, BadReply, Closed, Gone, Idle, NoNumber, NumberInUse, OutOfRange, Refused, Restored, SpaceError, TimedOut,
 } from './errors.mjs';
@@ -12,7 +13,8 @@ import {
 import { checkedPort, connectTo, Link, LONGEST_PAUSE, SHORTEST_PAUSE } from './links.mjs';
 import { keyOfFile, keyOfPorts, lockOf } from './locks.mjs';
 import { Machine, Taken } from './machine.mjs';
-import { addNumber, defaultFile, drawnNumber, numbersOf } from './numbers.mjs';
+import { Notes } from './notes.mjs';
+import { addNumber, defaultFile, drawnNumber, makeFolder, numbersOf, stateFolder } from './numbers.mjs';
 import { Queue } from './queue.mjs';
 import { Kept, Offer, Outcome, Stored } from './results.mjs';
 import { Many, OutTrain, TakeTrain } from './trains.mjs';
@@ -53,6 +55,9 @@ import { worked } from './work.mjs';
  *     | { kind: 'alarm' } & NotFound | { kind: 'always' } & NotFound)} Chosen
  *
  * @typedef {{ timeout: number | null, signal: AbortSignal | null }} CallLimits
+ *
+ * Numbers that another program of this machine has, those that only a server says are in use, and why a new one is not to be had.
+ * @typedef {{ claimed: number[], busy: number[], full: Refused | null }} Passed
  */
 
 /** @template T @typedef {import('./values.mjs').Matched<T>} Matched */
@@ -152,6 +157,9 @@ export class Space {
     /** @type {NodeJS.Timeout | undefined} */
     #timer;
     #isSoon = false;
+    #key = '';                          // for what is kept of its number on this machine
+    /** @type {Notes | null} */
+    #notes = null;
     /**
      * That of its number, if that was chosen among several.
      * @type {import('./locks.mjs').Lock | null}
@@ -165,10 +173,10 @@ export class Space {
      *   unix sockets, each a text with a slash in it. An earlier life of this client gave the same servers in the same
      *   order.
      * - `client`: the number of this client, from 0 to 2^32 - 1. No two programs use one number at the same time.
-     * - Or several numbers, as `range(100, 200)`, which are tried in order up to the first that was never used. Those
-     *   that another connection has, or that were given up by `leave`, are passed over. One whose last reply at some
-     *   server is that it took a tuple is taken first: it may have a job in hand, see `lastReply`. Else the first that
-     *   is free. With `fresh` it is the first that was never used.
+     * - Or several numbers, as `range(100, 200)`, all of which are tried, by one greeting each. Those that another
+     *   connection has, or that were given up by `leave`, are passed over. One whose last reply at some server is that
+     *   it took a tuple is taken first: it may have a job in hand, see `lastReply`. Else the first that is free. With
+     *   `fresh` it is the first that was never used.
      * - Or left out: the numbers are those of a file of this program, which are all tried so. If none is free a new one
      *   is drawn from 2^31 to 2^32 - 1, and added to the file. `numbers` is its path; if it is not given, it is a file
      *   for the path of the program, in the folder $LINDA_STATE, $XDG_STATE_HOME/linda or ~/.local/state/linda.
@@ -188,8 +196,8 @@ export class Space {
      * `patience`, Refused if a server refuses (Busy: another connection has this number; Known, TooManyClients,
      * Version), NoNumber if none of several numbers is free, or the file cannot be read or written. A server may
      * need some milliseconds to see that an earlier connection ended: Busy is tried again for two seconds, or
-     * `patience` if that is less, but not with `fresh`, nor with several numbers, of which the next one is tried. After
-     * an error nothing is connected.
+     * `patience` if that is less, but not with `fresh`; of several numbers only if no other one is free. After an error
+     * nothing is connected.
      *
      * @param {readonly (number | string)[]} ports @param {ConnectOptions} [options]
      * @returns {Promise<Space>}
@@ -200,31 +208,34 @@ export class Space {
 
     static {
         connectedBut = async (ports, options, others) => {
-            const make = () => new Space(MADE_BY_CONNECT, ports, options), space = make();
-            const { numbers, fresh = false } = options, client = checkedNumbers(options);
-            if (Array.isArray(client)) {
-                const free = client.filter((number) => !others.has(number)), key = keyOfPorts(space.#ports);
-                const found = await firstOf(make, key, free, fresh, true);
-                if (found !== null) return found;
-                const first = client[0], last = client.at(-1);
-                throw new NoNumber(`none of the client numbers from ${first} to ${last} is to be had`);
+            const checked = new Space(MADE_BY_CONNECT, ports, options), { numbers, fresh = false } = options, client = checkedNumbers(options);
+            const file = client === undefined ? numbers ?? defaultFile() : null;
+            const key = file === null ? keyOfPorts(checked.#ports) : keyOfFile(file);
+            const make = () => {
+                const space = new Space(MADE_BY_CONNECT, ports, options);
+                space.#key = key;
+                return space;
+            };
+            if (typeof client === 'number') {
+                const space = make();
+                await space.#greetOrClose(client, fresh, false);
+                return space;
             }
-            if (client === undefined) return ofFile(make, numbers ?? defaultFile(), fresh, others);
-            await space.#greetOrClose(client, fresh, false);
-            return space;
+            const all = client ?? await numbersOf(/** @type {string} */ (file));
+            const found = await firstOf(make, all.filter((number) => !others.has(number)), fresh, checked.#patience);
+            if (found !== null) return found;
+            if (file !== null) return drawn(make, file);
+            throw new NoNumber(`none of the client numbers from ${all[0]} to ${all.at(-1)} is to be had: each is in use, or was given up; give more of them`);
         };
 
         /**
-         * A space under a number of that file, or under a new one, which is added to it.
-         * @param {() => Space} make @param {string} file @param {boolean} fresh @param {ReadonlySet<number>} others
+         * A space under a new number, which is added to that file.
+         * @param {() => Space} make @param {string} file
          */
-        const ofFile = async (make, file, fresh, others) => {
-            const numbers = await numbersOf(file), key = keyOfFile(file);
-            const found = await firstOf(make, key, numbers.filter((number) => !others.has(number)), fresh, false);
-            if (found !== null) return found;
+        const drawn = async (make, file) => {
             for (let draws = 1; ; draws += 1) {
                 const space = make(), number = drawnNumber();
-                if (!await space.#locks(key, number)) continue;
+                if (!await space.#locks(number)) continue;
                 try {
                     await space.#greetOrClose(number, true, false);
                     await addNumber(file, number);
@@ -232,49 +243,60 @@ export class Space {
                 } catch (fault) {
                     space.close();
                     if (!isTaken(fault)) throw fault;
-                    if (draws === MOST_DRAWS) throw new NoNumber(`none of ${draws} new client numbers is to be had`);
+                    if (draws === MOST_DRAWS) throw new NoNumber(`none of ${draws} new client numbers is to be had: is this the right server?`);
                 }
             }
         };
 
         /**
-         * A space under one of these numbers, or null; those in use are tried some times more, for other programs look
-         * for a number so too. It has at most two connections to a server at once.
-         * @param {() => Space} make @param {string} key @param {readonly number[]} numbers @param {boolean} fresh
-         * @param {boolean} isUpToNew
+         * A space under one of these numbers, or null. Those that another program of this machine has are tried some
+         * times more, for it may only look for a number so too; those that only a server says are in use, for longer, for
+         * it may not have seen that a connection ended.
+         * @param {() => Space} make @param {readonly number[]} numbers @param {boolean} fresh @param {number} patience
          */
-        const firstOf = async (make, key, numbers, fresh, isUpToNew) => {
+        const firstOf = async (make, numbers, fresh, patience) => {
+            const until = performance.now() + (fresh ? 0 : Math.min(BUSY_PATIENCE, patience));
+            /** @type {Refused | null} */
+            let full = null;
             let left = numbers;
             for (let pass = 1; ; pass += 1) {
-                /** @type {number[]} */
-                const busy = [];
-                const found = await firstNow(make, key, left, fresh, isUpToNew, busy);
-                if (found !== null || busy.length === 0 || pass === BUSY_PASSES) return found;
-                left = busy;
+                /** @type {Passed} */
+                const passed = { claimed: [], busy: [], full };
+                const found = await firstNow(make, left, fresh, passed);
+                if (found !== null) return found;
+                const isSoon = pass < BUSY_PASSES;
+                left = [...(isSoon ? passed.claimed : []), ...(isSoon || performance.now() < until ? passed.busy : [])];
+                ({ full } = passed);
+                if (left.length === 0 && full !== null) throw full;
+                if (left.length === 0) return null;
                 await new Promise((resolve) => { setTimeout(resolve, 20 + 60 * Math.random()); });
             }
         };
 
         /**
-         * The same, once; the numbers that are in use are added to `busy`.
-         * @param {() => Space} make @param {string} key @param {readonly number[]} numbers @param {boolean} fresh
-         * @param {boolean} isUpToNew @param {number[]} busy
+         * The same, once: the first whose last reply is Taken, else the first that is free. It has at most two connections
+         * to a server at once.
+         * @param {() => Space} make @param {readonly number[]} numbers @param {boolean} fresh @param {Passed} passed
          */
-        const firstNow = async (make, key, numbers, fresh, isUpToNew, busy) => {
+        const firstNow = async (make, numbers, fresh, passed) => {
             /** @type {Space | null} */
             let best = null;
             try {
                 for (const number of numbers) {
-                    const space = make(), isFree = await space.#locks(key, number);
-                    const state = isFree ? await space.#stateOf(number, fresh) : 'busy';
-                    if (state === 'busy') busy.push(number);
+                    const space = make();
+                    if (!await space.#locks(number)) {
+                        passed.claimed.push(number);
+                        continue;
+                    }
+                    const state = await space.#stateOf(number, fresh);
+                    if (state === 'busy') passed.busy.push(number);
+                    if (state instanceof Refused) passed.full = state;
                     if (state === 'taken' || state === 'new' && fresh) {
                         best?.close();
                         return space;
                     }
                     if (best === null && (state === 'new' || state === 'used')) best = space;
                     else space.close();
-                    if (state === 'new' && isUpToNew) break;
                 }
                 return best;
             } catch (fault) {
@@ -286,10 +308,10 @@ export class Space {
 
     /**
      * Whether no other space on this machine has this number, as far as is known; this one has it from now on.
-     * @param {string} key @param {number} number
+     * @param {number} number
      */
-    async #locks(key, number) {
-        const lock = await lockOf(key, number);
+    async #locks(number) {
+        const lock = await lockOf(this.#key, number);
         if (lock === 'held') return false;
         this.#lock = lock;
         return true;
@@ -297,13 +319,14 @@ export class Space {
 
     /**
      * Greets each server under this number, and asks how it was used. If it is in use, was given up, or with `fresh`
-     * was used, there is no connection afterwards.
-     * @param {number} number @param {boolean} fresh @returns {Promise<'busy' | 'over' | 'taken' | 'new' | 'used'>}
+     * was used, there is no connection afterwards; nor if it is new and a server has no place for it, which is returned.
+     * @param {number} number @param {boolean} fresh @returns {Promise<'busy' | 'over' | 'taken' | 'new' | 'used' | Refused>}
      */
     async #stateOf(number, fresh) {
         try {
             await this.#greetOrClose(number, fresh, true);
         } catch (fault) {
+            if (fault instanceof Refused && fault.reason === 'TooManyClients') return fault;
             if (isTaken(fault)) return fault.reason === 'Busy' ? 'busy' : 'over';
             throw fault;
         }
@@ -370,6 +393,12 @@ export class Space {
             onOver: (offer, hear) => this.#hearers.set(offer, hear),
             patience: this.#patience,
             keep: (offer, every) => this.#keepUp(offer, every),
+            notes: async () => {
+                const folder = stateFolder();
+                await makeFolder(folder).catch(() => {});       // what is wrong is seen then
+                this.#notes ??= new Notes(path.join(folder, `${this.#key}-${this.client}.job`), this.#ports);
+                return this.#notes;
+            },
         });
     }
 
@@ -418,6 +447,7 @@ export class Space {
         for (const link of this.#links) this.#letGo(link);
         this.#lock?.release();
         this.#lock = null;
+        this.#notes?.close();
     }
 
     [DISPOSE]() {
@@ -663,19 +693,24 @@ export class Space {
      *     process.exitCode = await space.work(['job', INT], async ([, n]) => ['done', n, n * n]) > 0 ? 0 : 1;
      *
      * - `template`: an array, or an In, or several In, the first of which goes first. The function returns nothing, a
-     *   tuple, or an array of tuples; anything else is a TypeError, which ends the work. A tuple with a value that is out
-     *   of range is an error of the function. If the hold was lost meanwhile its result is not put, for another worker has
-     *   the job.
-     * - `tries`: the last field of a job is how often it failed, 0 at first, and the last pattern must be INT. A job
-     *   whose function throws stays held for `delay` * 2 ** failed milliseconds (1,000 if nothing else is said), while
-     *   other jobs are done, and is then put again with that count + 1. If that is `tries`, it is put at once as
-     *   `[dead, ...fields but the last, failed + 1, 'Error: text']` instead; `dead` is 'dead' if nothing else is said.
-     *   At most 32 jobs wait so; then the oldest is waited for. If `tries` is not given, what the function throws ends
-     *   the work, and the job is free again.
+     *   tuple, or an array of tuples; anything else, and a value that is out of range, is an error of the function. If
+     *   the hold was lost meanwhile its result is not put, for another worker has the job.
+     * - `tries`: one pattern of the template is TRIES, which fits how often a job failed, 0 at first. A job whose
+     *   function throws stays held for `delay` * 2 ** failed milliseconds (1,000 if nothing else is said), while other
+     *   jobs are done, and is then put again with that count + 1. If that is `tries`, it is put at once as `[dead,
+     *   ...the job with its tag and its count, 'Error: text']` instead; `dead` is 'dead' if nothing else is said. So a
+     *   job has 30 fields at most. At most 32 jobs wait so; then the oldest is waited for. If `tries` is not given,
+     *   what the function throws ends the work, and the job is free again.
+     * - With `tries` a job that ends its worker has failed too, with the text 'the worker ended': the next work under
+     *   this number learns of it by a file in the folder for the numbers of a program (`lib/notes.mjs`). So the number
+     *   and that folder stay the same.
+     * - `limit`: milliseconds for the function; after them the job has failed, with the text 'the limit of 5 s', and
+     *   what the function comes to does not matter any more.
      * - `stop`: an Rd; `signal`: an AbortSignal. The work ends once there is such a tuple, once the signal is aborted,
-     *   or on SIGTERM (which no worker of `worker_threads` hears), in order: the job in hand is finished, those that wait for their next try are put back with
-     *   their count, and it returns. So it does if no job came for `timeout` milliseconds, and none waits for its next
-     *   try.
+     *   or on SIGTERM (which no worker of `worker_threads` hears), in order: the job in hand is finished, those that
+     *   wait for their next try are put back with their count, and it returns. So it does if no job came for `timeout`
+     *   milliseconds, and none waits for its next try. `grace`: milliseconds after SIGTERM (30,000 if nothing else is
+     *   said); a job whose function goes on for longer is free again, and it returns.
      * - `keep`: milliseconds between two signs that this client is at work, 500 if nothing else is said.
      * - `onerror`: is called with each error after which the work goes on. A server that is away, that has another
      *   connection under this number still (Busy), or has no room, is tried again; once the work must end, it throws

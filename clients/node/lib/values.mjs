@@ -82,6 +82,12 @@ export const BOOL = new Formal('BOOL', 6, ['boolean']);
  */
 export const ANY = new Formal('ANY', 7, ['number', 'bigint', 'string', 'boolean']);
 
+/**
+ * Fits each integer: how often a job failed, 0 at first. Only a job of `Space.work` with `tries` has it.
+ * @type {Formal<number | bigint>}
+ */
+export const TRIES = new Formal('TRIES', 4, ['number', 'bigint']);
+
 export const PACKED_FIELDS = 30;               // texts that `pack` makes, if nothing else is said
 
 /**
@@ -141,11 +147,16 @@ export function checkedTuple(items) {
     return Object.freeze(checkedItems(items).map(checkedValue));
 }
 
-/** @param {unknown} items @returns {Template} */
-export function checkedTemplate(items) {
+/**
+ * @param {unknown} items @param {boolean} [isJob] whether TRIES may be in it
+ * @returns {Template}
+ */
+export function checkedTemplate(items, isJob = false) {
     const isFormal = (/** @type {unknown} */ item) => item instanceof Formal;
-    return Object.freeze(checkedItems(items).map((item, place) => (
+    const template = Object.freeze(checkedItems(items).map((item, place) => (
         place > 0 && isFormal(item) ? /** @type {Formal} */ (item) : checkedValue(item))));
+    if (!isJob && template.includes(TRIES)) throw new OutOfRange('TRIES is only in a job of work with tries');
+    return template;
 }
 
 /**

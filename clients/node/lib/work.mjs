@@ -6,24 +6,26 @@ import { insideOf, turned } from './inside.mjs';
 import { LONGEST_TIMER, MOST_FIELDS, MOST_INTEGER, plain, shown } from './limits.mjs';
 import { Offer } from './results.mjs';
 import {
-    checkedOptions, checkedSignal, checkedTemplate, checkedTuple, checkedValue, INT, milliseconds, within,
+    checkedOptions, checkedSignal, checkedTemplate, checkedTuple, checkedValue, INT, matches, milliseconds, TRIES, within,
 } from './values.mjs';
 
 /**
  * @typedef {import('./values.mjs').Value} Value
  * @typedef {import('./values.mjs').Tuple} Tuple
  * @typedef {{ tries?: number | null, delay?: number, dead?: Value, stop?: SpaceEvent | null,
- *     signal?: AbortSignal | null, keep?: number, timeout?: number | null,
+ *     signal?: AbortSignal | null, keep?: number, timeout?: number | null, limit?: number | null, grace?: number,
  *     onerror?: ((fault: Error) => void) | null }} WorkOptions
  *
- * A job that waits for its next try: the time of that, and what is put then.
- * @typedef {{ offer: Offer, due: number, next: Tuple }} Waiting
+ * A job that waits for its next try: the time of that, what is put then, and the place of its note, if there is one.
+ * @typedef {{ offer: Offer, due: number, next: Tuple, place: number | null }} Waiting
  */
 
 const MOST_WAITING = 32;
 const MOST_DEAD_TEXT = 1_000;           // bytes
 const PAUSE = 500;                      // milliseconds after an error before the next try
-const OPTIONS = ['tries', 'delay', 'dead', 'stop', 'signal', 'keep', 'timeout', 'onerror'];
+const GRACE = 30_000;                   // milliseconds after SIGTERM for the job in hand
+const ENDED = 'the worker ended';
+const OPTIONS = ['tries', 'delay', 'dead', 'stop', 'signal', 'keep', 'timeout', 'limit', 'grace', 'onerror'];
 
 /**
  * See `Space.work`.
@@ -46,11 +48,21 @@ function inputsOf(template) {
         if (!inputs.every(isInput)) throw new OutOfRange(`the jobs are several In, or a template: ${shown(template)}`);
         return inputs;
     }
-    return [In(...checkedTemplate(template))];
+    return [In(...checkedTemplate(template, true))];
 }
 
 /**
- * What ends the works that are under way: one listener of SIGTERM for all of them.
+ * The place of TRIES in a template, or -1. Throws OutOfRange if there are several.
+ * @param {import('./values.mjs').Template} template
+ */
+function placeOfTries(template) {
+    const place = template.indexOf(TRIES);
+    if (template.lastIndexOf(TRIES) !== place) throw new OutOfRange('TRIES is in a job once');
+    return place;
+}
+
+/**
+ * What ends the works that are under way at SIGTERM: one listener for all of them.
  * @type {Set<() => void>}
  */
 const stops = new Set();
@@ -61,10 +73,16 @@ function stopAll() {
     for (const stop of all) stop();
 }
 
+/** The function has not ended in time. */
+const LATE = Symbol('late');
+/** It has not ended in the grace after SIGTERM. */
+const LEFT = Symbol('left');
+
 class Work {
     #space;
     #inside;
     #inputs;
+    #places;
     #work;
     #given;
     #signal;
@@ -73,29 +91,33 @@ class Work {
     #waiting = [];
     #isStopping = false;
     #stopper = new AbortController();
+    #grace = new AbortController();     // it aborts at the end of the grace
     #lastJob = performance.now();
+    /** @type {import('./notes.mjs').Notes | null} */
+    #notes = null;
 
     /**
      * @param {import('./space.mjs').Space} space @param {unknown} template @param {(job: any) => unknown} work
      * @param {WorkOptions} options
      */
     constructor(space, template, work, options) {
-        const given = checkedOptions(options, OPTIONS), { tries = null, timeout = null, stop = null } = given;
-        const inputs = inputsOf(template), templates = inputs.map((input) => input.template);
+        const given = checkedOptions(options, OPTIONS), { tries = null, timeout = null, stop = null, limit = null } = given;
+        const templates = inputsOf(template).map((input) => input.template), places = templates.map(placeOfTries);
         if (typeof work !== 'function') throw new OutOfRange(`no function: ${shown(work)}`);
         if (stop !== null && !(stop instanceof SpaceEvent && stop.kind === 'rd')) {
             throw new OutOfRange(`what stops the work is an Rd: ${shown(stop)}`);
         }
         if (given.onerror != null && typeof given.onerror !== 'function') throw new OutOfRange('onerror is a function');
-        if (tries !== null && templates.some((one) => one.length < 2 || one.at(-1) !== INT)) {
-            throw new OutOfRange('with tries the last pattern is INT: how often a job failed');
+        if (places.some((place) => place >= 0 !== (tries !== null))) {
+            throw new OutOfRange('a job has TRIES, how often it failed, with tries, and only then');
         }
-        if (tries !== null && templates.some((one) => one.length > MOST_FIELDS)) {
-            throw new OutOfRange(`with tries a job has ${MOST_FIELDS - 1} fields at most`);
+        if (tries !== null && templates.some((one) => one.length > MOST_FIELDS - 1)) {
+            throw new OutOfRange(`with tries a job has ${MOST_FIELDS - 2} fields at most`);
         }
         this.#space = space;
         this.#inside = insideOf(space);
-        this.#inputs = inputs;
+        this.#inputs = templates.map((one) => In(...one.map((item) => (item === TRIES ? INT : item))));
+        this.#places = places;
         this.#work = work;
         this.#signal = checkedSignal(given.signal);
         this.#given = {
@@ -105,31 +127,92 @@ class Work {
             stop: /** @type {SpaceEvent | null} */ (stop),
             keep: milliseconds('keep', given.keep ?? 500, 1),
             timeout: timeout === null ? null : milliseconds('a timeout', timeout),
+            limit: limit === null ? null : milliseconds('a limit', limit, 1),
+            grace: milliseconds('the grace', given.grace ?? GRACE),
             onerror: /** @type {(fault: unknown) => void} */ (given.onerror ?? (() => {})),
         };
     }
 
     async run() {
+        /** @type {NodeJS.Timeout | undefined} */
+        let timer;
         const stop = () => {
             this.#isStopping = true;
             this.#stopper.abort();
         };
-        stops.add(stop);
+        const end = () => {
+            stop();
+            timer = setTimeout(() => this.#grace.abort(), Math.min(LONGEST_TIMER, this.#given.grace));
+        };
+        stops.add(end);
         if (stops.size === 1) process.once('SIGTERM', stopAll);
         this.#signal?.addEventListener('abort', stop);
         if (this.#signal?.aborted) stop();
         try {
+            if (this.#given.tries !== null) await this.#countEnded();
             while (!this.#isStopping && await this.#one());
             this.#isStopping = true;
             while (this.#waiting.length > 0) await this.#tryAgain();
             await this.#forgetLast();
         } finally {
-            stops.delete(stop);
+            clearTimeout(timer);
+            stops.delete(end);
             if (stops.size === 0) process.removeListener('SIGTERM', stopAll);
             this.#signal?.removeEventListener('abort', stop);
             for (const { offer } of this.#waiting) offer.release();
         }
         return this.#count;
+    }
+
+    /**
+     * What an earlier life under this number had in hand counts as failed, if nobody has it now. What others have is not
+     * in the file any more, and counts if it is offered to this life.
+     */
+    async #countEnded() {
+        const notes = this.#notes = await this.#inside.notes();
+        for (const noted of [...notes.noted]) {
+            if (noted.place !== null && !await this.#isHad(noted)) notes.clear(noted.place);
+        }
+    }
+
+    /**
+     * Holds what an earlier life had in hand, if it is to be had now: then it counts as failed.
+     * @param {import('./notes.mjs').Noted} noted
+     */
+    async #isHad(noted) {
+        const isLeft = () => this.#notes?.noted.includes(noted) ?? false;
+        const ways = { isHold: true, isOwn: true, hasLimit: true, isPoll: true, at: noted.server };
+        const limits = { timeout: null, signal: this.#stopper.signal };
+        /** @type {Offer[]} */
+        const others = [];
+        try {
+            for (const input of this.#inputs) {
+                // A server offers the least id that is free.
+                for (let isBefore = true; isBefore && isLeft() && others.length < MOST_WAITING;) {
+                    const event = () => Choose(input, this.#space.after(0));
+                    const found = await this.#inside.call((machine) => machine.sync(event(), ways), limits, { isQuiet: true });
+                    if (!(found instanceof Offer)) break;
+                    if (await this.#hasEnded(found)) continue;
+                    others.push(found);
+                    isBefore = found.id < noted.id;
+                }
+            }
+        } catch (fault) {
+            if (!(isAway(fault) || fault instanceof Refused || fault instanceof Aborted || fault instanceof Busy)) throw fault;
+        } finally {
+            for (const offer of others) offer.release();
+        }
+        return !isLeft();
+    }
+
+    /**
+     * Whether it is what an earlier life had in hand: then it counts as failed.
+     * @param {Offer} offer
+     */
+    async #hasEnded(offer) {
+        const place = this.#notes?.placeOf(offer) ?? null;
+        if (place !== null) await this.#failed(offer, ENDED, place);
+        return place !== null;
     }
 
     /** One job, or what is due; false if the work is over. */
@@ -158,7 +241,7 @@ class Work {
             throw fault;
         }
         if (ended instanceof Offer) {
-            await this.#do(ended);
+            if (!await this.#hasEnded(ended)) await this.#do(ended);
             this.#lastJob = performance.now();
             return true;
         }
@@ -168,16 +251,19 @@ class Work {
     /** @param {Offer} offer */
     async #do(offer) {
         this.#inside.keep(offer, this.#given.keep);
+        const place = this.#notes?.write(offer) ?? 0;
         try {
             let tuples;
             try {
-                tuples = tuplesOf(await this.#work(offer.tuple));
+                tuples = await this.#result(offer.tuple);
             } catch (fault) {
-                if (fault instanceof WrongResult) throw new TypeError(fault.message);
+                this.#notes?.clear(place);
                 await this.#failed(offer, fault);
                 return;
             }
-            if (await this.#put(tuples, offer) && await this.#accept(offer)) this.#count += 1;
+            this.#notes?.clear(place);
+            if (tuples === null) offer.release();
+            else if (await this.#put(tuples, offer) && await this.#accept(offer)) this.#count += 1;
         } catch (fault) {
             offer.release();
             throw fault;
@@ -185,29 +271,66 @@ class Work {
     }
 
     /**
-     * The function has thrown.
-     * @param {Offer} offer @param {unknown} fault
+     * What the function returns for a job, as tuples, or null if the grace was over before that. Throws what it throws,
+     * or that its limit is over: then what it comes to does not matter any more.
+     * @param {Tuple} job @returns {Promise<Tuple[] | null>}
      */
-    async #failed(offer, fault) {
+    async #result(job) {
+        const { limit } = this.#given, { signal } = this.#grace, begin = performance.now();
+        /** @type {NodeJS.Timeout | undefined} */
+        let timer;
+        let leave = () => {};
+        const working = (async () => this.#work(job))();
+        working.catch(() => {});
+        try {
+            const result = await Promise.race([working, new Promise((resolve) => {
+                if (limit !== null) timer = setTimeout(() => resolve(LATE), Math.min(LONGEST_TIMER, limit));
+                leave = () => resolve(LEFT);
+                signal.addEventListener('abort', leave);
+                if (signal.aborted) leave();
+            })]);
+            if (result === LEFT) return null;
+            if (limit !== null && (result === LATE || performance.now() - begin > limit)) throw new Limit(limit);
+            return tuplesOf(result);
+        } finally {
+            clearTimeout(timer);
+            signal.removeEventListener('abort', leave);
+        }
+    }
+
+    /**
+     * The function has thrown, or its limit is over, or an earlier life has ended in it.
+     * @param {Offer} offer @param {unknown} fault
+     * @param {number | null} [place] that of its note, which is kept until the job is put again
+     */
+    async #failed(offer, fault, place = null) {
         const { tries, delay, dead } = this.#given, { tuple } = offer;
         if (tries === null) throw fault;
-        const failed = Number(tuple.at(-1)), had = BigInt(/** @type {number} */ (tuple.at(-1)));
-        const count = had < MOST_INTEGER ? plain(had + 1n) : MOST_INTEGER;
-        if (count < tries) {
-            const due = performance.now() + (delay > 0 ? Math.min(LONGEST_TIMER, delay * 2 ** failed) : 0);
-            this.#waiting.push({ offer, due, next: Object.freeze([...tuple.slice(0, -1), count]) });
-            this.#waiting.sort((one, other) => one.due - other.due);
+        const at = this.#places[this.#inputs.findIndex(({ template }) => matches(template, tuple))];
+        const had = BigInt(/** @type {number} */ (tuple[at])), failed = had < 0n ? 0n : had;
+        const count = failed < MOST_INTEGER ? plain(failed + 1n) : MOST_INTEGER;
+        const job = [...tuple.slice(0, at), count, ...tuple.slice(at + 1)], isDead = count >= tries;
+        const next = isDead ? [dead, ...job, cut(textOf(fault))] : job;
+        const due = performance.now() + (isDead || delay === 0 ? 0 : Math.min(LONGEST_TIMER, delay * 2 ** Number(failed)));
+        const waiting = { offer, due, next: Object.freeze(next), place };
+        if (isDead) {
+            await this.#next(waiting);
             return;
         }
-        const letter = [dead, ...tuple.slice(1, -1), count, cut(textOf(fault))];
-        if (await this.#put([Object.freeze(letter)], offer)) await this.#accept(offer);
+        this.#waiting.push(waiting);
+        this.#waiting.sort((one, other) => one.due - other.due);
     }
 
     /** The first job that waits is put again, with its count. */
     async #tryAgain() {
-        const [{ offer, next }] = this.#waiting.splice(0, 1);
+        await this.#next(this.#waiting.splice(0, 1)[0]);
+    }
+
+    /** @param {Waiting} waiting */
+    async #next({ offer, next, place }) {
         try {
             if (await this.#put([next], offer)) await this.#accept(offer);
+            if (place !== null) this.#notes?.clear(place);
         } catch (fault) {
             offer.release();
             throw fault;
@@ -340,8 +463,17 @@ function isAway(fault) {
     return fault instanceof NoConnection || fault instanceof TimedOut || fault instanceof Refused && fault.reason === 'Busy';
 }
 
-/** A function returned something that is no result. */
-class WrongResult extends Error {}
+/** The time of a function was over. */
+class Limit extends Error {
+    /** @param {number} limit */
+    constructor(limit) {
+        super(`the limit of ${limit / 1_000} s`);
+    }
+
+    toString() {
+        return this.message;
+    }
+}
 
 /**
  * What a function returned, as tuples.
@@ -351,7 +483,7 @@ function tuplesOf(result) {
     if (result == null) return [];
     const items = Array.isArray(result) ? Array.from(result) : null, isMany = items?.length === 0 || Array.isArray(items?.[0]);
     if (items === null || isMany && !items.every(Array.isArray)) {
-        throw new WrongResult(`a worker's function returns nothing, a tuple or an array of tuples: ${shown(result)}`);
+        throw new TypeError(`a worker's function returns nothing, a tuple or an array of tuples: ${shown(result)}`);
     }
     return isMany ? items.map(checkedTuple) : [checkedTuple(items)];
 }

@@ -17,7 +17,7 @@ A value is an int of 64 bits with a sign, a str of at most 4,095 bytes of UTF-8,
 pattern is a value, which fits itself (True is not 1), or a formal: INT, TEXT and BOOL fit each value of their kind, ANY each value. A template is a tag and at
 most 32 patterns. `pack` makes fields of a JSON value, `unpack` a JSON value of fields.
 
-It sends version 2 of docs/FORMATS.md, and waits as docs/EVENTS.md says. A `Space` is for one thread at a time; a `Pool` is for several, and `linda_space.aio`
+It sends version 2 of the frames, and waits, as docs/PROTOCOL.md says. A `Space` is for one thread at a time; a `Pool` is for several, and `linda_space.aio`
 for asyncio. A process that was forked needs spaces of its own. Reconnections and lost holds are logged as "linda_space".
 """
 
@@ -31,10 +31,10 @@ from .offers import Hold, Offer
 from .pool import Pool
 from .results import Kept, Outcome, Stored
 from .space import Space
-from .values import ANY, BOOL, INT, PACKED, TEXT, Formal, Pattern, Template, Value, Values, pack, unpack
+from .values import ANY, BOOL, INT, PACKED, TEXT, TRIES, Formal, Pattern, Template, Value, Values, pack, unpack
 
-__version__ = "0.21.0"
+__version__ = "0.22.0"
 __all__ = [
     "ANY", "Alarm", "Always", "BOOL", "BadReply", "Busy", "Choose", "Closed", "Event", "Forked", "Formal", "Gone", "Hold", "INT", "Idle", "In", "Kept", "Left",
     "Nack", "Never", "NoConnection", "NoNumber", "NumberInUse", "Offer", "OutOfRange", "Outcome", "PACKED", "Pattern", "Pool", "Rd", "Refused", "Restored", "Space",
-    "SpaceError", "Spent", "Stored", "TEXT", "Template", "TimedOut", "Value", "Values", "Wrap", "pack", "unpack"]
+    "SpaceError", "Spent", "Stored", "TEXT", "TRIES", "Template", "TimedOut", "Value", "Values", "Wrap", "pack", "unpack"]

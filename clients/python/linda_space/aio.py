@@ -31,11 +31,12 @@ from weakref import WeakMethod
 from . import offers, space as threads, working
 from .errors import Closed, Forked, Gone, NoConnection, NoNumber, OutOfRange, Refused, SpaceError, TimedOut
 from .events import Alarm, Choose, Event, In, Rd, as_event
+from .interrupts import LOOK_AGAIN, Cut, Cutter
 from .limits import NUMBER_LIMIT, RENEWAL, SHORTEST_PAUSE
 from .links import Port
 from .machine import Ended, Settled
 from .numbers import Client
-from .pool import FINISH, MOST_MEMBERS, has_left, log, say_left
+from .pool import FINISH, FINISHED, MOST_MEMBERS, UNSENT, has_left, log, say_left
 from .results import Kept, Outcome, Stored
 from .space import Course
 from .together import ManyStored, ManyTaken
@@ -241,9 +242,10 @@ class Space:
                     None if keep is None else as_seconds("the time between renewals", keep, SHORTEST_PAUSE))
 
     async def work(self, template: working.Template, function: Callable[[Values], Any], *, tries: Optional[int] = None, delay: float = 1.0,
-                   dead: Value = "dead", stop: working.Stop = None, keep: float = RENEWAL, timeout: Optional[float] = None) -> int:
+                   dead: Value = "dead", stop: working.Stop = None, keep: float = RENEWAL, timeout: Optional[float] = None, limit: Optional[float] = None,
+                   grace: float = 30.0) -> int:
         """Does one job after another, as `linda_space.Space.work`; the function may be a coroutine function. While it runs, other calls of the space may be made."""
-        plan = working.Plan(template, tries, delay, dead, stop, keep, timeout)
+        plan = working.Plan(template, tries, delay, dead, stop, keep, timeout, limit, grace)
         steps = working.Worker(self._inner, _Calls(self), plan, function).steps()
         try:
             step = next(steps)
@@ -396,8 +398,31 @@ class _Calls:
     """The calls of a worker in a task."""
 
     def __init__(self, space: Space) -> None:
+        self.cutter = Cutter()
         self.out, self.again = space.out, space.again
         self.hold_or, self.accept, self.pass_over, self.sleep = space._hold_or, space._accept, space._pass_over, asyncio.sleep
+
+    async def run(self, function: Callable[[Values], Any], job: Values, limit: Optional[float]) -> Any:
+        """What the function returns. If it is a coroutine function it is cancelled at its limit, or at the end of the grace."""
+        cutter = self.cutter
+        cutter.limit_until = math.inf if limit is None else time.monotonic() + limit
+        value = function(job)
+        if not isinstance(value, Awaitable):
+            if time.monotonic() >= cutter.limit_until:
+                raise Cut(True)
+            return value
+        task = asyncio.ensure_future(value)
+        try:
+            while not task.done():
+                await asyncio.wait([task], timeout=min(LOOK_AGAIN, cutter.left()))
+        except asyncio.CancelledError:
+            task.cancel()
+            await asyncio.wait([task])
+            raise
+        except Cut:
+            task.cancel()
+            raise
+        return task.result()
 
 
 class Pool:
@@ -622,7 +647,11 @@ class Pool:
     async def _lent(self, timeout: Optional[float]) -> AsyncIterator[Tuple[Space, Optional[float]]]:
         """A member for a call with this timeout, and the seconds that are left of it."""
         until = math.inf if timeout is None else time.monotonic() + as_seconds("a timeout", timeout)
-        member = await self._lend(until)
+        try:
+            member = await self._lend(until)
+        except SpaceError as fault:
+            fault.advice = UNSENT
+            raise
         is_last = is_useless = False
         try:
             yield member, None if until == math.inf else max(0.0, until - time.monotonic())
@@ -637,7 +666,12 @@ class Pool:
 
     async def _do(self, call: Callable[[Space, Optional[float]], Awaitable[Got]], timeout: Optional[float]) -> Got:
         async with self._lent(timeout) as (member, left):
-            return await call(member, left)
+            try:
+                return await call(member, left)
+            except SpaceError as fault:
+                if fault.pending is not None:
+                    fault.advice = FINISHED
+                raise
 
     # ---- calls, as those of Space; the wait for a member counts in `timeout`
 

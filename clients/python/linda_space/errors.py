@@ -2,7 +2,7 @@
 
 from __future__ import annotations
 
-from typing import TYPE_CHECKING, Any, Dict, List, Optional, Sequence, Tuple, Type
+from typing import TYPE_CHECKING, Any, Dict, List, Optional, Sequence, Tuple, Type, Union
 
 from .limits import REFUSALS
 
@@ -11,9 +11,10 @@ if TYPE_CHECKING:
 
 
 class SpaceError(Exception):
-    """What a `Space` raises. `pending` is what `Space.pending` is after it."""
+    """What a `Space` raises. `pending` is what `Space.pending` is after it. `advice` is what a pool says of it."""
 
     pending: Optional[str] = None
+    advice: Optional[str] = None
 
     def __reduce__(self) -> Tuple[Any, ...]:
         """So that it may go to another process, as `multiprocessing` hands it on."""
@@ -21,7 +22,9 @@ class SpaceError(Exception):
 
     def __str__(self) -> str:
         text = super().__str__()
-        return text if self.pending is None else f"{text}; pending: {self.pending}, go on with again()"
+        if self.pending is None:
+            return text if self.advice is None else f"{text}; {self.advice}"
+        return f"{text}; pending: {self.pending}, {self.advice or 'go on with again()'}"
 
 
 def _made_again(kind: Type[SpaceError], words: Tuple[Any, ...], what: Dict[str, Any]) -> SpaceError:
@@ -36,24 +39,27 @@ class OutOfRange(SpaceError, ValueError):
 
 
 class Refused(SpaceError):
-    """A server refused: `server` is its number, `code` and `name` say why, `detail` is what docs/FORMATS.md gives for that code. `client` is the number of this
+    """A server refused: `server` is its number, `code` and `name` say why, `detail` is what docs/PROTOCOL.md gives for that code. `client` is the number of this
     client. `stored` is of `out_many` only: for each tuple its place, or None if it was not put."""
 
     stored: Optional[List[Optional[Tuple[int, Optional[int]]]]] = None
 
     def __init__(self, server: int, code: int, detail: int, client: int) -> None:
         self.server, self.code, self.detail, self.client, self.name = server, code, detail, client, REFUSALS.get(code, f"code {code}")
-        why = {"Busy": f", another connection has client number {client}", "Known": f", client number {client} was used before"}.get(self.name, "")
+        why = {"Busy": f", another connection has client number {client}", "Known": f", client number {client} was used before",
+               "TooManyClients": f", client number {client} is new to it, and it has no place for one: use a number again that it knows (a range, a file)"
+               }.get(self.name, "")
         super().__init__(f"server {server}: refused {self.name}, detail {detail}{why}")
 
 
 class NoConnection(SpaceError):
-    """The server `server` could not be reached at first, or could not be greeted for `patience` seconds: nobody listens, this user may not connect, or no Hello is
-    answered. `__cause__` is the system's error, if there was one."""
+    """The server `server`, at `port`, could not be reached at first, or could not be greeted for `patience` seconds: nobody listens, this user may not connect,
+    or no Hello is answered. `__cause__` is the system's error, if there was one."""
 
-    def __init__(self, server: int) -> None:
-        self.server = server
-        super().__init__(f"server {server}: no connection")
+    def __init__(self, server: int, port: Union[int, str], fault: Optional[OSError] = None) -> None:
+        self.server, self.port = server, port
+        why = "timed out, no Hello was answered" if fault is None else fault.strerror or str(fault)
+        super().__init__(f"server {server}: no connection to {'port ' if isinstance(port, int) else ''}{port}: {why}")
 
 
 class TimedOut(SpaceError):
@@ -94,7 +100,8 @@ class BadReply(SpaceError):
 
 
 class NoNumber(SpaceError):
-    """Each of the client numbers is in use, or was given up, or, if `fresh` is set, was used before."""
+    """Each of the client numbers is in use, or was given up, or, if `fresh` is set, was used before: more numbers are needed. Or their file cannot be read or
+    written."""
 
 
 class Gone(SpaceError):

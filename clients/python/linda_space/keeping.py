@@ -2,6 +2,7 @@
 
 from __future__ import annotations
 
+import math
 import threading
 import time
 import weakref
@@ -18,19 +19,23 @@ class Keeper:
 
     def __init__(self, space: Space) -> None:
         self.space = weakref.ref(space)
-        self.kept: List[Tuple[Offer, float, float]] = []    # each with the time between renewals, and when the next one is due
+        self.kept: List[Tuple[Offer, float, float, float]] = []     # each with the time between renewals, until when, and when the next one is due
         self.thread: Optional[threading.Thread] = None
+        self.wakes = 0.0                                    # when the thread looks again
         self.more = threading.Event()
         self.gate = threading.Lock()
 
-    def keep(self, offer: Offer, seconds: float) -> None:
-        """Renews the offer every `seconds` seconds from now on, until it is accepted, released or lost."""
+    def keep(self, offer: Offer, seconds: float, limit: Optional[float] = None) -> None:
+        """Renews the offer every `seconds` seconds from now on, until it is accepted, released or lost; with `limit` for so many seconds."""
+        now = time.monotonic()
         with self.gate:
-            self.kept.append((offer, seconds, time.monotonic() + seconds))
+            self.kept = [entry for entry in self.kept if entry[0] is not offer and not entry[0].is_taken]
+            self.kept.append((offer, seconds, math.inf if limit is None else now + limit, now + seconds))
             if self.thread is None:
                 self.thread = threading.Thread(target=self.run, name="linda_space keeper", daemon=True)
                 self.thread.start()
-        self.more.set()
+            elif now + seconds < self.wakes:
+                self.more.set()
 
     def wake(self) -> None:
         self.more.set()
@@ -47,15 +52,16 @@ class Keeper:
         """Renews what is due; returns when the next renewal is due, or None if nothing is left: then the thread ends."""
         now = time.monotonic()
         with self.gate:
-            due = [offer for offer, _, at in self.kept if at <= now]
-        over = [offer for offer in due if not self.is_renewed(offer)]
+            due = [entry for entry in self.kept if entry[3] <= now]
+        over = [entry for entry in due if entry[2] <= now or not self.is_renewed(entry[0])]
         with self.gate:
-            self.kept = [(offer, seconds, now + seconds if at <= now else at) for offer, seconds, at in self.kept
-                         if not offer.is_taken and not any(offer is it for it in over)]
+            self.kept = [(offer, seconds, until, now + seconds if at <= now else at) for offer, seconds, until, at in self.kept
+                         if not offer.is_taken and not any((offer, until) == (it[0], it[2]) for it in over)]
             if not self.kept:
                 self.thread = None
                 return None
-            return min(at for _, _, at in self.kept)
+            self.wakes = min(entry[3] for entry in self.kept)
+            return self.wakes
 
     def is_renewed(self, offer: Offer) -> bool:
         """Renews the offer; returns whether it is still held."""

@@ -1,4 +1,4 @@
-"""The version and the limits of the frames (docs/FORMATS.md), of events and clients (docs/EVENTS.md), and of greeting again."""
+"""The version and the limits of the frames, of events and clients (docs/PROTOCOL.md), and of greeting again."""
 
 VERSION = 2
 MOST_TEXT = 4_095                       # bytes of UTF-8 in a text

@@ -5,7 +5,7 @@ from __future__ import annotations
 import errno
 import os
 import socket
-from typing import Optional, Union
+from typing import Callable, Optional, Union
 
 from .errors import OutOfRange
 from .limits import FRAME_SIZE, MOST_FRAME, SHORTEST_PAUSE
@@ -68,6 +68,7 @@ class Link:
         self.server, self.port, self.fresh, self.until = server, port, fresh, until
         self.is_new = fresh
         self.stream: Optional[socket.socket] = None
+        self.pending: Optional[Callable[[], int]] = None    # of a stream with TLS: how much it has read that its socket does not show
         self.fault: Optional[OSError] = None
         self.is_made = self.is_up = self.was_up = self.was_tried = False
         self.due, self.pause = 0.0, SHORTEST_PAUSE
@@ -79,12 +80,13 @@ class Link:
 
     def frame(self) -> Optional[bytes]:
         """The next frame that came whole, without its length. Raises ValueError if there can be none."""
-        if len(self.came) < FRAME_SIZE:
+        length = len(self.came)
+        if length < FRAME_SIZE:
             return None
         size = int.from_bytes(self.came[:FRAME_SIZE], "big")
         if not 1 <= size <= MOST_FRAME:
             raise ValueError(f"a frame of {size} bytes")
-        if len(self.came) < FRAME_SIZE + size:
+        if length < FRAME_SIZE + size:
             return None
         data = bytes(self.came[FRAME_SIZE:FRAME_SIZE + size])
         del self.came[:FRAME_SIZE + size]

@@ -1,4 +1,4 @@
-"""The client that docs/EVENTS.md describes: it says what must be sent, and is given what came. It knows only the connections and the time that it is given."""
+"""The client that docs/PROTOCOL.md describes: it says what must be sent, and is given what came. It knows only the connections and the time that it is given."""
 
 from __future__ import annotations
 
@@ -106,7 +106,7 @@ class Machine:
         """Accepts an offer that is held, or goes on with its Accept."""
         if offer.is_taken:
             return
-        if isinstance(self.task, Taking) and self.task.offer is offer:
+        if type(self.task) is Taking and self.task.offer is offer:
             self.go_on()
             return
         self.be_idle()
@@ -146,24 +146,29 @@ class Machine:
         """`has_limit`: the last base is the alarm of the call's own time."""
         self.be_idle()
         bases, nacks = bases_and_nacks(event)
-        asking = [base for base in bases if isinstance(base.leaf, Asking)]
-        sync = Syncing(bases, nacks, {}, bases[-1] if has_limit and asking else None, is_poll, is_hold)
+        asking: List[Base] = []
+        alarms: List[Tuple[int, Base]] = []
+        sync = Syncing(bases, nacks, alarms, {}, bases[-1] if has_limit and event._size[2] else None, is_poll, is_hold)
         self.dropped = None
         for base in bases:
-            if isinstance(base.leaf, Always):
+            if isinstance(base.leaf, Asking):
+                asking.append(base)
+                if self.in_hand and not is_hold and base.leaf.takes:
+                    for place, had in enumerate(self.in_hand):
+                        if base.leaf.fits(had.tuple or ()):
+                            assert had.server is not None and had.id is not None and had.tuple is not None
+                            self.in_hand[place] = outcome = self.outcome(sync, base, "took", Arrival(had.server, 0, had.id, had.tuple, True))
+                            self.ended = outcome
+                            del self.in_hand[place]
+                            return
+            elif isinstance(base.leaf, Alarm):
+                alarms.append((base.leaf.time, base))
+                if base.leaf.time <= self.clock and base is not sync.limit:
+                    self.commit(sync, base, "alarm")
+                    return
+            elif isinstance(base.leaf, Always):
                 self.commit(sync, base, "always", value=base.leaf.value)
                 return
-            if isinstance(base.leaf, Alarm) and base.leaf.time <= self.clock and base is not sync.limit:
-                self.commit(sync, base, "alarm")
-                return
-            if self.in_hand and not is_hold and isinstance(base.leaf, In):
-                for place, had in enumerate(self.in_hand):
-                    if base.leaf.fits(had.tuple or ()):
-                        assert had.server is not None and had.id is not None and had.tuple is not None
-                        self.in_hand[place] = outcome = self.outcome(sync, base, "took", Arrival(had.server, 0, had.id, had.tuple, True))
-                        self.ended = outcome
-                        del self.in_hand[place]
-                        return
         if self.ticket + len(asking) > NUMBER_LIMIT:
             raise Spent("no ticket is left")
         sync.tickets = {self.ticket + place: base for place, base in enumerate(asking)}
@@ -182,8 +187,8 @@ class Machine:
             raise Left("the client has left")
 
     def be_idle(self) -> None:
-        self.be_here()
-        if self.task is not None or self.ended is not None:
+        if self.has_left or self.task is not None or self.ended is not None:
+            self.be_here()
             raise Busy("an earlier call has not ended")
 
     def go_on(self) -> None:
@@ -198,7 +203,7 @@ class Machine:
 
     def is_left_over(self) -> bool:
         """Whether something is unfinished for which the next call waits first."""
-        return self.is_interrupted or isinstance(self.task, Syncing)
+        return self.is_interrupted or type(self.task) is Syncing
 
     def give_up(self, is_interrupted: bool) -> None:
         """A call ended by an exception. A synchronization is over, but for the answer to its Accept; all else stays pending, until `again`, or until the next
@@ -263,8 +268,9 @@ class Machine:
     # ---- what arrives
 
     def tick(self, now: int) -> None:
-        self.clock = max(self.clock, now)
-        if isinstance(self.task, Syncing) and self.task.accepted is None:
+        if now > self.clock:
+            self.clock = now
+        if type(self.task) is Syncing and self.task.alarms and self.task.accepted is None:
             self.ring(self.task)
 
     def ring(self, sync: Syncing) -> None:
@@ -289,25 +295,26 @@ class Machine:
 
     def unanswered(self, task: Optional[Task]) -> List[Tuple[int, bytes]]:
         """What is not answered: an Out, an Accept or the Leaves, and then the Asks of all open tickets, by rising ticket, then rising server."""
-        if isinstance(task, Put):
+        if type(task) is Put:
             return [(task.server, spell_out(task.number, task.values))]
-        if isinstance(task, Repeat):
+        if type(task) is Syncing:
+            packets = []
+            if task.accepted is not None:
+                packets.append((task.accepted.server, spell_accept(task.accepted.number, task.accepted.ticket, task.accepted.id)))
+            if not task.is_dropped:
+                for ticket, base in task.tickets.items():
+                    ask = spell_ask(ticket, base.leaf)
+                    packets += [(server, ask) for server in range(self.servers)]
+            return packets
+        if type(task) is Repeat:
             return [(task.server, spell_accept(task.number, 0, 0))]
-        if isinstance(task, Leaving):
+        if type(task) is Leaving:
             return [(server, spell_leave(number)) for server, number in task.numbers.items()]
-        if isinstance(task, Taking):
+        if type(task) is Taking:
             return [(task.server, spell_accept(task.number, task.offer.ticket, task.offer.id))]
-        if isinstance(task, Passing):
+        if type(task) is Passing:
             return [(task.server, spell_accept(task.number, 0, 0))]
-        if task is None or isinstance(task, (Outs, Takes)):
-            return []
-        packets = [(own.server, spell_accept(own.number, own.ticket, own.id)) for own in [task.accepted] if own is not None]
-        if not task.is_dropped:
-            for ticket, base in task.tickets.items():
-                assert isinstance(base.leaf, Asking)
-                ask = spell_ask(ticket, base.leaf)
-                packets += [(server, ask) for server in range(self.servers)]
-        return packets
+        return []
 
     def needs(self, server: int) -> bool:
         """Whether what is pending cannot end without that server."""
@@ -323,13 +330,13 @@ class Machine:
     def under_way(self, server: int) -> int:
         """How many numbered messages to this server are not answered: what its last number may be above the last one that it answered."""
         task = self.task
+        if type(task) is Syncing:
+            return int(task.accepted is not None and task.accepted.server == server)
+        if type(task) is Put or type(task) is Taking or type(task) is Passing:
+            return int(task.server == server)
         if isinstance(task, (Outs, Takes)):
             return task.under_way(server)
-        if isinstance(task, Syncing):
-            return int(task.accepted is not None and task.accepted.server == server)
-        if isinstance(task, Leaving):
-            return int(server in task.numbers)
-        return int(isinstance(task, (Put, Taking, Passing)) and task.server == server)
+        return int(isinstance(task, Leaving) and server in task.numbers)
 
     def missing(self) -> List[int]:
         """The servers whose answer is waited for; for a synchronization those that are away, if there are any."""
@@ -380,40 +387,41 @@ class Machine:
         """Takes a reply. Raises Refused if it is one, Spent if an offer would be accepted and no number is left, and NumberInUse if it has the number of what is
         not answered, and is no answer to that: then another program has used the number. While the client leaves, Refused with Left is as good as Left: an earlier
         life of it has left that server."""
-        task = self.task
-        if isinstance(task, Leaving) and (reply.kind == LEFT and task.numbers.get(server) == reply.number or is_left(reply) and server in task.numbers):
-            self.left(server, task, reply.kind == LEFT)
-        elif reply.kind == REFUSED:
+        task, kind = self.task, reply.kind
+        if type(task) is Leaving and (kind == LEFT and task.numbers.get(server) == reply.number or is_left(reply) and server in task.numbers):
+            self.left(server, task, kind == LEFT)
+        elif kind == REFUSED:
             self.refused(server, reply)
-        elif reply.kind in (OFFER, READ):
-            self.arrive(Arrival(server, reply.number, reply.id, reply.tuple, reply.kind == OFFER))
-        elif reply.kind == WELCOME:
+        elif kind == OFFER or kind == READ:
+            self.arrive(Arrival(server, reply.number, reply.id, reply.tuple, kind == OFFER))
+        elif kind == WELCOME:
             pass
-        elif isinstance(task, (Outs, Takes)):
-            task.receive(self, server, reply)
-        elif isinstance(task, Syncing):
+        elif type(task) is Syncing:
             if task.accepted is not None and (task.accepted.server, task.accepted.number) == (server, reply.number):
                 self.settle(task, task.accepted, reply)
-        elif isinstance(task, Leaving):
-            if task.numbers.get(server) == reply.number:
-                raise self.in_use(server, reply)
-        elif isinstance(task, Put):
+        elif type(task) is Put:
             if (task.server, task.number) == (server, reply.number):
-                if reply.kind != STORED:
+                if kind != STORED:
                     raise self.in_use(server, reply)
                 self.end(server, reply.number, Stored(server, reply.id, task.values))
-        elif isinstance(task, Taking):
+        elif type(task) is Taking:
             if (task.server, task.number) == (server, reply.number):
                 self.taken(task, reply)
-        elif isinstance(task, Passing):
+        elif isinstance(task, (Outs, Takes)):
+            task.receive(self, server, reply)
+        elif type(task) is Leaving:
+            if task.numbers.get(server) == reply.number:
+                raise self.in_use(server, reply)
+        elif type(task) is Passing:
             if (task.server, task.number) == (server, reply.number):
-                if reply.kind != GONE:
+                if kind != GONE:
                     raise self.in_use(server, reply)
                 self.end(server, reply.number, Passed())
-        elif isinstance(task, Repeat):
+        elif type(task) is Repeat:
             if (task.server, task.number) == (server, reply.number):
-                kind = {STORED: "stored", TAKEN: "taken", GONE: "gone", LEFT: "left"}[reply.kind]
-                self.end(server, reply.number, Kept(server, reply.number, kind, reply.id if reply.kind in HAVE_ID else None, reply.tuple or None))
+                name = {STORED: "stored", TAKEN: "taken", GONE: "gone", LEFT: "left"}[kind]
+                self.ended = Kept(server, reply.number, name, reply.id if kind in HAVE_ID else None, reply.tuple or None)
+                self.task = None
 
     def in_use(self, server: int, reply: Reply) -> NumberInUse:
         return NumberInUse(server, reply.number, self.numbers[server] - 1, self.client)
@@ -457,9 +465,9 @@ class Machine:
 
     def arrive(self, arrival: Arrival) -> None:
         """An Offer or a Read, at any time."""
-        if isinstance(self.task, Takes) and arrival.is_offer and self.task.offered(self, arrival):
+        if arrival.is_offer and type(self.task) is Takes and self.task.offered(self, arrival):
             return
-        sync = self.task if isinstance(self.task, Syncing) and not self.task.is_dropped else None
+        sync = self.task if type(self.task) is Syncing and not self.task.is_dropped else None
         base = sync.tickets.get(arrival.ticket) if sync else None
         if sync is None or base is None:
             if arrival.is_offer:
@@ -467,8 +475,7 @@ class Machine:
                 if held is None or held.id != arrival.id:
                     self.sent.append((arrival.server, spell_cancel(arrival.ticket)))
             return
-        assert isinstance(base.leaf, Asking)
-        if isinstance(base.leaf, In) != arrival.is_offer or not base.leaf.fits(arrival.tuple):
+        if base.leaf.takes != arrival.is_offer or not base.leaf.fits(arrival.tuple):
             return
         if sync.accepted is not None:
             if not any(saved.is_same(arrival) for saved in sync.saved):
@@ -482,7 +489,6 @@ class Machine:
             self.commit(sync, base, "read", got=arrival)
             return
         if sync.is_hold:
-            assert isinstance(base.leaf, Asking)
             offer = Offer(arrival.server, arrival.id, arrival.tuple, base.leaf.binds(arrival.tuple), arrival.ticket)
             self.held[arrival.server, arrival.ticket] = offer
             self.cancel(sync, (arrival.server, arrival.ticket))
@@ -499,7 +505,6 @@ class Machine:
         """An answer to the unanswered Accept. If the Asks were sent again to its server, the Accept may have been done before that: its ticket is open there
         once more, and is not spared."""
         base = sync.tickets[own.ticket]
-        assert isinstance(base.leaf, Asking)
         if reply.kind == TAKEN and reply.id == own.id and base.leaf.fits(reply.tuple):
             self.answered(own.server, own.number, True)
             is_open = own.server in sync.asked_again or any((saved.server, saved.ticket) == (own.server, own.ticket) for saved in sync.saved)
@@ -542,8 +547,7 @@ class Machine:
             self.last_taken.discard(server)
 
     def end(self, server: int, number: int, ended: Ended) -> None:
-        if not isinstance(ended, Kept):
-            self.answered(server, number, isinstance(ended, Took))
+        self.answered(server, number, type(ended) is Took)
         self.ended = ended
         self.task = None
 
@@ -557,10 +561,9 @@ class Machine:
 
     @staticmethod
     def outcome(sync: Syncing, base: Base, kind: str, got: Optional[Arrival] = None, value: Optional[Value] = None) -> Outcome:
-        raised = tuple(number for place, number in enumerate(sync.nacks) if place not in base.above)
+        raised = tuple([number for place, number in enumerate(sync.nacks) if place not in base.above])
         if got is None:
             return Outcome(base.number, kind, base.labels, raised, value=value)
-        assert isinstance(base.leaf, Asking)
         return Outcome(base.number, kind, base.labels, raised, got.server, got.id, got.tuple, base.leaf.binds(got.tuple))
 
     def cancel(self, sync: Syncing, spared: Optional[Tuple[int, int]]) -> None:

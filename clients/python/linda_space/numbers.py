@@ -5,7 +5,7 @@ program's, with the first 12 digits of the SHA-256 of the program's whole path: 
 several copies of a program may run at once. A last line without an end was cut when it was added, and is passed over.
 
 A server knows only which clients are connected now. So a number of a file, or of several, is claimed on this machine too (`Claim`): a program that has no
-connection for a while, as when its server is started again, keeps its number.
+connection for a while, as when its server is started again, keeps its number. Each that is free is greeted once, to find one whose last reply is Taken.
 """
 
 from __future__ import annotations
@@ -20,7 +20,7 @@ import sys
 import time
 from functools import partial
 from pathlib import Path
-from typing import TYPE_CHECKING, Generator, List, Optional, Sequence, Tuple, Union, cast
+from typing import TYPE_CHECKING, Dict, Generator, List, Optional, Sequence, Tuple, Union, cast
 
 from .errors import NoConnection, NoNumber, OutOfRange, Refused, TimedOut
 from .limits import BUSY_PATIENCE, LONGEST_PAUSE, MOST_CLIENT
@@ -41,11 +41,15 @@ Client = Union[int, Sequence[int], "os.PathLike[str]", str, None]
 Course = Generator[float, None, None]
 
 
+def state_folder() -> Path:
+    """The folder of what programs keep from one life to the next."""
+    return Path(os.environ.get("LINDA_STATE") or os.path.join(os.environ.get("XDG_STATE_HOME") or os.path.expanduser("~/.local/state"), "linda"))
+
+
 def program_file() -> Path:
     """The file in which this program keeps its numbers."""
     program = os.path.realpath(sys.argv[0]) if sys.argv and sys.argv[0] else sys.executable
-    folder = os.environ.get("LINDA_STATE") or os.path.join(os.environ.get("XDG_STATE_HOME") or os.path.expanduser("~/.local/state"), "linda")
-    return Path(folder) / f"{Path(program).stem}-{hashlib.sha256(os.fsencode(program)).hexdigest()[:12]}.numbers"
+    return state_folder() / f"{Path(program).stem}-{hashlib.sha256(os.fsencode(program)).hexdigest()[:12]}.numbers"
 
 
 class Numbers:
@@ -129,6 +133,10 @@ class Claim:
             if made is not None:
                 made.close()
 
+    @property
+    def is_made(self) -> bool:
+        return self._socket is not None
+
     def end(self) -> None:
         """Ends the claim: others may claim the number."""
         if self._socket is not None:
@@ -137,58 +145,62 @@ class Claim:
 
 def choose_number(space: Space, numbers: Numbers, fresh: bool) -> Course:
     """Greets each server under a number that is free."""
-    if numbers.path is not None:
-        yield from _of_file(space, numbers)
-    elif numbers.several is None:
+    if numbers.path is None and numbers.several is None:
         yield from space._greet(numbers.first, fresh)
-    else:
-        key = numbers.key(space._ports)
-        until = time.monotonic() + min(BUSY_PATIENCE, space._patience)
-        while not (yield from _of_several(space, key, numbers.several, fresh, True)):
-            if fresh or time.monotonic() >= until:
-                raise NoNumber(f"none of the client numbers from {numbers.several[0]} to {numbers.several[-1]} is to be had")
-            yield from _rest()
-
-
-def _of_file(space: Space, numbers: Numbers) -> Course:
-    """Greets under a number of the file, or under a new one."""
-    key = numbers.key(space._ports)
-    if (yield from _of_several(space, key, numbers.read(), False, False)):
         return
+    key, until = numbers.key(space._ports), time.monotonic() + min(BUSY_PATIENCE, space._patience)
+    while True:
+        refused = yield from _of_several(space, key, numbers.read() if numbers.several is None else numbers.several, fresh and numbers.path is None)
+        if refused is None:
+            return
+        if time.monotonic() >= until or (fresh if numbers.path is None else "Busy" not in refused):
+            break
+        yield from _rest()
+    if numbers.path is not None:
+        yield from _new_of_file(space, key, numbers)
+    elif "TooManyClients" in refused:
+        raise refused["TooManyClients"]
+    else:
+        assert numbers.several is not None
+        raise NoNumber(f"none of the client numbers from {numbers.several[0]} to {numbers.several[-1]} is to be had: a larger range has more")
+
+
+def _new_of_file(space: Space, key: str, numbers: Numbers) -> Course:
+    """Greets under a new number, and adds it to the file."""
     for _ in range(MOST_DRAWS):
         number = random.SystemRandom().randint(LEAST_DRAWN, MOST_CLIENT)
-        if (yield from _try(space, key, number, True)) is not None:
+        kept = yield from _try(space, key, number, True)
+        if isinstance(kept, list):
             numbers.add(number)
             return
+        if kept is not None and kept.name == "TooManyClients":
+            raise kept
     raise NoNumber(f"none of {MOST_DRAWS} new client numbers is to be had")
 
 
-def _of_several(space: Space, key: str, numbers: Sequence[int], fresh: bool, stops: bool) -> Generator[float, None, bool]:
-    """Greets under the first number whose last reply is Taken, else under the first that is free; if `stops` none is looked at after one that was never used.
-    Returns whether there was one. A number that was found is kept, with its connections, while others are looked at."""
+def _of_several(space: Space, key: str, numbers: Sequence[int], fresh: bool) -> Generator[float, None, Optional[Dict[str, Refused]]]:
+    """Greets under the first number whose last reply is Taken, else under the first that is free. None if there was one; else how servers refused those that
+    nobody on this machine has. A number that was found is kept, with its connections, while others are looked at."""
     found: Optional[Tuple[Machine, List[Link], Optional[Claim]]] = None
+    refused: Dict[str, Refused] = {}
     try:
         for number in numbers:
             kept = yield from _try(space, key, number, fresh)
-            if kept is None:
-                continue
-            if fresh or any(reply is not None and reply.kind == "taken" for reply in kept):
-                return True
-            was_used = any(reply is not None for reply in kept)
-            if found is None:
-                if not was_used and stops:
-                    return True
-                found = (space._machine, *space._set_aside())
-            else:
-                space._give_number_up()
-            if not was_used and stops:
-                break
+            if isinstance(kept, Refused):
+                refused[kept.name] = kept
+            elif kept is not None:
+                if fresh or any(reply is not None and reply.kind == "taken" for reply in kept):
+                    return None
+                if found is None:
+                    found = (space._machine, *space._set_aside())
+                else:
+                    space._give_number_up()
         if found is None:
-            return False
+            return refused
         space._give_number_up()
         space._take_back(*found)
         found = None
-        return True
+        return None
     finally:
         if found is not None:
             for link in found[1]:
@@ -197,9 +209,11 @@ def _of_several(space: Space, key: str, numbers: Sequence[int], fresh: bool, sto
                 found[2].end()
 
 
-def _try(space: Space, key: str, number: int, fresh: bool) -> Generator[float, None, Optional[List[Optional[Kept]]]]:
-    """Greets each server under this number; returns the replies that they keep, with `fresh` only that there are none. None, and no connection, if it is in
-    use, was given up, or with `fresh` was used."""
+def _try(space: Space, key: str, number: int, fresh: bool) -> Generator[float, None, Union[List[Optional[Kept]], Refused, None]]:
+    """Greets each server under this number; returns the replies that they keep, with `fresh` only that there are none. If it is not to be had there is no
+    connection: the Refused if a server is Busy, though nobody on this machine has the number, or has TooManyClients; None if it is in use here, was given up,
+    or with `fresh` was used."""
+    refused = None
     try:
         space._claim = Claim(key, number)
     except FileExistsError:
@@ -213,12 +227,14 @@ def _try(space: Space, key: str, number: int, fresh: bool) -> Generator[float, N
         if not any(reply is not None and reply.kind == "left" for reply in kept):
             return kept
     except TimedOut as fault:           # it answered the Hello, and no more
-        raise NoConnection(fault.servers[0]) from None
+        raise NoConnection(fault.servers[0], space._ports[fault.servers[0]]) from None
     except Refused as fault:
-        if fault.name not in ("Busy", "Known", "Left"):
+        if fault.name not in ("Busy", "Known", "Left", "TooManyClients"):
             raise
+        if fault.name == "TooManyClients" or fault.name == "Busy" and space._claim.is_made:
+            refused = fault
     space._give_number_up()
-    return None
+    return refused
 
 
 def _rest() -> Generator[float, None, None]:

@@ -26,6 +26,7 @@ from .values import Pattern, Value, Values, as_seconds, within
 MOST_MEMBERS = 1_024
 AWAY = 0.5                  # seconds until a member whose server is away is tried again
 FINISH = 2.0                # seconds, `patience` at most, for which the end of what a member has pending is waited for before a call, whatever its timeout
+UNSENT, FINISHED = "nothing was sent for this call", "the pool finishes it"
 LOOK = 1.0                  # seconds until a call that waits for a member looks whether a member belongs to a call that is gone
 Got = TypeVar("Got")
 
@@ -74,8 +75,9 @@ class Pool:
     in use, which is made if there is none and there are fewer than `size`; else the call waits for one. Use it in a `with`, or call `close` at the end.
 
     A call that raised an error may have left something pending (`SpaceError.pending`): the pool finishes that, under its number, before the member is used
-    again. So do not put a tuple again whose `out` raised NoConnection or TimedOut: it will be there once its server is back and the pool is used again. A tuple
-    that was just being taken when a call raised an error is put back then. What `take` took is lost if the program is killed: hold jobs.
+    again. So do not put a tuple again whose `out` raised an error with `pending`: it will be there once its server is back and the pool is used again. If
+    `pending` is None it was not put. A tuple that was just being taken when a call raised an error is put back then. What `take` took is lost if the program is
+    killed: hold jobs.
     """
 
     def __init__(self, ports: Sequence[Port], client: Client = None, *, size: int = 16, **how: Any) -> None:
@@ -334,7 +336,11 @@ class Pool:
         """A member for a call with this timeout, and the seconds that are left of it. Raises TimedOut if no member is free by then."""
         lent = Lent(timeout=timeout)
         try:
-            member = self._lend(lent)
+            try:
+                member = self._lend(lent)
+            except SpaceError as fault:
+                fault.advice = UNSENT
+                raise
             try:
                 yield member, lent.timeout()
             except SpaceError as fault:
@@ -356,7 +362,12 @@ class Pool:
 
     def _do(self, call: Callable[[Space, Optional[float]], Got], timeout: Optional[float]) -> Got:
         with self._lent(timeout) as (member, left):
-            return call(member, left)
+            try:
+                return call(member, left)
+            except SpaceError as fault:
+                if fault.pending is not None:
+                    fault.advice = FINISHED
+                raise
 
     # ---- calls, as those of Space; the wait for a member counts in `timeout`
 

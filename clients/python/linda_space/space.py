@@ -10,6 +10,7 @@ import socket
 import threading
 import time
 import weakref
+from functools import partial
 from types import TracebackType
 from typing import Any, Callable, Generator, Iterable, List, Optional, Sequence, Tuple, Type, TypeVar, Union, cast, overload
 
@@ -17,7 +18,7 @@ from . import working
 from .errors import (
     BadReply, Busy, Closed, Forked, Gone, Idle, NoConnection, NumberInUse, OutOfRange, Refused, Restored, SpaceError, TimedOut)
 from .events import Alarm, Choose, Event, In, Rd, as_event
-from .frames import REFUSED, WELCOME, Reader, spell_hello
+from .frames import REFUSED, WELCOME, read_reply, spell_hello
 from .limits import (
     BUSY_PATIENCE, LONGEST_PAUSE, MOST_SERVERS, NUMBER_LIMIT, PATIENCE, REFUSALS, RENEWAL, SHORTEST_PAUSE)
 from .keeping import Keeper
@@ -91,8 +92,8 @@ class Space:
         - `ports`: 1 to 16 ports of this machine, from 1 to 65,535, "localhost:7000" too, or paths of unix sockets, each a text with a slash in it. An earlier
           life of this client gave the same servers in the same order.
         - `client`: the number of this client, from 0 to 2^32 - 1. No two programs use one number at the same time. Or several numbers, as range(100, 200): of
-          those that no other connection has, that were not given up by `leave`, and that come before the first that was never used, the first whose last reply
-          is Taken, since its job may be unfinished (see `last_reply`); else the first; with `fresh` the first that was never used. Or None, or the path of a
+          those that no other connection has, and that were not given up by `leave`, the first whose last reply is Taken, since its job may be unfinished (see
+          `last_reply`); else the first; with `fresh` the first that was never used. Each is greeted, which takes its time. Or None, or the path of a
           file, as an os.PathLike: a number of those that this program keeps in that file, chosen in the same way, and a new one, which is added to it, if all
           of them are in use. If it is None the file is one of the program's own (`linda_space.numbers`).
         - `fresh`: this number was never used, and a server that knows it refuses it. If it is not set numbers go on after those of an earlier life of this
@@ -126,7 +127,7 @@ class Space:
         if len(set(self._ports)) < len(ports):
             raise OutOfRange(f"a server is there twice, and has one connection of a number: {ports!r}")
         self._patience = as_seconds("the patience", patience, SHORTEST_PAUSE)
-        numbers = Numbers(client)
+        self._numbers = numbers = Numbers(client)
         self._connect = connect
         self._start = time.monotonic()
         self._now = clock if clock is not None else lambda: int((time.monotonic() - self._start) * 1000)
@@ -141,7 +142,7 @@ class Space:
         try:
             self._selector = selectors.DefaultSelector()
         except OSError as fault:                            # no file is left for it
-            raise NoConnection(0) from fault
+            raise NoConnection(0, self._ports[0], fault) from fault
         self._wake_task: Callable[[], None] = lambda: None  # what waits in a task of asyncio looks at what was read
         self._keeper = Keeper(self)
         self._claim: Optional[Claim] = None                 # of the number, if it is one of several
@@ -160,13 +161,13 @@ class Space:
                 link.due = link.until = math.inf
             self._links[0].busy_until = 0.0
             while not self._links[0].was_up:
-                yield from self._wait(math.inf)
+                yield self._wait(math.inf)
                 self._hear_all()
             until = time.monotonic() + self._patience
             for link in self._links[1:]:
                 link.due, link.until = 0.0, until
         while not all(link.was_up for link in self._links):
-            yield from self._wait(math.inf)
+            yield self._wait(math.inf)
             self._hear_all()
 
     def _set_aside(self) -> Tuple[List[Link], Optional[Claim]]:
@@ -254,7 +255,7 @@ class Space:
         Restored: it is not there. NoConnection, TimedOut, and all others: it may have been put or not, and is pending.
         """
         values = as_tuple((tag, *fields))
-        ended = self._call(lambda: self._machine.out(values), timeout)
+        ended = self._call(partial(self._machine.out, values), timeout)
         assert isinstance(ended, Stored)
         return ended.server, ended.id
 
@@ -269,7 +270,7 @@ class Space:
         many = [as_tuple(values) for values in tuples]
         if not many:
             return []
-        ended = self._call(lambda: self._machine.out_many(many), timeout)
+        ended = self._call(partial(self._machine.out_many, many), timeout)
         assert isinstance(ended, ManyStored)
         return ended.places
 
@@ -285,7 +286,7 @@ class Space:
 
         Raises as `choose` does.
         """
-        return cast(Optional[Values], self.choose(In(tag, *patterns), timeout=timeout).tuple)
+        return self._first(In(tag, *patterns), timeout)
 
     def take_many(self, tag: Value, *patterns: Pattern, count: int, timeout: Optional[float] = None) -> List[Values]:
         """Takes tuples that match and are there now away, `count` at most, and returns them: up to 64 are under way at once, from one server after the other.
@@ -296,14 +297,14 @@ class Space:
         returns what was taken.
         """
         event, most = In(tag, *patterns), within("a count", count, 0, NUMBER_LIMIT)
-        ended = self._call(lambda: self._machine.take_many(event, most, False), timeout)
+        ended = self._call(partial(self._machine.take_many, event, most, False), timeout)
         assert isinstance(ended, ManyTaken)
         return ended.tuples
 
     def purge(self, tag: Value, *patterns: Pattern, timeout: Optional[float] = None) -> int:
         """Takes all tuples that match and are there now away, as `take_many` does, and returns how many these were."""
         event = In(tag, *patterns)
-        ended = self._call(lambda: self._machine.take_many(event, None, True), timeout)
+        ended = self._call(partial(self._machine.take_many, event, None, True), timeout)
         assert isinstance(ended, ManyTaken)
         return ended.count
 
@@ -315,7 +316,13 @@ class Space:
 
     def read(self, tag: Value, *patterns: Pattern, timeout: Optional[float] = None) -> Optional[Values]:
         """A copy of a tuple that matches, which stays; else as `take`."""
-        return cast(Optional[Values], self.choose(Rd(tag, *patterns), timeout=timeout).tuple)
+        return self._first(Rd(tag, *patterns), timeout)
+
+    def _first(self, event: Event, timeout: Optional[float]) -> Optional[Values]:
+        """The tuple that a base gets, as `choose` does."""
+        outcome = self._sync(event) if timeout is None else self._sync(Choose(event, self.after(timeout)), has_limit=True, is_poll=timeout == 0)
+        found: Optional[Values] = outcome.tuple
+        return found
 
     def look(self, tag: Value, *patterns: Pattern, timeout: Optional[float] = None) -> Optional[Values]:
         """A copy of a tuple that matches and that some server has now, held or not; None if all have answered that they have none. It waits for nothing else: at
@@ -333,11 +340,10 @@ class Space:
 
         Raises as `sync` does, and TimedOut if a server has no connection when the time is up, or does not answer then for `patience` seconds.
         """
-        events = [as_event(branch) for branch in branches]
+        event = Choose(*branches)
         if timeout is None:
-            return self.sync(Choose(*events))
-        event = Choose(*events, self.after(timeout))
-        return self._sync(event, has_limit=True, is_poll=timeout == 0)
+            return self._sync(event)
+        return self._sync(Choose(*event.events, self.after(timeout)), has_limit=True, is_poll=timeout == 0)
 
     def sync(self, event: Event) -> Outcome:
         """Waits until a base of the event is chosen. A base that is ready at once is chosen first, and then no server is asked. Else all servers are asked for
@@ -374,9 +380,9 @@ class Space:
                     None if keep is None else as_seconds("the time between renewals", keep, SHORTEST_PAUSE))
 
     def work(self, template: working.Template, function: working.Function, *, tries: Optional[int] = None, delay: float = 1.0, dead: Value = "dead",
-             stop: working.Stop = None, keep: float = RENEWAL, timeout: Optional[float] = None) -> int:
+             stop: working.Stop = None, keep: float = RENEWAL, timeout: Optional[float] = None, limit: Optional[float] = None, grace: float = 30.0) -> int:
         """Does one job after another, and returns how many it did: see `linda_space.working`."""
-        return working.work(self, working.Plan(template, tries, delay, dead, stop, keep, timeout), function)
+        return working.work(self, working.Plan(template, tries, delay, dead, stop, keep, timeout, limit, grace), function)
 
     def after(self, seconds: float) -> Alarm:
         """An alarm that is ready `seconds` seconds from now, rounded up to milliseconds. Raises OutOfRange if that is below 0, no number, or too late."""
@@ -395,7 +401,7 @@ class Space:
         is pending. All others: it is pending.
         """
         place = within("a server", server, 0, len(self._links) - 1)
-        ended = self._call(lambda: self._machine.repeat(place), timeout)
+        ended = self._call(partial(self._machine.repeat, place), timeout)
         assert ended is None or isinstance(ended, Kept)
         return ended
 
@@ -481,11 +487,7 @@ class Space:
 
     def _hold_or(self, event: Event, has_limit: bool = False, is_poll: bool = False, is_over: Optional[Callable[[], bool]] = None) -> Union[Offer, Outcome, None]:
         """Waits for an event, of which no input takes a tuple: it is held. None once it is over, which is looked for four times a second."""
-        def begin() -> None:
-            self._machine.tick(self._now())
-            self._machine.sync(event, has_limit, is_poll, True)
-
-        ended = self._call(begin, is_over=is_over)
+        ended = self._call(partial(self._begin, event, has_limit, is_poll, True), is_over=is_over)
         if isinstance(ended, Offer):
             ended._space = self
         assert ended is None or isinstance(ended, (Offer, Outcome))
@@ -493,10 +495,10 @@ class Space:
 
     def _pass_over(self, server: int) -> None:
         """Has a server keep Gone as the last reply to this client."""
-        self._call(lambda: self._machine.pass_over(server))
+        self._call(partial(self._machine.pass_over, server))
 
     def _accept(self, offer: Offer, timeout: Optional[float]) -> Values:
-        ended = self._call(lambda: self._machine.take_held(offer), timeout, offer=offer)
+        ended = self._call(partial(self._machine.take_held, offer), timeout, offer=offer)
         if isinstance(ended, Gone):
             raise ended
         return offer.tuple
@@ -546,18 +548,19 @@ class Space:
                 self._let_go_all()
                 self._machine.lost_offers = [offer for offer in self._machine.lost_offers if any(offer is it for it in held)]
 
-    def _look(self, servers: Optional[Iterable[int]] = None) -> None:
-        """Reads what came from these servers, or from those that hold something: a connection that ended is noticed so. If another thread is in a call, that reads
-        all at once."""
-        if self._thread not in (None, threading.get_ident(), TASK):
-            return
-        for server in {server for server, _ in self._machine.held} if servers is None else servers:
-            link = self._links[server]
-            size = len(link.came)
-            while link.stream is not None and link.is_up and self._read(link):
-                pass
-            if self._thread == TASK and (not link.is_up or len(link.came) > size):
-                self._wake_task()               # its loop does not see any more that there was something
+    def _look(self) -> None:
+        """Reads what came from those that hold something: a connection that ended is noticed so. If another thread is in a call, that reads all at once."""
+        if self._thread in (None, threading.get_ident(), TASK):
+            for server in {server for server, _ in self._machine.held}:
+                self._read_all(self._links[server])
+
+    def _read_all(self, link: Link) -> None:
+        """Reads all that came from a server."""
+        has_more = False
+        while link.stream is not None and link.is_up and self._read(link):
+            has_more = True
+        if self._thread == TASK and (has_more or not link.is_up):
+            self._wake_task()                   # its loop does not see any more that there was something
 
     # ---- how it goes on
 
@@ -566,13 +569,13 @@ class Space:
             raise Forked()
 
     def _sync(self, event: Event, has_limit: bool = False, is_poll: bool = False, timeout: Optional[float] = None) -> Outcome:
-        def begin() -> None:
-            self._machine.tick(self._now())
-            self._machine.sync(event, has_limit, is_poll)
-
-        ended = self._call(begin, timeout)
+        ended = self._call(partial(self._begin, event, has_limit, is_poll, False), timeout)
         assert isinstance(ended, Outcome)
         return ended
+
+    def _begin(self, event: Event, has_limit: bool, is_poll: bool, is_hold: bool) -> None:
+        self._machine.tick(self._now())
+        self._machine.sync(event, has_limit, is_poll, is_hold)
 
     def _call(self, begin: Callable[[], None], timeout: Optional[float] = None, is_again: bool = False, offer: Optional[Offer] = None,
               is_over: Optional[Callable[[], bool]] = None) -> Optional[Ended]:
@@ -596,7 +599,8 @@ class Space:
                     else:
                         wake = next(course)
             except StopIteration as ended:
-                return cast(Got, ended.value)
+                value: Got = ended.value
+                return value
             finally:
                 self._own_gate()
                 course.close()              # an interrupt that came here, and not in the call, ends the call now and not with its traceback
@@ -624,7 +628,7 @@ class Space:
         """Waits until something comes, or until this time, and serves it. Meanwhile other threads may renew, release and close."""
         try:
             self._gate.release()
-            ready = self._selector.select(_seconds_until(wake))
+            ready = self._selector.select(None if wake == math.inf else min(LONGEST_SLEEP, wake - time.monotonic()))
         finally:
             self._own_gate()
         self._serve(ready)
@@ -671,7 +675,9 @@ class Space:
     def _tell_lost(self, accepted: Optional[Offer] = None) -> None:
         """Raises Gone of what was lost and not reported yet; only of this offer, if it is being accepted, since the accept reports the others. Every connection is looked at: by one
         that has ended nothing is sent, so that what is sent is known."""
-        self._look([link.server for link in self._links if link.is_up])
+        for link in self._links:
+            if link.is_up:
+                self._read_all(link)
         if accepted is None and self._machine.lost_offers:
             lost, self._machine.lost_offers = self._machine.lost_offers, []
             raise Gone(lost)
@@ -708,51 +714,61 @@ class Space:
         machine = self._machine
         self._send()
         if machine.task is not None:
-            self._hear_all()
+            for link in self._links:
+                if link.came:                   # before this call, or when it began
+                    self._hear_all()
+                    break
         while machine.ended is None and machine.task is not None:
             if is_over is not None and is_over():
                 machine.give_up(False)
                 self._send()
                 if machine.task is None:
                     return
-            if isinstance(machine.task, Syncing) and not machine.task.is_dropped and machine.lost_offers:
+            if machine.lost_offers and isinstance(machine.task, Syncing) and not machine.task.is_dropped:
                 self._tell_lost()
-            yield from self._wait(until if is_over is None else min(until, time.monotonic() + LOOK_AGAIN), until)
+            yield self._wait(until, math.inf if is_over is None else LOOK_AGAIN)
             self._hear_all()
         machine.is_interrupted = False
 
     def _send(self) -> None:
         """Sends what the machine said. What a server that is not there is not sent counts no more, or is sent again after its greeting."""
-        sent, self._machine.sent = self._machine.sent, []
-        links = []
+        machine = self._machine
+        if not machine.sent:
+            return
+        sent, machine.sent = machine.sent, []
+        now = time.monotonic()
         for server, data in sent:
             link = self._links[server]
             if link.is_up:
                 link.left += data
-                link.said = time.monotonic()
-                links.append(link)
+                link.said = now
         for link in self._links:
-            if link in links:
-                link.last_sent = max(link.last_sent, self._machine.numbers[link.server] - 1 + self._machine.under_way(link.server))
+            if link.is_up and link.left:
+                last = machine.numbers[link.server] - 1 + machine.under_way(link.server)
+                if last > link.last_sent:
+                    link.last_sent = last
                 self._write(link)
 
     def _hear_all(self) -> None:
         """Hears what came, and then looks whether an alarm is ready. It stops once what is pending has ended: the rest is for the next call."""
-        self._machine.clock = self.clock()
+        machine, now = self._machine, self._now()
+        if now > machine.clock:
+            machine.clock = now
         for link in self._links:
-            while self._machine.ended is None and self._hear(link):
+            while link.came and machine.ended is None and self._hear(link):
                 pass
-        if self._machine.ended is None:
-            self._machine.tick(self._now())
-            self._send()
+        if machine.ended is None:
+            machine.tick(now)
+        self._send()
 
-    def _wait(self, wake: float, until: Optional[float] = None) -> Course[None]:
-        """Greets and renews if that is due, and waits until something comes or is due, for all servers at once, or until `wake`. Raises TimedOut if that is later
-        than `until`, and NoConnection if a server that is needed is away for too long."""
+    def _wait(self, until: float, most: float = math.inf) -> float:
+        """Greets and renews if that is due. Returns when something is due next, `until` or `most` seconds from now at the latest: until then what
+        comes is waited for, from all servers at once. Raises TimedOut if it is later than `until`, and NoConnection if a server that is
+        needed is away for too long."""
         now = time.monotonic()
-        until = wake if until is None else until
+        wake = until if most == math.inf else min(until, now + most)
         task = self._machine.task
-        if isinstance(task, Syncing) and not task.is_dropped:
+        if isinstance(task, Syncing) and task.alarms and not task.is_dropped:
             until = min(until, self._latest(task, now))
             wake = min(wake, until)
             at = task.next_time()
@@ -767,18 +783,18 @@ class Space:
                 wake = min(wake, link.until, math.inf if link.stream is not None else link.due)
         if now >= until:
             raise TimedOut(self._machine.missing())
-        if self._machine.held:
-            wake = min(wake, self._renew_all(now))
-        yield wake
+        return min(wake, self._renew_all(now)) if self._machine.held else wake
 
     def _renew_all(self, now: float) -> float:
         """Renews what is held at servers to which nothing was sent for a while; returns the time at which to look again."""
-        holders = {server for server, _ in self._machine.held}
-        quiet = [server for server in sorted(holders) if self._links[server].said + RENEWAL <= now]
-        if quiet:
-            self._machine.renew_at(quiet)
-            self._send()
-        return min(self._links[server].said for server in holders) + RENEWAL
+        wake = math.inf
+        for server, _ in list(self._machine.held):
+            link = self._links[server]
+            if link.said + RENEWAL <= now:
+                self._machine.renew_at((server,))
+                self._send()
+            wake = min(wake, link.said + RENEWAL)
+        return wake
 
     def _serve(self, ready: Iterable[Tuple[selectors.SelectorKey, int]]) -> None:
         """Writes and reads what is possible now."""
@@ -812,7 +828,7 @@ class Space:
         self._let_go(link)
         if link.busy_until is not None:
             raise Refused(link.server, 3, 0, self._machine.client)
-        raise NoConnection(link.server) from link.fault
+        raise NoConnection(link.server, link.port, link.fault) from link.fault
 
     def _hear(self, link: Link) -> bool:
         """Hears the next frame of a server; False if none came whole."""
@@ -820,7 +836,7 @@ class Space:
             data = link.frame()
             if data is None:
                 return False
-            reply = Reader(data).reply()
+            reply = read_reply(data)
             if not link.is_up and reply.kind not in (WELCOME, REFUSED):
                 raise ValueError("something else before the Welcome")
         except ValueError as fault:
@@ -838,7 +854,8 @@ class Space:
         else:
             self._let_go(link)
             raise Refused(link.server, reply.number, reply.id, self._machine.client)
-        self._send()
+        if self._machine.sent:
+            self._send()
         return True
 
     def _bears(self, link: Link) -> bool:
@@ -886,6 +903,8 @@ class Space:
         if not hasattr(stream, "setblocking"):
             raise OutOfRange(f"connect returns a socket: {stream!r}")
         link.stream = stream
+        pending = getattr(stream, "pending", None)
+        link.pending = pending if callable(pending) else None
         stream.setblocking(False)
         link.left += spell_hello(self._machine.client, link.fresh)
         link.awaited = selectors.EVENT_READ | selectors.EVENT_WRITE
@@ -915,10 +934,11 @@ class Space:
     def _read(self, link: Link) -> bool:
         """Reads what came; whether there was something. A stream with TLS may have more than its socket shows: all of that is read."""
         assert link.stream is not None
-        has_more = True
-        while has_more:
+        while True:
             try:
                 piece = link.stream.recv(PIECE)
+            except BlockingIOError:
+                return False
             except OSError as fault:
                 if waits(fault):
                     return False
@@ -928,8 +948,8 @@ class Space:
                 self._lose(link)
                 return False
             link.came += piece
-            has_more = callable(getattr(link.stream, "pending", None)) and link.stream.pending() > 0     # type: ignore[attr-defined]
-        return True
+            if link.pending is None or link.pending() <= 0:
+                return True
 
     def _lose(self, link: Link) -> None:
         """The connection is lost, or could not be had: it is made again at once if it was up, else after a pause. Raises NoConnection at the very first."""
@@ -943,7 +963,7 @@ class Space:
             link.until, link.pause, link.busy_until = now + self._patience, SHORTEST_PAUSE, None
             return
         if is_first:
-            raise NoConnection(link.server) from link.fault
+            raise NoConnection(link.server, link.port, link.fault) from link.fault
         link.due = now + link.pause
         link.pause = min(2 * link.pause, LONGEST_PAUSE)
 
@@ -955,7 +975,7 @@ class Space:
             except (KeyError, ValueError):          # it is not there; ValueError: an interrupt came when it had just been closed
                 pass
             link.stream.close()
-        link.stream = None
+        link.stream = link.pending = None
         if link.is_up:
             before = len(self._machine.lost_offers)
             self._machine.lost(link.server)
@@ -966,10 +986,6 @@ class Space:
         link.due = 0.0
         link.came.clear()
         link.left.clear()
-
-
-def _seconds_until(wake: float) -> Optional[float]:
-    return None if wake == math.inf else max(0.0, min(LONGEST_SLEEP, wake - time.monotonic()))
 
 
 def _shut(stream: socket.socket) -> None:

@@ -4,15 +4,15 @@ from __future__ import annotations
 
 from collections import deque
 from dataclasses import dataclass, field
-from typing import Deque, Dict, List, Optional, Set
+from typing import Deque, Dict, List, Optional, Set, Tuple
 
-from .events import Alarm, Base
+from .events import Base
 from .offers import Offer
 from .results import Outcome
 from .values import Values
 
 
-@dataclass(frozen=True)
+@dataclass
 class Put:
     """An out that is not answered."""
 
@@ -73,7 +73,7 @@ class Took:
         return Outcome(0, "took", (), (), self.offer.server, self.offer.id, self.offer.tuple, self.offer.binds)
 
 
-@dataclass(frozen=True)
+@dataclass
 class Arrival:
     """An Offer or a Read."""
 
@@ -87,7 +87,7 @@ class Arrival:
         return (self.server, self.ticket, self.id) == (other.server, other.ticket, other.id)
 
 
-@dataclass(frozen=True)
+@dataclass
 class Accepted:
     """An Accept that is not answered."""
 
@@ -101,6 +101,7 @@ class Accepted:
 class Syncing:
     """A synchronization that is pending: what is open under each ticket, by rising ticket, the unanswered Accept, and what is saved, oldest first.
 
+    - `alarms`: those of the bases that are alarms, with their times.
     - `limit`: the alarm of the call's own `timeout`. When it is ready each server is sent a message after the Asks that is always answered; `unsure` are
       those that have not answered it. It is chosen once all have.
     - `is_poll`: there is no time: the servers are asked that at once.
@@ -111,6 +112,7 @@ class Syncing:
 
     bases: List[Base]
     nacks: List[int]
+    alarms: List[Tuple[int, Base]]
     tickets: Dict[int, Base]
     limit: Optional[Base] = None
     is_poll: bool = False
@@ -123,9 +125,9 @@ class Syncing:
 
     def ringing(self, clock: int) -> Optional[Base]:
         """The first alarm whose time has come."""
-        return next((base for base in self.bases if isinstance(base.leaf, Alarm) and base.leaf.time <= clock), None)
+        return next((base for time, base in self.alarms if time <= clock), None)
 
     def next_time(self) -> Optional[int]:
         """When the first alarm is ready, but for that of the call's own time once the servers are asked."""
-        times = [base.leaf.time for base in self.bases if isinstance(base.leaf, Alarm) and (base is not self.limit or self.unsure is None)]
+        times = [time for time, base in self.alarms if base is not self.limit or self.unsure is None]
         return min(times) if times else None

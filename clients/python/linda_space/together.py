@@ -11,7 +11,7 @@ from dataclasses import dataclass
 from typing import TYPE_CHECKING, Deque, List, Optional, Sequence, Set, Tuple
 
 from .errors import NumberInUse, Refused, Spent
-from .events import In
+from .events import In, as_event
 from .frames import GONE, STORED, TAKEN, Reply, spell_accept, spell_ask, spell_cancel, spell_out
 from .limits import MOST_ASKS, MOST_TOGETHER, NUMBER_LIMIT
 from .values import Values
@@ -136,6 +136,7 @@ class Takes:
     """
 
     def __init__(self, machine: Machine, event: In, count: Optional[int], is_counted: bool) -> None:
+        as_event(event)
         self.event, self.left, self.is_counted = event, count, is_counted
         self.name = "purge" if is_counted else "take_many"
         self.server = 0

@@ -14,18 +14,19 @@ Values = Tuple[Any, ...]              # a tuple: what comes back is typed as Any
 
 
 class Formal(Enum):
-    """A pattern that fits each value of a kind, or each value. Its number is its byte in a frame."""
+    """A pattern that fits each value of a kind, or each value. Its number is its byte in a frame; TRIES goes as INT."""
 
+    TRIES = 0
     INT = 4
     TEXT = 5
     BOOL = 6
     ANY = 7
 
     def fits(self, value: Value) -> bool:
-        return self is Formal.ANY or type(value) is {Formal.INT: int, Formal.TEXT: str, Formal.BOOL: bool}[self]
+        return self is ANY or type(value) is (str if self is TEXT else bool if self is BOOL else int)
 
 
-INT, TEXT, BOOL, ANY = Formal.INT, Formal.TEXT, Formal.BOOL, Formal.ANY
+INT, TEXT, BOOL, ANY, TRIES = Formal.INT, Formal.TEXT, Formal.BOOL, Formal.ANY, Formal.TRIES
 Pattern = Union[int, str, bool, Formal]
 Template = Tuple[Pattern, ...]
 
@@ -34,6 +35,8 @@ Template = Tuple[Pattern, ...]
 
 def as_value(value: object) -> Value:
     """The value, as an int, a str or a bool and of no class below these."""
+    if type(value) is int and LEAST_INTEGER <= value <= MOST_INTEGER or type(value) is str and len(value) <= MOST_TEXT and value.isascii():
+        return value                        # as most are; those below say the rest
     if isinstance(value, bool):
         return value
     if isinstance(value, int):
@@ -58,10 +61,10 @@ def few_enough(items: Sequence[object]) -> Sequence[object]:
 
 def as_tuple(values: Sequence[Value]) -> Values:
     """The tag and the fields of a tuple, within their limits."""
-    if isinstance(values, (str, bytes)) or not values:
+    if type(values) is not tuple and isinstance(values, (str, bytes)) or not values:
         raise OutOfRange(f"a tuple is a tag and its fields: {values!r}")
     tag, *fields = values
-    return (as_value(tag), *(as_value(item) for item in few_enough(fields)))
+    return (as_value(tag), *map(as_value, few_enough(fields)))
 
 
 def within(what: str, number: object, least: int, most: int) -> int:

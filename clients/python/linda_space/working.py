@@ -11,17 +11,27 @@ and another worker gets it. At worst a job is done again whose results were put 
 The jobs are those of a tag and patterns, as here, or of an `In`, or of several: `[In("urgent", INT), In("job", INT)]`. If jobs of several are there, one server
 gives one of the first.
 
-**Tries.** With `tries=N` the last field of a job says how often it failed, 0 at first, and the last pattern is INT. If the function raises, the job stays held
-by this worker for `delay` seconds, twice as long after each further failure, while other jobs are done; then it is put with one failure more, and the old one is
-taken. After N failures it is put as a dead letter instead, at once: its tag is `dead`, and after the fields of the job are the count of failures and the error's
-text, of 1,000 bytes at most. A worker that is killed meanwhile gives its jobs free at once, with the old count.
+**Tries.** With `tries=N` one place of the template is TRIES: there a job has how often it failed, 0 at first, as `("job", 7, 0)` for `("job", INT, TRIES)`. If
+the function raises, or what it returns cannot be put, the job stays held by this worker for `delay` seconds, twice as long after each further failure, while
+other jobs are done; then it is put with one failure more, and the old one is taken. After N failures it is put as a dead letter instead, at once: the tag
+`dead`, the whole job with its tag and its count, and the error's text, of 1,000 bytes at most: `("dead", "job", 7, 3, "ValueError: no")`. So a job has at most
+30 fields. A worker that is killed meanwhile gives its jobs free at once, with the old count.
+
+A job that ends its worker, as by a segfault or the kernel's OOM killer, has failed too, with the text "the worker ended": the next worker under this number
+learns of it by a file in the folder of `linda_space.numbers`. So the number and the folder stay the same.
+
+**Time.** With `limit` a job whose function takes more than so many seconds has failed ("the limit of 5 s"). In the main thread the function is interrupted, by
+SIGALRM, and in asyncio cancelled. In other threads, or if the program uses SIGALRM, a thread of its own calls it, which goes on, and must not use the space:
+what it returns later is not put.
 
 **The end.** `work` goes on until a tuple that fits `stop` is there, if that is a read (`Rd("stop")`); or until `stop.is_set()`, as of a threading.Event; or
 until no job has come for `timeout` seconds; or, in the main thread, until SIGTERM. The job in hand is finished first, and those that wait for their next try
-are put back. After SIGTERM the program's own handler is called; if it has none, the program exits (SystemExit, status 143). A second SIGTERM does so at once.
+are put back. `grace` seconds after SIGTERM a function is interrupted in the same way (not if the program uses SIGALRM), and its job is free, not failed. After
+SIGTERM the program's own handler is called, if it has one, and `work` returns. A second SIGTERM does what it did before.
 
 **What goes wrong.** A server that is away, or has no room, does not end the loop: it is tried again, and what is pending is finished. If a hold is lost, its
-results are not put, since another worker gets the job. Without `tries` an exception of the function gives the job free and leaves `work`.
+results are not put, since another worker gets the job. Without `tries` an exception of the function, or the limit (TimeoutError), gives the job free and leaves
+`work`.
 """
 
 from __future__ import annotations
@@ -30,26 +40,27 @@ import heapq
 import itertools
 import logging
 import math
-import os
 import signal
-import threading
 import time
 from contextlib import contextmanager
-from types import FrameType
 from typing import TYPE_CHECKING, Any, Callable, Generator, Iterator, List, Optional, Protocol, Sequence, Tuple, Union
 
 from .errors import Gone, NoConnection, OutOfRange, Refused, SpaceError, TimedOut
-from .events import Alarm, Choose, Event, In, Rd
+from .events import Alarm, Choose, Event, In, Rd, as_event
+from .interrupts import Cut, Cutter, stops
 from .limits import MOST_FIELDS, MOST_INTEGER, NUMBER_LIMIT, SHORTEST_PAUSE
+from .notes import Notes
 from .offers import Offer
 from .results import Outcome
-from .values import INT, Value, Values, as_seconds, as_tuple, as_value, within
+from .values import INT, TRIES, Value, Values, as_seconds, as_tuple, as_value, within
 
 if TYPE_CHECKING:
     from .space import Space
 
 MOST_RETRIES = 32           # jobs that wait for their next try in one worker
 MOST_ERROR = 1_000          # bytes of an error's text in a dead letter
+MOST_LOOKED = 16            # jobs that are held for a moment to find the one in which the last life ended
+LIFE_ENDED = "the worker ended"
 PAUSE = 0.5                 # seconds until a server that is away, or has no room, is tried again
 PASSING = ("Full", "Down", "Busy", "TooManyAsks")       # what a server may refuse now and not later
 PENDING = ("out", "accept", "pass")                     # what is finished before anything else is done
@@ -68,32 +79,41 @@ Template = Union[In, Sequence[Any]]     # a tag and patterns, an In, or several 
 
 
 class Plan:
-    """What one call of `work` was asked for, and the tuples that it makes of jobs."""
+    """What one call of `work` was asked for, and the tuples that it makes of jobs. `places` is for each of the `jobs` that of TRIES."""
 
-    def __init__(self, template: Template, tries: Optional[int], delay: float, dead: Value, stop: Stop, keep: float,
-                 timeout: Optional[float]) -> None:
-        self.jobs = jobs_of(template)
+    def __init__(self, template: Template, tries: Optional[int], delay: float, dead: Value, stop: Stop, keep: float, timeout: Optional[float],
+                 limit: Optional[float], grace: float) -> None:
+        self.jobs, self.places = jobs_of(template), []
         self.tries = None if tries is None else within("a count of tries", tries, 1, NUMBER_LIMIT - 1)
         self.delay, self.keep = as_seconds("a delay", delay), as_seconds("the time between renewals", keep, SHORTEST_PAUSE)
         self.dead = as_value(dead)
         self.timeout = None if timeout is None else as_seconds("a timeout", timeout)
-        self.read = stop if isinstance(stop, Rd) else None
+        self.limit = None if limit is None else as_seconds("a limit", limit, SHORTEST_PAUSE)
+        self.grace = as_seconds("a grace", grace)
+        self.read = stop if isinstance(stop, Rd) and as_event(stop) else None
         self.flag = None if stop is None or isinstance(stop, Rd) else stop
         if self.flag is not None and not callable(getattr(self.flag, "is_set", None)):
             raise OutOfRange(f"what stops a worker is an Rd, or has is_set(): {stop!r}")
-        if self.tries is not None:
-            if any(job.template[-1] is not INT or len(job.template) < 2 for job in self.jobs):
-                raise OutOfRange("with tries the last pattern is INT: the job's last field says how often it failed")
-            if any(len(job.template) > MOST_FIELDS for job in self.jobs):
-                raise OutOfRange(f"with tries a job has at most {MOST_FIELDS - 1} fields, so that its dead letter has room for the error")
+        if self.tries is None:
+            for job in self.jobs:
+                as_event(job)
+            return
+        if any(job.template.count(TRIES) != 1 for job in self.jobs):
+            raise OutOfRange("with tries one pattern is TRIES: there a job has how often it failed")
+        if any(len(job.template) > MOST_FIELDS - 1 for job in self.jobs):
+            raise OutOfRange(f"with tries a job has at most {MOST_FIELDS - 2} fields, so that its dead letter has room for it and the error")
+        self.places = [job.template.index(TRIES) for job in self.jobs]
+        self.jobs = [In(job.template[0], *(INT if item is TRIES else item for item in job.template[1:])) for job in self.jobs]      # type: ignore[arg-type]
 
-    def after_failure(self, job: Values, fault: Exception) -> Tuple[Values, float]:
+    def after_failure(self, job: Values, error: str) -> Tuple[Values, float]:
         """What a job becomes that failed, and after how many seconds."""
         assert self.tries is not None
-        failures = min(max(0, job[-1]) + 1, MOST_INTEGER)
+        place = next(place for place, asked in zip(self.places, self.jobs) if asked.fits(job))
+        failures = min(max(0, job[place]) + 1, MOST_INTEGER)
+        again = (*job[:place], failures, *job[place + 1:])
         if failures >= self.tries:
-            return (self.dead, *job[1:-1], failures, error_text(fault)), 0.0
-        return (*job[:-1], failures), min(self.delay * 2.0 ** min(failures - 1, 60), 86_400.0)
+            return (self.dead, *again, error), 0.0
+        return again, min(self.delay * 2.0 ** min(failures - 1, 60), 86_400.0)
 
 
 def jobs_of(template: Template) -> List[In]:
@@ -152,8 +172,8 @@ def play(steps: Steps) -> Any:
 
 
 class Worker:
-    """One call of `work`. What waits is a step of its own, so that both a thread and a task of asyncio can play it: `calls` has `out`, `again`, `hold_or`,
-    `accept`, `pass_over` and `sleep`, which return what they come to, or something to be awaited."""
+    """One call of `work`. What waits is a step of its own, so that both a thread and a task of asyncio can play it: `calls` has `run`, which calls the
+    function, `out`, `again`, `hold_or`, `accept`, `pass_over` and `sleep`, which return what they come to, or something to be awaited."""
 
     def __init__(self, space: Space, calls: Any, plan: Plan, function: Function) -> None:
         self.space, self.calls, self.plan, self.function = space, calls, plan, function
@@ -161,17 +181,21 @@ class Worker:
         self.count = itertools.count()
         self.done = 0
         self.is_stopped = self.is_signalled = False
+        self.notes: Optional[Notes] = None
 
     def steps(self) -> Steps:
         with self.ended_by_a_signal():
             try:
+                if self.plan.tries is not None:
+                    self.notes = Notes(self.space)
+                    yield from self.find_noted(self.notes)
                 while True:
                     offer = yield from self.next_job()
                     if offer is None:
                         break
                     yield from self.do(offer)
                 for _, _, offer, again in sorted(self.retries, key=lambda retry: retry[:2]):
-                    yield from self.finish(offer, [again])
+                    yield from self.put_again(offer, again)
                 self.retries = []
                 yield from self.rest()
             except Stopped:
@@ -179,6 +203,9 @@ class Worker:
             finally:
                 for _, _, offer, _ in self.retries:
                     offer.release()
+                self.calls.cutter.close()
+                if self.notes is not None:
+                    self.notes.close()
         return self.done
 
     # ---- what comes next
@@ -192,7 +219,7 @@ class Worker:
         while not self.is_over():
             while self.retries and self.retries[0][0] <= time.monotonic():
                 _, _, offer, again = heapq.heappop(self.retries)
-                yield from self.finish(offer, [again])
+                yield from self.put_again(offer, again)
             wake = self.retries[0][0] if self.retries else math.inf
             has_limit = until <= wake < math.inf or until < wake and not self.retries
             if has_limit and self.retries and until <= time.monotonic():        # only what waits for its next try is waited for
@@ -200,7 +227,7 @@ class Worker:
             found = yield from self.guarded(lambda: self.calls.hold_or(
                 self.event(until if has_limit else wake), has_limit, has_limit and self.plan.timeout == 0, self.is_over))
             if isinstance(found, Offer):
-                self.space._keeper.keep(found, self.plan.keep)
+                self.space._keeper.keep(found, self.plan.keep, self.plan.limit)
                 return found
             if isinstance(found, Outcome) and found.kind == "read" or not self.retries and time.monotonic() >= until:
                 return None
@@ -215,27 +242,102 @@ class Worker:
     # ---- one job
 
     def do(self, offer: Offer) -> Steps:
-        try:
-            results = results_of((yield lambda: self.function(offer.tuple)))
-        except Gone:
-            self.holds(offer)
-            return
-        except Exception as fault:
-            if self.plan.tries is None or isinstance(fault, SpaceError) and not isinstance(fault, OutOfRange):
+        notes = self.notes
+        if notes is None:
+            yield from self.call(offer)
+        elif notes.is_of(offer):
+            yield from self.fail(offer, LIFE_ENDED)
+        else:
+            try:
+                yield from self.put_noted(notes)
+                notes.begin(offer)
+                yield from self.call(offer)
+            except SystemExit:              # a life that ends in a job
                 offer.release()
                 raise
-            again, seconds = self.plan.after_failure(offer.tuple, fault)
-            log.warning("the job %r failed: %s", offer.tuple, error_text(fault), exc_info=fault)
-            if seconds == 0.0:
-                yield from self.finish(offer, [again])
-            else:
-                heapq.heappush(self.retries, (time.monotonic() + seconds, next(self.count), offer, again))
-            return
+            except BaseException:
+                offer.release()
+                notes.end()
+                raise
+            notes.end()
+
+    def call(self, offer: Offer) -> Steps:
+        """Calls the function, and puts what it returns."""
+        try:
+            results = results_of((yield lambda: self.calls.run(self.function, offer.tuple, self.plan.limit)))
+        except Cut as cut:
+            error = f"the limit of {self.plan.limit or 0.0:g} s"
+            if not cut.is_limit:
+                log.warning("the job %r is free again: it went on for %g s after SIGTERM", offer.tuple, self.plan.grace)
+            elif self.notes is None:
+                offer.release()
+                raise TimeoutError(f"{error}: {offer.tuple!r}") from None
+            elif self.holds(offer):
+                yield from self.fail(offer, error)
+                return
+            else:                           # it was in a call of this space, whose connections ended with that
+                self.notes.ended = self.notes.line(offer)
+                yield from self.find_noted(self.notes, error)
+            offer.release()
+        except Exception as fault:
+            if isinstance(fault, Gone) and not self.holds(offer):
+                return
+            if self.plan.tries is None or self.space.pending is not None:
+                offer.release()
+                raise
+            yield from self.fail(offer, error_text(fault), fault)
         except BaseException:
             offer.release()
             raise
-        if (yield from self.finish(offer, results)):
-            self.done += 1
+        else:
+            if (yield from self.finish(offer, results)):
+                self.done += 1
+
+    def fail(self, offer: Offer, error: str, fault: Optional[Exception] = None) -> Steps:
+        """A job has failed: it is a dead letter now, or waits for its next try."""
+        again, seconds = self.plan.after_failure(offer.tuple, error)
+        log.warning("the job %r failed: %s", offer.tuple, error, exc_info=fault)
+        if seconds == 0.0:
+            yield from self.put_again(offer, again)
+        else:
+            self.space._keeper.keep(offer, self.plan.keep)
+            heapq.heappush(self.retries, (time.monotonic() + seconds, next(self.count), offer, again))
+
+    def put_again(self, offer: Offer, again: Values) -> Steps:
+        """Puts what a job becomes that failed."""
+        if (yield from self.finish(offer, [again])) and self.notes is not None and self.notes.is_of(offer):
+            self.notes.drop()
+
+    def put_noted(self, notes: Notes) -> Steps:
+        """Puts the job in which the last life ended, if it waits for its next try: else its count would be lost if the next job ends this life."""
+        for retry in self.retries:
+            if notes.is_of(retry[2]):
+                self.retries.remove(retry)
+                heapq.heapify(self.retries)
+                yield from self.put_again(*retry[2:])
+                return
+
+    def find_noted(self, notes: Notes, error: str = LIFE_ENDED) -> Steps:
+        """Counts the job in which the last life of this number ended before any other is done, if it is free. What is offered before it is free again then."""
+        others: List[Offer] = []
+        try:
+            for job in self.plan.jobs if notes.ended else []:
+                has_more = True
+                while has_more and len(others) < MOST_LOOKED:
+                    found = yield lambda job=job: self.calls.hold_or(Choose(job, self.space.after(0)), True, True)      # type: ignore[misc]
+                    if isinstance(found, Offer):
+                        if notes.is_of(found):
+                            yield from self.fail(found, error)
+                            return
+                        others.append(found)
+                    has_more = isinstance(found, Offer) and not notes.is_before(found)       # one server offers what a template matches by rising id
+            if notes.ended and len(others) < MOST_LOOKED:
+                notes.end()                 # somebody else has it: if it is offered to this life later, it is counted then
+        except SpaceError as fault:
+            log.warning("a worker looks later for the job in which its last life ended: %s", fault)
+        finally:
+            for offer in others:
+                offer.release()
 
     def finish(self, offer: Offer, results: List[Values]) -> Steps:
         """Puts the results and takes the job, in this order; whether that was done. If the hold is lost another worker has the job."""
@@ -296,8 +398,8 @@ class Worker:
 
     @contextmanager
     def ended_by_a_signal(self) -> Iterator[None]:
-        """In the main thread SIGTERM ends the loop, and then does what it did before: a handler is called, else the program exits. A second one does so at once.
-        It ends all loops of tasks that are under way at once, and the last of them does that."""
+        """In the main thread SIGTERM ends the loop, and a handler of the program's own is called then. A second one does at once what it did before. It ends
+        all loops of tasks that are under way at once, and the last of them calls that handler."""
         if not stops.begin(self):
             yield
             return
@@ -305,62 +407,16 @@ class Worker:
             yield
         finally:
             is_last = stops.end(self)
-        if is_last and self.is_signalled:
-            if callable(stops.before):
-                stops.before(signal.SIGTERM, None)
-            else:
-                raise SystemExit(128 + signal.SIGTERM)
-
-
-class Stops:
-    """The handler of SIGTERM, one for all workers of the main thread: tasks of asyncio have several at once, and they end in any order."""
-
-    def __init__(self) -> None:
-        self.workers: List[Worker] = []
-        self.before: Any = None
-        self.process = 0
-
-    def begin(self, worker: Worker) -> bool:
-        """Whether SIGTERM ends this worker."""
-        if threading.current_thread() is not threading.main_thread():
-            return False
-        if not self.workers or self.process != os.getpid():
-            self.workers, before = [], signal.getsignal(signal.SIGTERM)
-            if before == self.stop:                     # of a parent, whose function forked this process
-                before = self.before
-            if before is None or before is signal.SIG_IGN:      # a handler that is not of Python, or none is wanted
-                return False
-            self.before, self.process = before, os.getpid()
-            signal.signal(signal.SIGTERM, self.stop)
-        if any(other.is_signalled for other in self.workers):   # they are about to end: SIGTERM does again what it did before
-            return False
-        self.workers.append(worker)
-        return True
-
-    def stop(self, number: int, frame: Optional[FrameType]) -> None:
-        signal.signal(signal.SIGTERM, self.before)
-        if self.process != os.getpid():                 # a child that a worker's function forked has no job
-            os.kill(os.getpid(), number)
-            return
-        for worker in self.workers:
-            worker.is_stopped = worker.is_signalled = True
-
-    def end(self, worker: Worker) -> bool:
-        """Whether it was the last."""
-        self.workers = [other for other in self.workers if other is not worker]
-        if not self.workers:
-            signal.signal(signal.SIGTERM, self.before)
-        return not self.workers
-
-
-stops = Stops()
+        if is_last and self.is_signalled and callable(stops.before):
+            stops.before(signal.SIGTERM, None)
 
 
 class Calls:
     """The calls of a worker in a thread."""
 
     def __init__(self, space: Space) -> None:
-        self.out, self.again = space.out, space.again
+        self.cutter = Cutter()
+        self.run, self.out, self.again = self.cutter.run, space.out, space.again
         self.hold_or, self.accept = space._hold_or, Offer.accept
         self.pass_over, self.sleep = space._pass_over, time.sleep
 

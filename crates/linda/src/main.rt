@@ -13,19 +13,20 @@
 //! client that was used before, with `--together` lines that put tuples do not wait for one
 //! another. `--socket PATH`, once for each server, names unix sockets in place of ports.
 //!
-//! `linda serve --port P --dir D [--sessions K] [--log] [--lease S] [--threads] [--socket PATH
-//! [--mode MODE]] [--status Q [--metric TAG]..] [--wait]` serves the store in a folder to clients
-//! that connect to a port of this machine; with `--log` it writes what it does to standard error,
-//! with `--lease S` it ends connections of clients that hold a tuple and send nothing for S
-//! seconds, with `--threads` each connection has two threads, with `--status Q` it says on another
-//! port, or at a unix socket, over HTTP, how it does, and with `--metric TAG` how many tuples of
-//! this tag there are, with `--socket PATH` it listens on a unix socket too, or without `--port`
-//! only there, and with `--wait` it waits while another server has the folder open.
+//! `linda serve --port P --dir D [--sessions K] [--log] [--lease S] [--socket PATH [--mode MODE]]
+//! [--status Q [--metric TAG]..] [--wait]` serves the store in a folder to clients that connect to
+//! a port of this machine; with `--log` it writes what it does to standard error, with `--lease S`
+//! it ends connections of clients that hold a tuple and send nothing for S seconds, with `--status
+//! Q` it says on another port, or at a unix socket, over HTTP, how it does, and with `--metric TAG`
+//! how many tuples of this tag there are, with `--socket PATH` it listens on a unix socket too, or
+//! without `--port` only there, and with `--wait` it waits while another server has the folder
+//! open.
 //!
 //! `linda inspect DIR [--tuples] [--clients] [--json]` says what the store in a folder holds, and
 //! whether it would be served.
 //!
-//! `linda --version` prints the version of the program, and the forms of banks and frames.
+//! `linda --version`, `-V` or `version` prints the version of the program, and the forms of banks
+//! and frames.
 //!
 //! A standard stream that is closed is filled before anything is opened, so that no file and no
 //! socket gets its number.

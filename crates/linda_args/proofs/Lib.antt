@@ -1,13 +1,4 @@
-mod CallFlagLaws
-mod CallWalkLaws
 pub mod CommandLaws
-mod LongSpellingLaws
 pub mod OptionLaws
-pub mod ParsingLaws
-mod RowLaws
-pub mod RunRowsLaws
-pub mod RunWalkLaws
-pub mod RunWordsLaws
-mod StrayLaws
+pub mod TableLaws
 pub mod TaskLaws
-mod WordLaws

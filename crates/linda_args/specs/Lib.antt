@@ -1,6 +1,5 @@
 pub mod Commands
-pub mod Marks
+pub mod Entries
 pub mod Options
 pub mod Ports
-pub mod Refusals
 pub mod Rules

@@ -1,14 +1,12 @@
 -- Options after a command as the parser found them, and the numbers, flags and texts of a task by
 -- them.
 use Rattle.std.specs.Prelude.{◌≡◌, ◌↔◌, ◌<◌, ◌≤◌, ◌^◌, ◌+◌, ◌-◌, ◌*◌, ◌&&◌, ℕ, Bool, true, false}
-use Rattle.std.specs.Prelude.{List, [], ◌∷◌, Option, None, Some, codes, find, unwrap_or, nat_le}
+use Rattle.std.specs.Prelude.{List, [], ◌∷◌, Option, None, Some, codes, unwrap_or, nat_le}
 use Rattle.std.specs.Prelude.{map, option_and_then, if◌then◌else◌}
-use Rattle.std.specs.Str.{bytes_eq}
 use Rattle.std.specs.Option.{option_map}
 use Rattle.std.specs.String.{string_bytes}
 use Rattle.std.specs.Str.Parse.{IsNumeral, digits_value, without_leading_plus}
 use Rattle.clap.specs.Matches.{first_value, matched_of, one_text, raw_values}
-use Rattle.clap.specs.Walk.{Row, all_of, first_of, one_of}
 use Rattle.clap.specs.declared.parser.matches.Found.{Found}
 use Rattle.clap.specs.declared.parser.matches.ValueSource.{ValueSource}
 use Rattle.clap.specs.declared.parser.matches.ValueSource.TheVariants as sources
@@ -39,15 +37,6 @@ options_of f = record {
   first = first_value f;
   all = λ id. option_map raw_values (matched_of f id);
   source = source_in f;
-}
-
--- the options as the rows have them that the parser makes of words
-abbrev pub options_of_rows : List Row → Options
-options_of_rows rows = record {
-  one = λ id. one_of id rows;
-  first = λ id. first_of id rows;
-  all = λ id. all_of id rows;
-  source = λ id. option_and_then (λ r. r.source) (find (λ r. bytes_eq r.id id) rows);
 }
 
 -- The text is a number of so many bits in decimal digits, a plus before them or not.
@@ -92,18 +81,19 @@ abbrev pub mode_in : Option (List ℕ) → Option ℕ
 mode_in None = Some 384
 mode_in (Some text) = octal_of text
 
--- The socket has the path and the mode that the options say; there is none without a path.
+-- The socket has the path and the mode that the options say; there is none if and only if there is
+-- no path.
 abbrev pub IsSocket : Option (List ℕ) → Option (List ℕ) → Option SocketFile → Type 0
 IsSocket None mode socket = socket ≡ None
-IsSocket (Some path) mode None = mode_in mode ≡ None
+IsSocket (Some path) mode None = ⊥
 IsSocket (Some path) mode (Some socket) =
     (string_bytes socket.path ≡ path) × (mode_in mode ≡ Some socket.mode)
 
 -- The status is at the path of the option's text, or on the port from 1 on that it spells; it is
--- nowhere only if there is no text, or if it spells no such port.
+-- nowhere if and only if there is no text.
 abbrev pub IsStatus : Option (List ℕ) → Option (List ℕ) → Option StatusPlace → Type 0
 IsStatus None port status = status ≡ None
-IsStatus (Some text) port None = (n : ℕ) → IsNumber 16 port (Some n) → n ≡ 0
+IsStatus (Some text) port None = ⊥
 IsStatus (Some text) port (Some (places.Port n)) = (1 ≤ n) × IsNumber 16 port (Some n)
 IsStatus (Some text) port (Some (places.Path path)) = string_bytes path ≡ text
 
@@ -115,7 +105,6 @@ pub record IsServeBy (o : Options) (plan : ServePlan) (log explain : Bool) : Typ
   pub are_sessions : IsNumber 32 (o.one (codes "sessions")) plan.sessions
   pub is_log : IsFlag (o.one (codes "log")) log
   pub is_lease : IsNumber 32 (o.one (codes "lease")) plan.lease
-  pub is_threads : IsFlag (o.one (codes "threads")) plan.by_threads
   pub is_status : IsStatus (o.first (codes "status")) (o.one (codes "status")) plan.status
   pub are_metrics : map string_bytes plan.metrics.items ≡ unwrap_or (o.all (codes "metric")) []
   pub is_socket : IsSocket (o.first (codes "socket")) (o.first (codes "mode")) plan.socket

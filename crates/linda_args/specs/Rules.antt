@@ -5,86 +5,60 @@ use Rattle.clap.specs.Simple.{on_top}
 use Rattle.clap.specs.declared.builder.action.ArgAction.TheVariants.{Append, Set, SetTrue}
 use Rattle.clap.specs.declared.builder.command.Command.{Command}
 use Rattle.clap.specs.declared.builder.command.Command.TheViews.{out-Command as fields_of}
+use Rattle.clap.specs.declared.builder.value_parser.ValueParser.{ValueParser}
 use Rattle.clap.specs.declared.builder.value_parser.ValueParser.TheVariants as parsers
 use Rattle.linda_client.specs.declared.limits.TheConstants.{MAX_SERVERS}
 
 -- an option of this name, which may be there, with a value
-abbrev pub option_rule : List ℕ → Rule
-option_rule name = record (new_rule name) {
+abbrev pub option_rule : List ℕ → ValueParser → Rule
+option_rule name parser = record (new_rule name) {
   long = Some name;
   value_names = 1;
   action = Some Set;
+  parser = Some parser;
 }
 
--- an option of this name, which is not required and takes no value
+-- an option of this name, which may be there more than once, with a value
+abbrev pub options_rule : List ℕ → ValueParser → Rule
+options_rule name parser = record (option_rule name parser) { action = Some Append }
+
+-- an option of this name, which may be there and takes no value
 abbrev pub flag_rule : List ℕ → Rule
 flag_rule name = record (new_rule name) {
   long = Some name;
   action = Some SetTrue;
+  parser = Some parsers.Bool;
 }
 
--- words of this name, of which there must be one at least
-abbrev pub word_rule : List ℕ → Rule
-word_rule name = record (new_rule name) {
+-- a word of this name, which may be there
+abbrev pub word_rule : List ℕ → ValueParser → Rule
+word_rule name parser = record (new_rule name) {
   value_names = 1;
-  required = true;
   action = Some Set;
+  parser = Some parser;
 }
 
--- the option `--servers`, which must be there, with a number from 1 to the most servers
-abbrev pub servers_rule : Rule
-servers_rule = record (option_rule (codes "servers")) {
-  required = true;
-  parser = Some (parsers.Signed (pos 1) (pos MAX_SERVERS));
-}
-
--- the option `--client`, which must be there, with a number of 32 bits
-abbrev pub client_rule : Rule
-client_rule = record (option_rule (codes "client")) {
-  required = true;
-  parser = Some (parsers.Signed (pos 0) (pos 4294967295));
-}
-
--- the words that name ports, of which there must be as many as servers there may be, and one at
--- least
-abbrev pub ports_rule : Rule
-ports_rule = record (word_rule (codes "ports")) {
+-- words of this name, as many as servers there may be, and one at least if there are any
+abbrev pub words_rule : List ℕ → ValueParser → Rule
+words_rule name parser = record (word_rule name parser) {
   range = Some (record { start_inclusive = 1; end_inclusive = MAX_SERVERS });
-  parser = Some (parsers.Signed (pos 1) (pos 65535));
 }
 
--- the option `--port`, which must be there, with a number of 16 bits
-abbrev pub port_rule : Rule
-port_rule = record (option_rule (codes "port")) {
-  required = true;
-  parser = Some (parsers.Signed (pos 0) (pos 65535));
-}
+-- it must be there
+abbrev pub needed : Rule → Rule
+needed r = record r { required = true }
 
--- the option `--dir`, which must be there, with a text
-abbrev pub dir_rule : Rule
-dir_rule = record (option_rule (codes "dir")) { required = true }
+-- whether it may or must be there goes by another argument
+abbrev pub by_another : Rule → Rule
+by_another r = record r { is_free = false }
 
--- the option `--sessions`, which may be there, with a number of 32 bits
-abbrev pub sessions_rule : Rule
-sessions_rule = record (option_rule (codes "sessions")) {
-  parser = Some (parsers.Signed (pos 0) (pos 4294967295));
-}
+-- a number of 32 bits, from this one on
+abbrev pub number_from : ℕ → ValueParser
+number_from least = parsers.Signed (pos least) (pos 4294967295)
 
--- the option `--lease`, which may be there, with a number of 32 bits that is not 0
-abbrev pub lease_rule : Rule
-lease_rule = record (option_rule (codes "lease")) {
-  parser = Some (parsers.Signed (pos 1) (pos 4294967295));
-}
-
--- the option `--status`, which may be there, with a number of 16 bits that is not 0
-abbrev pub status_rule : Rule
-status_rule = record (option_rule (codes "status")) {
-  parser = Some (parsers.Signed (pos 1) (pos 65535));
-}
-
--- the option `--metric`, which may be there more than once, with a text
-abbrev pub metric_rule : Rule
-metric_rule = record (option_rule (codes "metric")) { action = Some Append }
+-- a number of 16 bits, from this one on
+abbrev pub short_from : ℕ → ValueParser
+short_from least = parsers.Signed (pos least) (pos 65535)
 
 -- the command of this name, with an argument for each of these rules, in order
 abbrev pub command_with : List ℕ → List Rule → App
@@ -95,24 +69,38 @@ pipe_command = command_with (codes "pipe") []
 
 abbrev pub run_command : App
 run_command = command_with (codes "run") (
-    servers_rule ∷ option_rule (codes "trace") ∷ flag_rule (codes "explain") ∷ [])
+    needed (option_rule (codes "servers") (parsers.Signed (pos 1) (pos MAX_SERVERS)))
+    ∷ option_rule (codes "trace") parsers.String ∷ flag_rule (codes "explain") ∷ [])
 
+-- ports must be there if no socket is, and may not be there beside one
 abbrev pub call_command : App
 call_command = command_with (codes "call") (
-    client_rule ∷ ports_rule ∷ flag_rule (codes "again") ∷ flag_rule (codes "together")
-    ∷ flag_rule (codes "explain") ∷ [])
+    needed (option_rule (codes "client") (number_from 0))
+    ∷ by_another (words_rule (codes "ports") (short_from 1))
+    ∷ by_another (options_rule (codes "socket") parsers.NonEmptyString)
+    ∷ flag_rule (codes "again") ∷ flag_rule (codes "together") ∷ flag_rule (codes "explain") ∷ [])
 
+-- a port must be there if no socket is, and a mode may be there beside a socket
 abbrev pub serve_command : App
 serve_command = command_with (codes "serve") (
-    port_rule ∷ dir_rule ∷ sessions_rule ∷ flag_rule (codes "log") ∷ lease_rule
-    ∷ flag_rule (codes "threads") ∷ status_rule ∷ metric_rule ∷ option_rule (codes "socket")
-    ∷ option_rule (codes "mode") ∷ flag_rule (codes "wait") ∷ flag_rule (codes "explain") ∷ [])
+    by_another (option_rule (codes "port") (short_from 0))
+    ∷ needed (option_rule (codes "dir") parsers.String)
+    ∷ option_rule (codes "sessions") (number_from 0)
+    ∷ flag_rule (codes "log")
+    ∷ option_rule (codes "lease") (number_from 1)
+    ∷ option_rule (codes "status") parsers.String
+    ∷ options_rule (codes "metric") parsers.String
+    ∷ option_rule (codes "socket") parsers.NonEmptyString
+    ∷ by_another (option_rule (codes "mode") parsers.String)
+    ∷ flag_rule (codes "wait")
+    ∷ flag_rule (codes "explain") ∷ [])
 
 -- the word names the folder of a store
 abbrev pub inspect_command : App
 inspect_command = command_with (codes "inspect") (
-    word_rule (codes "dir") ∷ flag_rule (codes "tuples") ∷ flag_rule (codes "clients")
-    ∷ flag_rule (codes "json") ∷ flag_rule (codes "explain") ∷ [])
+    needed (word_rule (codes "dir") parsers.String)
+    ∷ flag_rule (codes "tuples") ∷ flag_rule (codes "clients") ∷ flag_rule (codes "json")
+    ∷ flag_rule (codes "explain") ∷ [])
 
 -- the program's command with none below it: it wants one
 abbrev pub bare_linda : App

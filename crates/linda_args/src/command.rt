@@ -3,6 +3,7 @@
 mod args;
 mod call;
 mod inspect;
+mod no_task;
 mod options;
 mod paths;
 mod pipe;
@@ -11,37 +12,30 @@ mod run;
 mod serve;
 mod socket;
 mod status;
+mod table;
 mod version;
-mod words;
 
-ghost use Rattle.std.specs.Prelude.{◌≡◌, ℕ, List, [], Some, false, map, codes, IfOk, IfSome};
-ghost use Rattle.std.specs.Prelude.{MatchResult};
+ghost use Rattle.std.specs.Prelude.{◌≡◌, false, map, IfOk};
 ghost use Rattle.std.specs.String.{string_bytes};
-ghost use Rattle.clap.specs.Matches.{subcommand_name_of};
-ghost use Rattle.clap.specs.Words.{FailsBy, Kinds, app_of, fault_of, kind_of, subcommand_of};
-ghost use Rattle.clap.specs.Words.{subcommand_rows_of};
+ghost use Rattle.clap.specs.Words.{app_of};
 ghost use Rattle.linda_args.specs.Commands as spec;
-ghost use Rattle.linda_args.specs.Commands.{AsksExactlyFor, AsksFor, AsksForPipe, AsksForRun};
-ghost use Rattle.linda_args.specs.Commands.{HasServers, IsCallAt, IsServe};
-ghost use Rattle.linda_args.specs.Refusals.{IsRefusedAs, Refuses};
+ghost use Rattle.linda_args.specs.Commands.{HasServers, IsAskedBy, IsIn};
 ghost use Rattle.linda_args.specs.Rules as rules;
 
 use args::{bare_linda, with_command};
-use call::{CALL, call_at_of, call_command, call_of, command_of_sockets};
-use clap::error::ErrorKind;
+use call::{CALL, call_command, call_of};
 use clap::{ArgMatches, Command, Error};
 use inspect::{INSPECT, inspect_command, inspect_of};
 use linda_inspect::Lists;
 use linda_serve_plan::ServePlan;
+use no_task::{NoTask, UNREAD, error_of};
 pub use paths::Paths;
 use pipe::{PIPE, pipe_command};
 pub use ports::Ports;
 use run::{RUN, run_command, run_of};
-use serve::{SERVE, command_of_paths, serve_command, serve_of};
-use socket::{MODE, SOCKET, mode_found};
+use serve::{SERVE, serve_command, serve_of};
 use std::alloc::{AllocError, Global};
 pub use version::{VERSION_LINES, asks_for_version};
-use words::{has_option, has_status_path, words_after};
 
 /// What the command line asks for.
 #[derive(Debug, Drop)]
@@ -98,188 +92,44 @@ pub enum Task {
 ///
 /// # Errors
 ///
-
-/// Reads the words of the command line, of which the first names the program.
-///
-/// # Errors
-///
-/// The parser's fault: a command that is missing or unknown, a word too many, a number of servers
-/// that is missing or not in its range, memory that ran out; or the help that was asked for.
-#[tactic(auto, using(crate::proofs::TaskLaws::apart))]
+/// The parser's fault: a command that is missing or unknown, a word too many, a number that is
+/// missing or not in its range, memory that ran out; or the help that was asked for. What the
+/// parser cannot judge is refused in the same form, with the usage of the command: a mode, the
+/// place of a status, tags without a status, too many sockets.
 pub fn read_task(alloc: Global, words: &[String]) -> Result<Task, Error>
-    ensures asked { IfOk result (λ task. AsksFor (map string_bytes words.now) task) }
-    ensures taken { (task : Task) → AsksExactlyFor (map string_bytes words.now) task
-        → MatchResult result (λ found. found ≡ task) (λ e. kind_of e ≡ ErrorKind.OutOfMemory) }
+    // By the parser's definition the words name the task's command, and the task is as they say.
+    ensures asked { IfOk result (IsAskedBy (map string_bytes words.now)) }
     ensures servers { IfOk result HasServers }
     ensures kept { IfOk result (λ task. spec.is_unkept task ≡ false) }
-    ensures apart { (n : ℕ) → AsksForPipe (map string_bytes words.now)
-        → AsksForRun (map string_bytes words.now) n → ⊥ }
-    ensures refused { (kinds : Kinds) → IsRefusedAs (map string_bytes words.now) kinds
-        → Refuses kinds result }
 {
-    if let Some(later) = words_after(words, SERVE) {
-        let at_socket = has_option(later, SOCKET) || has_option(later, MODE);
-        let at_path = has_status_path(later);
-        if at_socket || at_path {
-            return task_of_paths(alloc, words, at_socket, at_path);
-        }
-    }
-    if let Some(later) = words_after(words, CALL) {
-        if has_option(later, SOCKET) {
-            return task_of_sockets(alloc, words);
-        }
-    }
     let mut linda = command(alloc)?;
-    task_by(alloc, &mut linda, words)
-}
-
-// The task that the words ask for, which are to serve with a socket, or with a status at a path.
-// With a socket no port has to be there.
-fn task_of_paths(
-    alloc: Global,
-    words: &[String],
-    at_socket: bool,
-    at_path: bool,
-) -> Result<Task, Error>
-    ensures served { IfOk result IsServe }
-    ensures kept { IfOk result (λ task. spec.is_unkept task ≡ false) }
-{
-    let mut linda = command_of_paths(alloc, at_socket, at_path)?;
     let matches = linda.try_get_matches_from_mut(words)?;
-    if let Some(below) = matches.subcommand_matches(SERVE) {
-        if mode_found(below).is_none() {
-            return Err(linda.error(ErrorKind::ValueValidation, BAD_MODE)?);
-        }
-        if let Some(task) = serve_of(alloc, below)? {
-            if is_unkept(&task) {
-                return Err(linda.error(ErrorKind::ArgumentConflict, why_unkept(&task))?);
-            }
-            return Ok(task);
-        }
+    match task_of(alloc, &matches) {
+        Ok(task) => Ok(task),
+        Err(why) => Err(error_of(alloc, &matches, why)),
     }
-    Err(linda.error(ErrorKind::MissingSubcommand, "a command is required")?)
-}
-
-// The task that the words ask for, which are a call with sockets: then no port may be there.
-fn task_of_sockets(alloc: Global, words: &[String]) -> Result<Task, Error>
-    ensures { IfOk result IsCallAt }
-{
-    let mut linda = command_of_sockets(alloc)?;
-    let matches = linda.try_get_matches_from_mut(words)?;
-    if let Some(below) = matches.subcommand_matches(CALL) {
-        if let Some(task) = call_at_of(alloc, below)? {
-            return Ok(task);
-        }
-    }
-    Err(linda.error(ErrorKind::TooManyValues, TOO_MANY)?)
-}
-
-// The task that the words ask for, by the program's command.
-fn task_by<'a>(alloc: Global, linda: &mut Command<'a>, words: &'a [String]) -> Result<Task, Error>
-    requires { app_of linda.old ≡ rules.linda }
-    ensures asked { IfOk result (λ task. AsksFor (map string_bytes words.entry.now) task) }
-    ensures taken { (task : Task) → AsksExactlyFor (map string_bytes words.entry.now) task
-        → MatchResult result (λ found. found ≡ task) (λ e. kind_of e ≡ ErrorKind.OutOfMemory) }
-    ensures kept { IfOk result (λ task. spec.is_unkept task ≡ false) }
-    ensures refused { (kinds : Kinds) → IsRefusedAs (map string_bytes words.entry.now) kinds
-        → Refuses kinds result }
-{
-    match parse_task(alloc, linda, words)? {
-        Some(task) => {
-            if is_unkept(&task) {
-                return Err(linda.error(ErrorKind::ArgumentConflict, why_unkept(&task))?);
-            }
-            Ok(task)
-        }
-        None => Err(linda.error(ErrorKind::MissingSubcommand, "a command is required")?),
-    }
-}
-
-// Whether it asks for what cannot be kept: that silent clients which hold a tuple are ended
-// although each connection has two threads; or that tuples are counted although no status is
-// served.
-fn is_unkept(task: &Task) -> bool
-    ensures asked { (words : List (List ℕ)) → AsksExactlyFor words task.now → result ≡ false }
-    ensures value { result ≡ spec.is_unkept task.now }
-{
-    match task {
-        Task::Serve { plan, .. } => {
-            (plan.by_threads && plan.lease.is_some())
-                || (plan.status.is_none() && !plan.metrics.is_empty())
-        }
-        Task::Pipe => false,
-        Task::Run { .. } => false,
-        Task::TracedRun { .. } => false,
-        Task::Call { .. } => false,
-        Task::CallAt { .. } => false,
-        Task::Inspect { .. } => false,
-    }
-}
-
-// Why what it asks for cannot be kept.
-fn why_unkept(task: &Task) -> &'static str {
-    match task {
-        Task::Serve { plan, .. } if plan.by_threads && plan.lease.is_some() => UNKEPT,
-        _ => UNCOUNTED,
-    }
-}
-
-// What the program's command finds that the words ask for.
-fn parse_task<'a>(
-    alloc: Global,
-    linda: &mut Command<'a>,
-    words: &'a [String],
-) -> Result<Option<Task>, Error>
-    requires { app_of linda.old ≡ rules.linda }
-    ensures kinds { FailsBy (fault_of rules.linda (map string_bytes words.entry.now)) result }
-    ensures found { IfOk result (λ found.
-        IfSome found (AsksFor (map string_bytes words.entry.now))) }
-    ensures exact { (task : Task) → AsksExactlyFor (map string_bytes words.entry.now) task
-        → IfOk result (λ found. found ≡ Some task) }
-{
-    let matches = linda.try_get_matches_from_mut(words)?;
-    Ok(task_of(alloc, &matches)?)
 }
 
 // What the parser found that the words ask for.
-fn task_of(alloc: Global, matches: &ArgMatches) -> Result<Option<Task>, AllocError>
-    ensures exact { (words : List (List ℕ)) (task : Task) → AsksExactlyFor words task
-        → subcommand_rows_of matches.now ≡ subcommand_of rules.linda words
-        → IfOk result (λ found. found ≡ Some task) }
-    ensures found { (words : List (List ℕ)) → fault_of rules.linda words ≡ []
-        → subcommand_rows_of matches.now ≡ subcommand_of rules.linda words
-        → IfOk result (λ found. IfSome found (AsksFor words)) }
+fn task_of(alloc: Global, matches: &ArgMatches) -> Result<Task, NoTask>
+    ensures { IfOk result (IsIn matches.now) }
 {
-    if matches.subcommand_matches(PIPE).is_some() {
-        return Ok(Some(Task::Pipe));
+    if let Some(_below) = matches.subcommand_matches(PIPE) {
+        return Ok(Task::Pipe);
     }
-    match matches.subcommand_matches(RUN) {
-        Some(below) => run_of(alloc, below),
-        None => other_of(alloc, matches),
+    if let Some(below) = matches.subcommand_matches(RUN) {
+        return run_of(alloc, below);
     }
-}
-
-// What the parser found that the words ask for, if that is neither the pipe nor a run.
-fn other_of(alloc: Global, matches: &ArgMatches) -> Result<Option<Task>, AllocError>
-    ensures exact { (words : List (List ℕ)) (task : Task) → AsksExactlyFor words task
-        → subcommand_rows_of matches.now ≡ subcommand_of rules.linda words
-        → (subcommand_name_of matches.now ≡ Some (codes "pipe") → ⊥)
-        → (subcommand_name_of matches.now ≡ Some (codes "run") → ⊥)
-        → IfOk result (λ found. found ≡ Some task) }
-    ensures found { (words : List (List ℕ)) → fault_of rules.linda words ≡ []
-        → subcommand_rows_of matches.now ≡ subcommand_of rules.linda words
-        → IfOk result (λ found. IfSome found (AsksFor words)) }
-{
-    match matches.subcommand_matches(CALL) {
-        Some(below) => call_of(alloc, below),
-        None => match matches.subcommand_matches(SERVE) {
-            Some(below) => serve_of(alloc, below),
-            None => match matches.subcommand_matches(INSPECT) {
-                Some(below) => inspect_of(alloc, below),
-                None => Ok(None),
-            },
-        },
+    if let Some(below) = matches.subcommand_matches(CALL) {
+        return call_of(alloc, below);
     }
+    if let Some(below) = matches.subcommand_matches(SERVE) {
+        return serve_of(alloc, below);
+    }
+    if let Some(below) = matches.subcommand_matches(INSPECT) {
+        return inspect_of(alloc, below);
+    }
+    Err(UNREAD)
 }
 
 // The program's command.
@@ -292,15 +142,3 @@ fn command<'a>(alloc: Global) -> Result<Command<'a>, AllocError>
     let serving = with_command(calling, serve_command(alloc));
     with_command(serving, inspect_command(alloc))
 }
-
-/// Why a mode is refused.
-const BAD_MODE: &str = "the value of '--mode <MODE>' is not three octal digits";
-
-/// Why a lease is refused beside threads.
-const UNKEPT: &str = "the argument '--lease <S>' cannot be used with '--threads'";
-
-/// Why tags are refused beside no status.
-const UNCOUNTED: &str = "the argument '--metric <TAG>' cannot be used without '--status'";
-
-/// Why a call with so many sockets is refused.
-const TOO_MANY: &str = "there are more than 16 servers";

@@ -1,5 +1,6 @@
 -- What passes: one message after another.
 use Rattle.std.proofs.Common.{rules, ◌≡◌, ℕ, true, false, List, [], ◌∷◌, ◌++◌, refl, sym, ap, ◌∙◌, append_assoc}
+use Rattle.std.specs.Prelude.{Option}
 use Rattle.std.specs.List.{flat_map}
 use Rattle.std.proofs.lemmas.List.{append-nil}
 use Rattle.std.proofs.lemmas.List.Elements.{All-nil, All-cons, All-append}
@@ -8,7 +9,8 @@ use Rattle.std.proofs.lemmas.Grind.{flat_map-append}
 use Rattle.linda_wire.specs.declared.message.Message.{Message}
 use Rattle.linda_wire.specs.Frames.{message_frame}
 use Rattle.linda_gate_pass.specs.declared.client_numbers.ClientNumbers.{ClientNumbers}
-use Rattle.linda_gate_pass.specs.Passing.{is_hello, may_pass, AreOfOne, Reads}
+use Rattle.linda_gate_pass.specs.Gating.{frames_in, passed_in}
+use Rattle.linda_gate_pass.specs.Passing.{is_hello, may_pass, AreOfOne, Passing, Reads, Writes}
 
 -- ---- of one client
 
@@ -51,3 +53,10 @@ reads_more old mid new m bytes left rest before now after reads frame pushed put
       ∙ append_assoc before (flat_map message_frame reads.more) (message_frame m)
       ∙ ap (λ (bytes : List ℕ). before ++ bytes) (frames_more reads.more m);
 }
+
+-- the frames of all that passed, if more was written after nothing
+pub frames_then : (old new : Option Passing) (before out : List ℕ) → before ≡ []
+    → Writes (passed_in old) (passed_in new) before out → frames_in new ≡ frames_in old ++ out
+frames_then old new before out none writes =
+    ap (λ (ms : List Message). flat_map message_frame ms) writes.passed ∙ flat_map-append message_frame (passed_in old) writes.more
+    ∙ ap (λ (bytes : List ℕ). frames_in old ++ bytes) (sym (writes.written ∙ ap (λ (bytes : List ℕ). bytes ++ flat_map message_frame writes.more) none))

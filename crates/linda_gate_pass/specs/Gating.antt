@@ -4,7 +4,9 @@ use Rattle.std.specs.Prelude.{Option, None, Some, IfSome, ◌≡◌}
 use Rattle.std.specs.List.{flat_map}
 use Rattle.linda_wire.specs.Frames.{message_frame}
 use Rattle.linda_wire.specs.declared.message.Message.{Message}
-use Rattle.linda_gate_pass.specs.Head.{IsHead}
+use Rattle.linda_wire.specs.Stream.{Partial, message_front}
+use Rattle.linda_gate_pass.specs.declared.head.ProxyHead.TheVariants as heads
+use Rattle.linda_gate_pass.specs.Head.{IsHead, Heads}
 use Rattle.linda_gate_pass.specs.Passing as passing
 use Rattle.linda_gate_pass.specs.Passing.{Passing, AreOfOne}
 
@@ -25,6 +27,10 @@ abbrev pub passed_in : Option Passing → List Message
 passed_in None = []
 passed_in (Some p) = p.passed
 
+-- Their frames.
+abbrev pub frames_in : Option Passing → List ℕ
+frames_in pass = flat_map message_frame (passed_in pass)
+
 -- All bytes that came, as long as there is no fault.
 abbrev pub came_by : List ℕ → ℕ → Option Passing → List ℕ
 came_by head len None = head
@@ -41,6 +47,14 @@ IsFront head len (Some p) bytes =
 
 abbrev pub IsOf : List ℕ → Gating → Type 0
 IsOf bytes g = IsFront g.head g.len g.pass bytes
+
+-- There is no fault, and more has to come: the head is not whole, or no whole frame is left.
+abbrev pub WaitsAfter : List ℕ → Option Passing → Type 0
+WaitsAfter head None = Heads head heads.Short
+WaitsAfter head (Some p) = (p.fault ≡ None) × (message_front p.unread ≡ Partial)
+
+abbrev pub Waits : Gating → Type 0
+Waits g = WaitsAfter g.head g.pass
 
 -- Once its head is whole, all that passed is of one client, which the head allows.
 abbrev pub IsOfOne : Gating → Type 0

@@ -3,7 +3,7 @@
 ghost use Rattle.std.specs.Prelude.{◌≡◌, ◌++◌, true, None, Err, OnOk, IfSome};
 ghost use Rattle.linda_gate_pass.specs.Head.{IsHead};
 ghost use Rattle.linda_gate_pass.specs.Gating as spec;
-ghost use Rattle.linda_gate_pass.specs.Gating.{IsOf, IsOfOne, begun, passed_in};
+ghost use Rattle.linda_gate_pass.specs.Gating.{IsOf, IsOfOne, Waits, begun, passed_in};
 ghost use Rattle.linda_gate_pass.specs.Passing.{Writes};
 
 use crate::client_numbers::ClientNumbers;
@@ -65,6 +65,7 @@ impl ClientGate {
         ensures written { Writes (passed_in self.old.pass) (passed_in self.new.pass)
             out.old.items out.new.items }
         ensures ok { OnOk result (spec.came self.new ≡ spec.came self.old ++ bytes.now) }
+        ensures waits { OnOk result (Waits self.new) }
         ensures front { IfSome self.old.pass (λ p. p.fault ≡ None)
             → IsOf (spec.came self.old ++ bytes.now) self.new }
         ensures refused { self.old.pass ≡ None → self.old.is_refused ≡ true
@@ -102,6 +103,7 @@ impl ClientGate {
         ensures written { Writes (passed_in self.old.pass) (passed_in self.new.pass)
             out.old.items out.new.items }
         ensures ok { OnOk result (spec.came self.new ≡ spec.came self.old) }
+        ensures waits { OnOk result (Waits self.new) }
         ensures front { IsOf self.old.head self.new }
     {
         let mut pass = Pass::new(self.alloc, numbers);

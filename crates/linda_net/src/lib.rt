@@ -1,14 +1,19 @@
 //! Ways to serve a server that threads share: the front door of all that is between it and sockets.
 //!
-//! - `serve_loop` serves all connections from a few loops (linda_net_loops); `linda serve` uses it.
-//! - `serve` gives each connection of a listener its threads (linda_net_threads); `serve_watched`
-//!   also reports to a `Watcher` what happens, and answers what is asked over HTTP by the pages of
-//!   a `StatusPages` (linda_net_watch).
+//! - `serve_loop` serves all connections from a few loops (linda_net_loops), reports to a `Watcher`
+//!   what happens, and answers what is asked over HTTP by the pages of a `StatusPages`
+//!   (linda_net_watch); `linda serve` uses it.
+//! - `serve` gives each connection of a listener two threads: one reads it by `pump` and submits,
+//!   one drains its client's outlet and writes. It is for programs of their own.
 //! - The reading loop of linda_net_pump, and a client's connections of linda_net_proxy, are named
 //!   here too.
 #![tactic(auto)]
 
+mod accepting;
+mod connection;
+mod reading;
 mod serving;
+mod writing;
 
 pub use linda_net_marks::{CounterValues, Notice, RefusalReason, RefusalValues};
 pub use linda_net_proxy::{
@@ -21,4 +26,4 @@ pub use linda_shared::{
     ClientPage, Gauge, KindPage, ListedClient, ListedKind, ListedReply, ListedTuple,
     LongestWaitsAndHolds, MOST_KINDS, Shared, SharedFault, TakenCount, TuplePage, TupleQuery,
 };
-pub use serving::{serve, serve_loop, serve_watched};
+pub use serving::{serve, serve_loop};

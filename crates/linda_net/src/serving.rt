@@ -3,14 +3,13 @@
 ghost use Rattle.std.specs.Prelude.{◌≡◌, true, false};
 ghost use Rattle.std.specs.Prelude.{IsOk, IsErrOf};
 
+use crate::accepting::accept_all;
 use linda_disk::Disk;
 use linda_net_loops::Loops;
 use linda_net_marks::{CounterValues, Counters, Notice};
 use linda_net_relays::{Limits, ListeningSockets, LoopDirectory};
-use linda_net_threads::accept_all;
 use linda_net_watch::{
-    Seconds, Silent, Status, StatusPages, StatusServer, Unasked, Watcher, take_snapshots, tell,
-    watch,
+    Seconds, Status, StatusPages, StatusServer, Watcher, take_snapshots, tell, watch,
 };
 use linda_shared::{Shared, SharedFault};
 use std::alloc::Global;
@@ -21,11 +20,11 @@ use std::thread::{Scope, Threads};
 use std::time::Clock;
 use std::{io, thread};
 
-/// Serves the connections that come, each in two threads of its own: one reads, submits what came,
-/// 64 messages at most at once, and writes what that led to; the other writes what others' messages
-/// send. If a number is given, so many connections are served, and it ends when the last of them
-/// has. A connection for which no thread can be had is closed, and if a connection cannot be had
-/// the next is waited for. One that stops reading, or sends half of a frame and waits, holds up
+/// Serves the connections that come, each in two threads of its own: one reads and submits what
+/// came, 64 messages at most at once, the other drains the outlet of its client and writes what
+/// came out. If a number is given, so many connections are served, and it ends when the last of
+/// them has. A connection for which no thread can be had is closed, and if a connection cannot be
+/// had the next is waited for. One that stops reading, or sends half of a frame and waits, holds up
 /// nobody else. Another thread takes a snapshot whenever one pays for itself, and goes on if it is
 /// refused; if no thread can be had for that, none is taken.
 ///
@@ -39,76 +38,34 @@ pub fn serve<D: Disk + Send, L: Ledger + Send + Sync, R: Threads + Wait + Clock 
     shared: &Shared<D, L>,
     sessions: Option<u32>,
 ) -> Result<(), SharedFault> {
-    let station: Option<io::Result<StatusServer<Unasked>>> = None;
-    let watcher = Mutex::new(Silent);
-    let (ended, _) = serve_beside(rt, alloc, listener, shared, sessions, &watcher, station);
-    ended
-}
-
-/// Serves as `serve` does, and a thread of its own reports to a watcher what happens, until all
-/// connections are over: nobody else waits for it. If there is a status another thread answers what
-/// is asked there, which takes the server for no longer than its numbers are read. Returns how it
-/// ended, as `serve` does, and how often what happened.
-pub fn serve_watched<
-    D: Disk + Send,
-    L: Ledger + Send + Sync,
-    R: Net + Threads + Wait + Clock + Sync,
-    T: Watcher + Send,
-    A: StatusPages + Send + Drop,
->(
-    rt: &R,
-    alloc: Global,
-    listener: &TcpListener,
-    shared: &Shared<D, L>,
-    sessions: Option<u32>,
-    watcher: &Mutex<T>,
-    status: Option<Status<A>>,
-) -> (Result<(), SharedFault>, CounterValues) {
-    let station = opened(rt, alloc, status);
-    serve_beside(rt, alloc, listener, shared, sessions, watcher, station)
-}
-
-// Serves with two threads for each connection, beside a station if one is asked for.
-fn serve_beside<
-    D: Disk + Send,
-    L: Ledger + Send + Sync,
-    R: Threads + Wait + Clock + Sync,
-    T: Watcher + Send,
-    A: StatusPages + Send + Drop,
->(
-    rt: &R,
-    alloc: Global,
-    listener: &TcpListener,
-    shared: &Shared<D, L>,
-    sessions: Option<u32>,
-    watcher: &Mutex<T>,
-    station: Option<io::Result<StatusServer<A>>>,
-) -> (Result<(), SharedFault>, CounterValues) {
     let is_over = Mutex::new(false);
     let over = &is_over;
     let counts = Counters::new(alloc);
     let counters = &counts;
-    let seconds = Seconds::begin(rt, shared, station.is_some());
     thread::scope(thread::scope_env(), rt, |scope| {
-        begin_beside(scope, rt, shared, over, counters, watcher, seconds);
-        begin_station(scope, rt, shared, over, counters, watcher, station);
-        accept_all(rt, alloc, listener, shared, counters, sessions);
+        let _ = scope
+            .spawn(move || take_snapshots(rt, shared, counters, over))
+            .is_err();
+        accept_all(rt, alloc, listener, shared, sessions);
         *over.lock(rt) = true;
     });
-    (ended(shared.is_down(rt)), counters.tally())
+    ended(shared.is_down(rt))
 }
 
-/// Serves as `serve_watched` does, but not with two threads for each connection: a few loops, each
-/// in a thread of its own, read what came and write what is sent. A loop takes what its connections
-/// have to the server as one group, those messages first of which no deed comes. An idle connection
-/// costs no thread. A client that holds a tuple and says nothing for longer than the limits allow
-/// has its connection ended. No connection has more of a turn than its share. If the server goes
-/// down all connections end, and so does this call. If the system has no room for a loop, and there
-/// is neither such a limit nor a unix socket, it serves as `serve_watched` does.
+/// Serves the connections that come in a few loops, each in a thread of its own, which read what
+/// came and write what is sent. A loop takes what its connections have to the server as one group,
+/// those messages first of which no deed comes. An idle connection costs no thread. If a number is
+/// given, so many connections are served. A client that holds a tuple and says nothing for longer
+/// than the limits allow has its connection ended. No connection has more of a turn than its share.
+/// If the server goes down all connections end, and so does this call. Another thread takes
+/// snapshots, as in `serve`, and one reports to a watcher what happens, until all connections are
+/// over: nobody else waits for it. If there is a status another thread answers what is asked there,
+/// which takes the server for no longer than its numbers are read. Returns how it ended, and how
+/// often what happened.
 ///
 /// # Errors
 ///
-/// As `serve` returns them. `NoThread`: there is no room for the loops, and nobody was served.
+/// `Down`, as of `serve`. `NoThread`: there is no room for the loops, and nobody was served.
 pub fn serve_loop<
     D: Disk + Send,
     L: Ledger + Send + Sync,
@@ -124,16 +81,9 @@ pub fn serve_loop<
     watcher: &Mutex<T>,
     status: Option<Status<A>>,
 ) -> (Result<(), SharedFault>, CounterValues) {
-    let Ok((loops, directory)) = Loops::begin(rt, alloc) else {
-        return serve_plainly(rt, alloc, &listeners, shared, limits, watcher, status);
-    };
-    if listeners.hurry().is_err() {
-        return serve_plainly(rt, alloc, &listeners, shared, limits, watcher, status);
-    }
-    let mut loops = loops;
-    if loops.open(listeners, limits).is_err() {
+    let Ok((loops, directory)) = begin_loops(rt, alloc, listeners, limits) else {
         return (Err(SharedFault::NoThread), CounterValues::none());
-    }
+    };
     let station = opened(rt, alloc, status);
     let held = Mutex::new(Some(loops));
     let all = &held;
@@ -150,6 +100,19 @@ pub fn serve_loop<
     (ended(shared.is_down(rt)), directory.counters.tally())
 }
 
+// Loops for these listeners, and what they have in common.
+fn begin_loops<L: Ledger, R: Net>(
+    rt: &R,
+    alloc: Global,
+    listeners: ListeningSockets,
+    limits: Limits,
+) -> io::Result<(Loops<L>, LoopDirectory)> {
+    let (mut loops, directory) = Loops::begin(rt, alloc)?;
+    listeners.hurry()?;
+    loops.open(listeners, limits)?;
+    Ok((loops, directory))
+}
+
 // Runs the loops to their end; once.
 fn run_loops<D: Disk + Send, L: Ledger + Send + Sync, R: Threads + Wait + Clock + Sync>(
     rt: &R,
@@ -161,40 +124,6 @@ fn run_loops<D: Disk + Send, L: Ledger + Send + Sync, R: Threads + Wait + Clock 
     if let Some(loops) = taken {
         loops.run(rt, shared, directory);
     }
-}
-
-// Serves by threads if there is no room for loops: unless a limit is set that threads do not keep,
-// or connections come from elsewhere than a port.
-fn serve_plainly<
-    D: Disk + Send,
-    L: Ledger + Send + Sync,
-    R: Net + Threads + Wait + Clock + Sync,
-    T: Watcher + Send,
-    A: StatusPages + Send + Drop,
->(
-    rt: &R,
-    alloc: Global,
-    listeners: &ListeningSockets,
-    shared: &Shared<D, L>,
-    limits: Limits,
-    watcher: &Mutex<T>,
-    status: Option<Status<A>>,
-) -> (Result<(), SharedFault>, CounterValues) {
-    if limits.lease.is_some() || listeners.socket.is_some() {
-        return (Err(SharedFault::NoThread), CounterValues::none());
-    }
-    let Some(listener) = &listeners.port else {
-        return (Err(SharedFault::NoThread), CounterValues::none());
-    };
-    serve_watched(
-        rt,
-        alloc,
-        listener,
-        shared,
-        limits.sessions,
-        watcher,
-        status,
-    )
 }
 
 // Begins the threads beside those of connections: one reports to the watcher, one takes snapshots,

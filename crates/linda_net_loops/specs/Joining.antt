@@ -1,12 +1,14 @@
 -- Messages of a connection that join the groups of their loop, and their answers.
 use Rattle.std.specs.Prelude.{◌≡◌, ◌⊎◌, ℕ, nat_lt, Bool, ◌&&◌, if◌then◌else◌, ◌∷◌, [], ◌++◌}
-use Rattle.std.specs.Prelude.{length, Option, Some, None}
+use Rattle.std.specs.Prelude.{length, List, Option, Some, None}
 use Rattle.linda_wire.specs.declared.message.Message.{Message}
 use Rattle.linda_net_session.specs.declared.phase.Way.TheVariants as ways
 use Rattle.linda_net_session.specs.declared.route.Route.{Route}
 use Rattle.linda_net_session.specs.declared.route.Route.TheVariants as routes
 use Rattle.linda_net_session.specs.Session.{Session}
 use Rattle.linda_net_session.specs.Between.{TakesOne}
+use Rattle.linda_net_loops.specs.declared.groups.LoopCall.{LoopCall}
+use Rattle.linda_net_loops.specs.declared.groups.LoopCall.TheVariants as calls
 use Rattle.linda_shared_accounts.specs.Account.{Account}
 use Rattle.linda_shared_accounts.specs.declared.limits.TheConstants.{MOST_ASKED}
 use Rattle.linda_shared.specs.Group.{MessageGroup, group_of}
@@ -50,3 +52,18 @@ TakesFrom a key old new groups after =
     ((m : Message) × ((route : Route) × (TakesOne old m route new
     × (after ≡ joined_by_way route a key m groups))))
     ⊎ ((new.taken ≡ old.taken) × (after ≡ groups))
+
+-- The calls once a message was given to them: one that greets is the last of them, as it was taken,
+-- unless memory ran out; no other message is among them.
+abbrev pub IsCalled : Route → ℕ → Message → List LoopCall → List LoopCall → Type 0
+IsCalled routes.Greet key m old new = (new ≡ old ++ calls.Greet key m ∷ []) ⊎ (new ≡ old)
+IsCalled routes.Busy key m old new = new ≡ old
+IsCalled (routes.Goes way) key m old new = new ≡ old
+IsCalled routes.Keep key m old new = new ≡ old
+
+-- The same of the message that the session took, if it took one.
+abbrev pub CallsFrom : ℕ → Session → Session → List LoopCall → List LoopCall → Type 0
+CallsFrom key old new before after =
+    ((m : Message) × ((route : Route) × (TakesOne old m route new
+    × IsCalled route key m before after)))
+    ⊎ ((new.taken ≡ old.taken) × (after ≡ before))

@@ -1,2 +1,3 @@
 pub mod Connected
 pub mod Joining
+pub mod Wire

@@ -1,10 +1,12 @@
 //! One connection of a loop: its socket, its session, and the account of its client.
 
+mod wire;
+
 ghost use Rattle.std.specs.Prelude.{◌≡◌, true, Some, None, IfSome};
 ghost use Rattle.linda_net_session.specs.Session.{begun, broken, ended, heard, in_phase};
 ghost use Rattle.linda_net_session.specs.Turns.{Tells};
-ghost use Rattle.linda_net_session.specs.Between.{TakesNothing, Sends, Flushes};
-ghost use Rattle.linda_net_loops.specs.Connected.{Gives, IfGreeting};
+ghost use Rattle.linda_net_loops.specs.Connected.{IfGreeting};
+ghost use Rattle.linda_net_loops.specs.Wire.{Carries};
 
 use crate::socket::{ConnectionNotice, Socket};
 use linda_disk::Disk;
@@ -14,15 +16,11 @@ use linda_net_session::{OpenWays, Phase, Route, Session, SessionEnd, Way};
 use linda_shared::{Account, Shared};
 use linda_wire::{Message, Refusal, Reply};
 use std::alloc::Global;
-use std::io::ErrorKind;
 use std::sync::Wait;
 use std::sync::ledger::Ledger;
 
 /// For how many seconds a connection that is over may take nothing of what is written to it.
 const MOST_REFUSAL: u32 = 5;
-
-/// How often a connection is read at most before others are looked at.
-const MOST_READS: u32 = 16;
 
 /// What a connection has next.
 pub(crate) enum ConnectionEvent {
@@ -88,9 +86,12 @@ impl<S: Socket, L: Ledger> Connection<S, L> {
     }
 
     /// Its socket takes note of this.
+    #[tactic(auto, using(crate::proofs::Wires::by_kept))]
     pub(crate) fn note(&mut self, note: ConnectionNotice<'_>)
         ensures session { self.new.session ≡ self.old.session }
         ensures account { self.new.account ≡ self.old.account }
+        ensures wire { Carries (S.wire self.old.stream) (S.wire self.new.stream) self.old.session
+            self.new.session }
     {
         self.stream.note(note);
     }
@@ -101,7 +102,11 @@ impl<S: Socket, L: Ledger> Connection<S, L> {
     }
 
     /// The socket may have more to read; or no more than what is there, and then its end.
-    pub(crate) fn wake(&mut self, is_shut: bool) {
+    #[tactic(auto, using(crate::proofs::Wires::by_nothing))]
+    pub(crate) fn wake(&mut self, is_shut: bool)
+        ensures wire { Carries (S.wire self.old.stream) (S.wire self.new.stream) self.old.session
+            self.new.session }
+    {
         self.may_read = true;
         self.is_shut = self.is_shut || is_shut;
     }
@@ -137,7 +142,11 @@ impl<S: Socket, L: Ledger> Connection<S, L> {
 
     /// Its client is seen to hold a tuple, or none. Returns whether it is late: it holds one, and
     /// for so many seconds it said nothing, and nothing of it was on its way.
-    pub(crate) fn is_late(&mut self, look: Look, seconds: u32, holds_any: bool) -> bool {
+    #[tactic(auto, using(crate::proofs::Wires::by_nothing))]
+    pub(crate) fn is_late(&mut self, look: Look, seconds: u32, holds_any: bool) -> bool
+        ensures wire { Carries (S.wire self.old.stream) (S.wire self.new.stream) self.old.session
+            self.new.session }
+    {
         if !holds_any || self.is_waiting() {
             self.silence.end();
             return false;
@@ -147,7 +156,11 @@ impl<S: Socket, L: Ledger> Connection<S, L> {
 
     /// What is to be written is given up if its peer sends no more, or nothing more is taken from
     /// it, and it took nothing for some seconds. Returns whether that is so.
-    pub(crate) fn gives_up(&mut self, look: Look) -> bool {
+    #[tactic(auto, using(crate::proofs::Wires::by_nothing))]
+    pub(crate) fn gives_up(&mut self, look: Look) -> bool
+        ensures wire { Carries (S.wire self.old.stream) (S.wire self.new.stream) self.old.session
+            self.new.session }
+    {
         let is_over = self.is_ending() || self.is_shut;
         if !is_over || !self.has_unsent() {
             self.refusal.end();
@@ -161,7 +174,11 @@ impl<S: Socket, L: Ledger> Connection<S, L> {
     }
 
     /// How many bytes were read since this was asked last.
-    pub(crate) fn take_read(&mut self) -> u64 {
+    #[tactic(auto, using(crate::proofs::Wires::by_nothing))]
+    pub(crate) fn take_read(&mut self) -> u64
+        ensures wire { Carries (S.wire self.old.stream) (S.wire self.new.stream) self.old.session
+            self.new.session }
+    {
         std::mem::replace(&mut self.read, 0)
     }
 
@@ -170,60 +187,15 @@ impl<S: Socket, L: Ledger> Connection<S, L> {
         self.weight
     }
 
-    /// Its next message, if there is room for it. It is read if less than one is there.
-    pub(crate) fn next(&mut self, buffer: &mut [u8], room: OpenWays) -> ConnectionEvent
-        // A message is one that the session took, with the route that the session says; without one
-        // the session took nothing.
-        ensures gives { Gives self.old.session result self.new.session }
-        ensures account { self.new.account ≡ self.old.account }
-    {
-        for _ in 0..MOST_READS {
-            if let Some((message, route)) = self.session.next(room) {
-                self.silence.end();
-                return ConnectionEvent::Message(message, route);
-            }
-            if self.session.has_more() {
-                self.silence.end();
-                return ConnectionEvent::Kept;
-            }
-            if !self.may_read || !self.session.wants_read() {
-                return ConnectionEvent::None;
-            }
-            self.read(buffer);
-        }
-        ConnectionEvent::Later
-    }
-
-    // Reads what is there. A short read leaves nothing to read, unless the peer is known to send no
-    // more: then its end is still to be read, of which no second event comes.
-    fn read(&mut self, buffer: &mut [u8])
-        ensures nothing { TakesNothing self.old.session self.new.session }
-        ensures account { self.new.account ≡ self.old.account }
-    {
-        match self.stream.read(buffer) {
-            Ok(0) => {
-                self.may_read = false;
-                self.session.at_end();
-            }
-            Ok(len) => {
-                self.may_read = self.is_shut || len == buffer.len();
-                self.read = self.read.saturating_add(len as u64);
-                let _ = self.session.received(&buffer[..len]);
-            }
-            Err(error) => match error.kind() {
-                ErrorKind::WouldBlock => self.may_read = false,
-                ErrorKind::Interrupted => {}
-                _ => self.fail(),
-            },
-        }
-    }
-
     /// Its client is welcome, and has this account.
+    #[tactic(auto, using(crate::proofs::Wires::by_nothing, crate::proofs::Wires::by_greeted))]
     pub(crate) fn welcome(&mut self, counters: &Counters, account: Account<L>, last: u64)
         ensures account { self.new.account ≡ Some account }
         ensures told { IfGreeting self.old.session.phase self.old.session self.new.session
             (Tells (Reply.Welcome last) (in_phase (Phase.Open 0 0) self.old.session)
             self.new.session) }
+        ensures wire { Carries (S.wire self.old.stream) (S.wire self.new.stream) self.old.session
+            self.new.session }
     {
         self.account = Some(account);
         self.count(counters, &Reply::Welcome { last });
@@ -235,11 +207,14 @@ impl<S: Socket, L: Ledger> Connection<S, L> {
     }
 
     /// Its client is refused. It may greet again.
+    #[tactic(auto, using(crate::proofs::Wires::by_nothing, crate::proofs::Wires::by_greeted))]
     pub(crate) fn refuse(&mut self, counters: &Counters, code: u8, detail: u64)
         ensures account { self.new.account ≡ self.old.account }
         ensures told { IfGreeting self.old.session.phase self.old.session self.new.session
             (Tells (Reply.Refused code detail) (in_phase Phase.Fresh self.old.session)
             self.new.session) }
+        ensures wire { Carries (S.wire self.old.stream) (S.wire self.new.stream) self.old.session
+            self.new.session }
     {
         self.count(counters, &Reply::Refused { code, detail });
         let before = self.session.unsent().len();
@@ -250,10 +225,13 @@ impl<S: Socket, L: Ledger> Connection<S, L> {
     }
 
     /// Its client could not be greeted: it ends with this word, if there is one.
+    #[tactic(auto, using(crate::proofs::Wires::by_nothing, crate::proofs::Wires::by_dropped))]
     pub(crate) fn drop_greeting(&mut self, word: Option<Refusal>)
         ensures account { self.new.account ≡ self.old.account }
         ensures ends { IfGreeting self.old.session.phase self.old.session self.new.session
             (self.new.session ≡ ended word (in_phase Phase.Fresh self.old.session)) }
+        ensures wire { Carries (S.wire self.old.stream) (S.wire self.new.stream) self.old.session
+            self.new.session }
     {
         if let Phase::Greeting = self.session.phase() {
             self.session.drop_greeting(word);
@@ -261,8 +239,11 @@ impl<S: Socket, L: Ledger> Connection<S, L> {
     }
 
     /// Its second Hello was answered, which is counted.
+    #[tactic(auto, using(crate::proofs::Wires::by_kept))]
     pub(crate) fn tell_busy(&mut self, counters: &Counters)
-        ensures { self.new.session ≡ self.old.session }
+        ensures session { self.new.session ≡ self.old.session }
+        ensures wire { Carries (S.wire self.old.stream) (S.wire self.new.stream) self.old.session
+            self.new.session }
     {
         let reply = Refusal::Busy.reply();
         self.count(counters, &reply);
@@ -270,18 +251,24 @@ impl<S: Socket, L: Ledger> Connection<S, L> {
     }
 
     /// A message that went this way came back.
+    #[tactic(auto, using(crate::proofs::Wires::by_heard))]
     pub(crate) fn answered(&mut self, way: Way)
         ensures account { self.new.account ≡ self.old.account }
         ensures heard { self.new.session ≡ heard way self.old.session }
+        ensures wire { Carries (S.wire self.old.stream) (S.wire self.new.stream) self.old.session
+            self.new.session }
     {
         self.session.answered(way);
     }
 
     /// It is sent this, after all that came before, which is counted. Returns how many bytes that
     /// has.
+    #[tactic(auto, using(crate::proofs::Wires::by_told))]
     pub(crate) fn tell(&mut self, counters: &Counters, reply: &Reply) -> u64
         ensures account { self.new.account ≡ self.old.account }
         ensures told { Tells reply.now self.old.session self.new.session }
+        ensures wire { Carries (S.wire self.old.stream) (S.wire self.new.stream) self.old.session
+            self.new.session }
     {
         self.count(counters, reply);
         let before = self.session.unsent().len();
@@ -300,6 +287,7 @@ impl<S: Socket, L: Ledger> Connection<S, L> {
     fn weigh(&mut self, before: usize) -> u64
         ensures account { self.new.account ≡ self.old.account }
         ensures same { self.new.session ≡ self.old.session }
+        ensures stream { self.new.stream ≡ self.old.stream }
     {
         let bytes = self.session.unsent().len().saturating_sub(before) as u64;
         if bytes > 0 {
@@ -310,62 +298,26 @@ impl<S: Socket, L: Ledger> Connection<S, L> {
 
     /// Nothing more is taken from it. It ends once what is on its way came back, with this word, if
     /// there is one.
+    #[tactic(auto, using(crate::proofs::Wires::by_ended))]
     pub(crate) fn end_with(&mut self, word: Option<Refusal>)
         ensures account { self.new.account ≡ self.old.account }
         ensures ends { self.new.session ≡ ended word self.old.session }
+        ensures wire { Carries (S.wire self.old.stream) (S.wire self.new.stream) self.old.session
+            self.new.session }
     {
         self.session.end(word);
     }
 
     /// It can be neither read nor written.
+    #[tactic(auto, using(crate::proofs::Wires::by_broken))]
     pub(crate) fn fail(&mut self)
         ensures account { self.new.account ≡ self.old.account }
         ensures broken { self.new.session ≡ broken self.old.session }
+        ensures wire { Carries (S.wire self.old.stream) (S.wire self.new.stream) self.old.session
+            self.new.session }
     {
         self.session.fail();
         self.stream.note(ConnectionNotice::Failed);
-    }
-
-    /// Writes what it can take.
-    pub(crate) fn flush(&mut self, counters: &Counters)
-        // What goes out is what waited, in order.
-        ensures { Flushes self.old.session self.new.session }
-    {
-        if !self.is_waiting() {
-            if let SessionEnd::Ending(Some(word)) = self.session.end_state() {
-                counters.count_reply(&word.reply());
-            }
-            if let SessionEnd::Ending(word) = self.session.end_state() {
-                self.stream.note(ConnectionNotice::Ended(word));
-            }
-        }
-        self.session.finish();
-        for _ in 0..self.session.unsent().len() {
-            if !self.has_unsent() || !self.write() {
-                break;
-            }
-        }
-        self.session.shrink();
-    }
-
-    // Writes some of what is to be written. Whether more can be written now.
-    fn write(&mut self) -> bool
-        ensures { Sends self.old.session self.new.session }
-    {
-        match self.stream.write(self.session.unsent()) {
-            Ok(0) => self.fail(),
-            Ok(len) => {
-                self.refusal.end();
-                self.session.sent(len);
-                return true;
-            }
-            Err(error) => match error.kind() {
-                ErrorKind::WouldBlock => {}
-                ErrorKind::Interrupted => return true,
-                _ => self.fail(),
-            },
-        }
-        false
     }
 
     /// Whether it is over: nothing of it is on its way, and nothing more is to be written.

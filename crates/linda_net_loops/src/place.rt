@@ -4,6 +4,7 @@ ghost use Rattle.std.specs.Prelude.{◌≡◌};
 ghost use Rattle.linda_shared_accounts.specs.declared.limits.TheConstants as accounts;
 ghost use Rattle.linda_net_session.specs.declared.phase.TheConstants as sessions;
 ghost use Rattle.linda_net_loops.specs.Joining.{joined, joined_by_way, groups_of, TakesFrom};
+ghost use Rattle.linda_net_loops.specs.Joining.{IsCalled, CallsFrom};
 
 use crate::connection::{Connection, ConnectionEvent};
 use crate::groups::{Groups, LoopCall};
@@ -45,9 +46,12 @@ pub(crate) fn take_next<S: Socket, L: Ledger>(
 ) -> LookOutcome
     // The message that the session took joins the group of its way, as it was given; or it took
     // none, and the groups are as they were.
-    ensures { TakesFrom connection.old.account key connection.old.session connection.new.session
-        (groups_of batch.old.asking batch.old.doing)
+    ensures takes { TakesFrom connection.old.account key connection.old.session
+        connection.new.session (groups_of batch.old.asking batch.old.doing)
         (groups_of batch.new.asking batch.new.doing) }
+    // If it greets it is the next call, as it was taken; else no call is added.
+    ensures calls { CallsFrom key connection.old.session connection.new.session calls.old.items
+        calls.new.items }
 {
     match connection.next(buffer, batch.room()) {
         ConnectionEvent::Message(message, route) => {
@@ -76,6 +80,8 @@ fn put<S: Socket, L: Ledger>(
         ≡ joined_by_way route connection.old.account key message
         (groups_of batch.old.asking batch.old.doing) }
     ensures taken { connection.new.session.taken ≡ connection.old.session.taken }
+    // A Hello is the next call, as it was taken.
+    ensures calls { IsCalled route key message calls.old.items calls.new.items }
 {
     match route {
         Route::Greet => {

@@ -1,6 +1,8 @@
 //! Sockets of connections, as loops use them, and what they note of their connections.
 
 ghost use Rattle.std.specs.Io.{ReadsAtMost, WritesAtMost};
+ghost use Rattle.std.specs.Io.KnownBytes.{ReadConsumes, WriteAppends, Keeps};
+ghost use Rattle.linda_net_loops.specs.Wire.{Wire};
 
 use linda_net_http::Stream;
 use linda_wire::{Message, Refusal};
@@ -26,13 +28,18 @@ pub enum ConnectionNotice<'m> {
 
 /// What a connection is read from and written to, without waiting for it.
 pub trait Socket: Drop {
+    /// The bytes that are still to be read, and those that went out, if they are known.
+    ghost wire: { Self → Wire };
+
     /// Reads what is there.
     ///
     /// # Errors
     ///
     /// `WouldBlock` if there is nothing; what the system returns.
     fn read(&mut self, buffer: &mut [u8]) -> io::Result<usize>
-        ensures { ReadsAtMost result buffer.new };
+        ensures most { ReadsAtMost result buffer.new }
+        ensures gives { ReadConsumes (wire self.old).left (wire self.new).left result buffer.new }
+        ensures out { Keeps (wire self.old).out (wire self.new).out };
 
     /// Writes what it takes.
     ///
@@ -40,16 +47,25 @@ pub trait Socket: Drop {
     ///
     /// `WouldBlock` if it takes nothing; what the system returns.
     fn write(&mut self, bytes: &[u8]) -> io::Result<usize>
-        ensures { WritesAtMost result bytes.now };
+        ensures most { WritesAtMost result bytes.now }
+        ensures takes { WriteAppends (wire self.old).out (wire self.new).out result bytes.now }
+        ensures left { Keeps (wire self.old).left (wire self.new).left };
 
     /// Shuts it in both directions.
     fn shut(&self);
 
     /// Takes note of this. One of the system does not.
-    fn note(&mut self, _note: ConnectionNotice<'_>) {}
+    fn note(&mut self, _note: ConnectionNotice<'_>)
+        ensures left { Keeps (wire self.old).left (wire self.new).left }
+        ensures out { Keeps (wire self.old).out (wire self.new).out }
+    {}
 }
 
 impl Socket for Stream {
+    ghost use Rattle.linda_net_loops.specs.Wire.{unknown};
+
+    ghost wire = { λ _. unknown };
+
     fn read(&mut self, buffer: &mut [u8]) -> io::Result<usize> {
         Stream::read(self, buffer)
     }

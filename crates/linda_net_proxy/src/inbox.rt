@@ -38,13 +38,13 @@ impl EventInbox {
         self.arrived.notify_one();
     }
 
-    /// What came first, after the number of its server; `None` if nothing has come for a
-    /// millisecond.
-    pub fn take<R: Wait + Clock>(&self, rt: &R) -> Option<(u32, ServerEvent)> {
+    /// What came first, after the number of its server; `None` if nothing has come for so many
+    /// milliseconds.
+    pub fn take<R: Wait + Clock>(&self, rt: &R, pause: u64) -> Option<(u32, ServerEvent)> {
         let (mut kept, _) = self.arrived.wait_timeout_while(
             rt,
             self.kept.lock(rt),
-            Duration::from_millis(1),
+            Duration::from_millis(pause),
             |kept| kept.arrivals.is_empty(),
         );
         kept.arrivals.take()

@@ -18,5 +18,5 @@ mod watcher;
 
 pub use looking::take_snapshots;
 pub use seconds::Seconds;
-pub use status::{Listener, PageQuery, PageStatus, Status, StatusPages, StatusServer, Unasked};
-pub use watcher::{Silent, Watcher, tell, watch};
+pub use status::{Listener, PageQuery, PageStatus, Status, StatusPages, StatusServer};
+pub use watcher::{Watcher, tell, watch};

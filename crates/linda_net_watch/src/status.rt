@@ -39,20 +39,3 @@ pub struct Status<A: StatusPages> {
     pub listener: Listener,
     pub teller: A,
 }
-
-/// A teller that nobody asks.
-#[derive(Drop)]
-pub struct Unasked;
-
-impl StatusPages for Unasked {
-    fn spell<D: Disk, L: Ledger, R: Wait + Clock>(
-        &self,
-        _rt: &R,
-        _shared: &Shared<D, L>,
-        _tally: &CounterValues,
-        _asked: PageQuery<'_>,
-        _page: &mut String,
-    ) -> Result<PageStatus, AllocError> {
-        Ok(PageStatus::NotFound)
-    }
-}

@@ -33,20 +33,6 @@ pub trait Watcher {
     }
 }
 
-/// A watcher that nobody listens to.
-#[derive(Drop)]
-pub struct Silent;
-
-impl Watcher for Silent {
-    fn tell<C: Clock>(
-        &mut self,
-        _clock: &C,
-        _notice: Notice,
-        _gauge: &Gauge,
-        _tally: &CounterValues,
-    ) {}
-}
-
 /// Looks ten times a second until it is over, and then once more, reports what happened, and says
 /// to the server which second it is. Only this thread waits if the watcher does not go on.
 pub fn watch<D: Disk, L: Ledger, R: Wait + Clock, T: Watcher>(

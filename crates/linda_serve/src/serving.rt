@@ -26,14 +26,13 @@ use heap::keep_heap;
 use linda_disk::FileDisk;
 use linda_net::{
     CounterValues, Gauge, Limits, Listener, ListeningSockets, Shared, SharedFault, serve_loop,
-    serve_watched,
 };
 use linda_serve_plan::{ServePlan, StatusPlace};
 use linda_server::Durable;
 pub use linda_server::InUse;
 use linda_shared_accounts::PARTS;
 use linda_status::About;
-use listeners::{bind_listeners, by_threads, keep_socket_open, own_file, port_of, tell_ready};
+use listeners::{bind_listeners, keep_socket_open, own_file, port_of, tell_ready};
 pub use log::{Cause, Log};
 pub use non_blocking_writer::NonBlockingWriter;
 use socket::remove;
@@ -201,24 +200,11 @@ fn tell_and_serve<
     tell_start(rt, &mut log, &course, &shared.gauge(rt));
     tell_ready(alloc, writer, port, path)?;
     let watcher = Mutex::new(log);
-    let (ended, tally) = match by_threads(&listeners, plan) {
-        Some(listener) => serve_watched(
-            rt,
-            alloc,
-            listener,
-            &shared,
-            plan.sessions,
-            &watcher,
-            status,
-        ),
-        None => {
-            let limits = Limits {
-                sessions: plan.sessions,
-                lease: plan.lease,
-            };
-            serve_loop(rt, alloc, listeners, &shared, limits, &watcher, status)
-        }
+    let limits = Limits {
+        sessions: plan.sessions,
+        lease: plan.lease,
     };
+    let (ended, tally) = serve_loop(rt, alloc, listeners, &shared, limits, &watcher, status);
     tell_end(rt, watcher.into_inner(), shared, ended, &tally)
 }
 

@@ -5,19 +5,16 @@
 pub struct ServePlan {
     /// The port of this machine, or 0 for any that is free, if it listens on one.
     pub port: Option<u16>,
-    /// The unix socket, if it listens on one; only loops serve it.
+    /// The unix socket, if it listens on one.
     pub socket: Option<SocketFile>,
     /// The folder of the store.
     pub folder: String,
     /// After how many connections it ends, if it does.
     pub sessions: Option<u32>,
-    /// For how many seconds a client may hold a tuple and say nothing, if that is limited; only
-    /// loops keep it.
+    /// For how many seconds a client may hold a tuple and say nothing, if that is limited.
     pub lease: Option<u32>,
     /// Whether it waits while another server has the folder open.
     pub waits: bool,
-    /// Whether each connection has two threads; else a few loops serve all of them.
-    pub by_threads: bool,
     /// Where the server gives its status over HTTP, if it does.
     pub status: Option<StatusPlace>,
     /// The texts for which it says there how many tuples have them for their tag.

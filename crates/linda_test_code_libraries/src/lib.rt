@@ -1,16 +1,9 @@
-//! Tests of disks and servers that no row can be, by public calls only: if memory is refused, on
-//! real files, beside a second model, and of what a call costs.
-//!
-//! Each module has the name of the crate that it tests; why they are here: docs/DECISIONS.md.
+//! Layouts, as equations of definitions with literals; and tests of real files, and of a map beside
+//! std's ordered tree. They can be no rows of text. All are by public calls only.
 #![tactic(auto)]
 
 #[cfg(test)]
-mod disk;
+mod files;
+pub mod layouts;
 #[cfg(test)]
-mod messages;
-#[cfg(test)]
-mod server;
-#[cfg(test)]
-mod step;
-#[cfg(test)]
-mod store;
+mod rising;

@@ -8,3 +8,5 @@ mod crowd;
 mod outlets;
 #[cfg(test)]
 mod scene;
+#[cfg(test)]
+mod sockets;

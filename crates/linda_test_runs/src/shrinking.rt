@@ -1,24 +1,19 @@
 //! Shrinking of a run that differs: events are left out as long as it still does.
 
 use crate::course::Course;
+use crate::playing::Player;
 use std::alloc::{AllocError, Global};
 
 /// How often a run is played at most.
 const MOST_PLAYS: u32 = 20_000;
 
-/// What plays runs.
-pub trait Player {
-    /// After how many events the run differs, if it does.
-    fn difference(&self, alloc: Global, course: &Course) -> Result<Option<u64>, AllocError>;
-}
-
 /// A run that differs with few events, if the whole one differs.
 pub fn shrink<P: Player>(
-    player: &P,
+    player: &mut P,
     alloc: Global,
     course: &Course,
 ) -> Result<Option<Course>, AllocError> {
-    let Some(count) = player.difference(alloc, course)? else {
+    let Some(count) = difference(player, alloc, course)? else {
         return Ok(None);
     };
     let mut list = course.first(alloc, count)?;
@@ -33,12 +28,22 @@ pub fn shrink<P: Player>(
             piece /= 2;
         }
         let shorter = course.with(without(alloc, &list, start, piece.max(1))?);
-        match player.difference(alloc, &shorter)? {
+        match difference(player, alloc, &shorter)? {
             Some(count) => list = shorter.first(alloc, count)?,
             None => start = start.saturating_add(piece.max(1)),
         }
     }
     Ok(Some(course.with(list)))
+}
+
+// After how many events the run differs, if it does.
+fn difference<P: Player>(
+    player: &mut P,
+    alloc: Global,
+    course: &Course,
+) -> Result<Option<u64>, AllocError> {
+    let (tally, fault) = player.play(alloc, course)?;
+    Ok(fault.map(|_| tally.events))
 }
 
 // The events but for so many from this place on.

@@ -47,14 +47,23 @@ fn push_said(alloc: Global, frames: &mut Vec<u8>, words: &str) -> Result<(), Wor
     }
 }
 
-/// The bytes of these hexadecimal digits.
+/// The bytes of hexadecimal digits, between which blanks may be.
 ///
 /// # Errors
 ///
-/// `Unknown` if they are none, or of an odd number; `Memory` if memory runs out.
+/// `Unknown` if they are none, or an odd number of them is in one piece; `Memory` if memory runs
+/// out.
 pub fn read_hex(alloc: Global, digits: &str) -> Result<Vec<u8>, WordsFault> {
+    let mut bytes = Vec::new(alloc);
+    for piece in digits.split(' ') {
+        push_hex(alloc, &mut bytes, piece)?;
+    }
+    Ok(bytes)
+}
+
+fn push_hex(alloc: Global, bytes: &mut Vec<u8>, digits: &str) -> Result<(), WordsFault> {
     match hex::decode(alloc, digits.as_bytes()) {
-        Ok(bytes) => Ok(bytes),
+        Ok(piece) => Ok(bytes.extend_from_slice(&piece)?),
         Err(FromHexError::OutOfMemory) => Err(WordsFault::Memory),
         Err(_) => Err(WordsFault::Unknown),
     }

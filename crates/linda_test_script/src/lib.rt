@@ -5,9 +5,10 @@
 //! that linda_shell_text writes; tuples and templates are written as people type them. What is read
 //! says exactly the text that it was read from. A test plays what its script says and compares what
 //! came with the whole script, which `tidied` gives; a program plays the rows on its standard
-//! input, and writes them with what came.
+//! input, and writes those that came otherwise.
 #![tactic(auto)]
 
+mod came;
 mod fault;
 mod frames;
 mod kept;
@@ -18,6 +19,7 @@ mod reply;
 mod rows;
 mod string;
 
+pub use came::{done, tell, tell_found, tell_two};
 pub use fault::WordsFault;
 pub use frames::{read_hex, said_frames, told_frames};
 pub use kept::{tell_replies, tell_tuple};

@@ -11,8 +11,8 @@
 //!
 //! A row begins with a line `== SUBJECT: what is to be seen`, and the player begins anew there. A
 //! line that begins with `>` is wanted of the line before it; a line that begins with `#`, and an
-//! empty one, says nothing; each other line is played. The rows come as they say if their text,
-//! with what came in place of what is wanted, is the text that it was.
+//! empty one, says nothing; each other line is played. A row comes as it says if its text, with
+//! what came in place of what is wanted, is the text that it was.
 
 mod running;
 mod runs;
@@ -47,12 +47,10 @@ pub trait Player {
 /// What came of rows.
 #[derive(Drop)]
 pub struct Played {
-    /// How many rows there are.
-    pub rows: u64,
-    /// Their text, line by line, with what came of a line in place of what is wanted of it. After a
-    /// line that says nothing to do is `> ? not understood`.
-    pub came: String,
-    /// Of each row that came otherwise its number, its heading, and the first line that did.
+    /// How many rows came as they say.
+    pub as_wanted: u64,
+    /// Of each row that came otherwise its number, its heading, and the first line that did. After
+    /// a line that says nothing to do comes `> ? not understood`.
     pub others: String,
 }
 
@@ -67,8 +65,7 @@ pub fn play_rows<P: Player>(
     rows: &str,
 ) -> Result<Played, WordsFault> {
     let mut played = Played {
-        rows: 0,
-        came: String::new(alloc),
+        as_wanted: 0,
         others: String::new(alloc),
     };
     let mut row = Row::new(alloc);
@@ -83,15 +80,16 @@ pub fn play_rows<P: Player>(
     Ok(played)
 }
 
-// Appends what came of a row, and how it differs from what is wanted.
+// Counts a row that came as it says, or says how it differs. What is before the first one is no
+// row, but has to come as it says too.
 fn end_row(row: &Row, played: &mut Played) -> Result<(), AllocError> {
-    played.rows = row.number;
-    played.came.push_str(row.texts.came())?;
-    if row.texts.are_one() {
-        Ok(())
-    } else {
-        row.texts.tell_difference(row.number, &mut played.others)
+    if !row.texts.are_one() {
+        return row.texts.tell_difference(row.number, &mut played.others);
     }
+    if row.number > 0 {
+        played.as_wanted = played.as_wanted.saturating_add(1);
+    }
+    Ok(())
 }
 
 /// The row that is played, or the lines before the first one.

@@ -1,48 +1,18 @@
-//! Simulator of a server: its connections, its disks, its clock and its clients in one thread of
-//! one process, all by a seed. Each line of standard input says a run; what came of it is a line
-//! of standard output. A run that differs from the model prints how, and the exit status is 1.
+//! Simulator: a server with its connections, disks, clock and clients, or clients over several
+//! servers, in one thread of one process, all by a seed. Each line of standard input says a run,
+//! one of clients after the word `clients`; what came of it is a line of standard output. A run
+//! that differs from what has to be prints how, and the exit status is 1.
 #![tactic(auto)]
 
-mod asks;
-mod bank;
-mod check;
-mod client;
-mod compare;
-mod conn;
-mod course;
-mod dice;
-mod disk;
-mod draw;
-mod events;
-mod group;
-mod keep;
-mod lines;
-mod lives;
-mod machine;
-mod model;
-mod net;
-mod notes;
-mod print;
-mod rest;
-mod rig;
-mod scarce;
-mod shrink;
-mod side;
-mod tally;
-mod wires;
-mod words;
-mod world;
+mod clients;
+mod servers;
 
-use crate::course::Course;
-use crate::lines::{How, read_line};
-use crate::lives::play;
-use crate::print::{print_course, print_difference, print_tally};
-use crate::shrink::shrink;
-use crate::tally::Tally;
-use crate::world::World;
+use crate::clients::run::Clients;
+use crate::servers::run::Servers;
+use linda_test_runs::{Tally, play_line};
 use std::alloc::Global;
 use std::io;
-use std::io::{ErrorKind, Input};
+use std::io::Input;
 use std::net::Net;
 use std::process::ExitCode;
 use std::sync::Wait;
@@ -50,85 +20,28 @@ use std::sync::Wait;
 /// The exit status if a run differs, or could not be played.
 const DIFFERS: u8 = 1;
 
-// Plays a run, and says whether it is as it has to be.
-fn play_course<R: Print + Wait + Net>(
-    rt: &R,
-    alloc: Global,
-    how: How,
-    course: &Course,
-    all: &mut Tally,
-) -> io::Result<bool> {
-    let Ok(world) = play(rt, alloc, course) else {
-        return Err(io::Error::from(ErrorKind::OutOfMemory));
-    };
-    all.add_all(&world.tally);
-    let is_same = how != How::Twice || is_same(rt, alloc, course, &world);
-    print!(rt; "seed {}, {} events: ", course.seed, course.len())?;
-    let word = match (world.fault, is_same) {
-        (Some(_), _) => "differs",
-        (None, true) => "no difference",
-        (None, false) => "another run, played again",
-    };
-    println!(rt; "{}", word)?;
-    if how == How::Tell {
-        print_tally(rt, &world.tally)?;
-    }
-    if let Some(fault) = world.fault {
-        print_difference(rt, &world, fault)?;
-        if how == How::Shrink {
-            print_shrunk(rt, alloc, course)?;
-        }
-    }
-    Ok(world.fault.is_none() && is_same)
-}
-
-// Prints a run of few events that differs.
-fn print_shrunk<R: Print + Wait + Net>(rt: &R, alloc: Global, course: &Course) -> io::Result<()> {
-    match shrink(rt, alloc, course) {
-        Ok(Some(few)) => print_course(rt, &few),
-        Ok(None) => Ok(()),
-        Err(_) => Err(io::Error::from(ErrorKind::OutOfMemory)),
-    }
-}
-
-// Whether the run is the same if it is played again.
-fn is_same<R: Wait + Net>(rt: &R, alloc: Global, course: &Course, world: &World) -> bool {
-    match play(rt, alloc, course) {
-        Ok(again) => again.tally == world.tally && again.fault.is_some() == world.fault.is_some(),
-        Err(_) => false,
-    }
-}
-
-// Plays the run of a line.
-fn play_line<R: Print + Wait + Net>(
-    rt: &R,
-    alloc: Global,
-    line: &str,
-    all: &mut Tally,
-) -> io::Result<bool> {
-    match read_line(alloc, line) {
-        Ok(Some((how, course))) => play_course(rt, alloc, how, &course, all),
-        Ok(None) => {
-            println!(rt; "not understood")?;
-            Ok(false)
-        }
-        Err(_) => Err(io::Error::from(ErrorKind::OutOfMemory)),
-    }
-}
-
-// Plays all lines. A line `all happened` has to come after runs in which all happened that may.
+// Plays all lines.
 fn play_all<R: Input + Print + AllocGlobal + Wait + Net>(rt: &R) -> io::Result<bool> {
     let lines = io::read_to_string(rt.alloc(), rt.reader())?;
-    let mut all = Tally::new();
+    play_lines(rt, rt.alloc(), &mut Servers::new(rt), lines.as_str())
+}
+
+fn play_lines<R: Print + Wait + Net>(
+    rt: &R,
+    alloc: Global,
+    servers: &mut Servers<'_, R>,
+    lines: &str,
+) -> io::Result<bool> {
+    let mut clients = Clients::new();
+    let mut of_servers = Tally::new();
+    let mut of_clients = Tally::new();
     let mut is_so = true;
-    for line in lines.as_str().lines() {
-        if line == "all happened" {
-            let missing = all.missing();
-            println!(rt; "{}", missing.unwrap_or("all happened"))?;
-            is_so = missing.is_none() && is_so;
-        } else {
-            is_so = play_line(rt, rt.alloc(), line, &mut all)? && is_so;
-        }
+    for line in lines.lines() {
+        let is_this = match line.strip_prefix("clients ") {
+            Some(line) => play_line(rt, alloc, &mut clients, &mut of_clients, line)?,
+            None => play_line(rt, alloc, servers, &mut of_servers, line)?,
+        };
+        is_so = is_this && is_so;
     }
     Ok(is_so)
 }

@@ -1,15 +1,18 @@
 //! `linda inspect`: its command, and what is read of its matches.
 
-ghost use Rattle.std.specs.Prelude.{IfOk, IfSome};
+ghost use Rattle.std.specs.Prelude.{codes, IfOk};
 ghost use Rattle.clap.specs.Words.{found_of};
-ghost use Rattle.linda_args.specs.Commands.{InspectsBy};
+ghost use Rattle.linda_args.specs.Commands.{IsOf};
 ghost use Rattle.linda_args.specs.Options.{options_of};
 ghost use Rattle.linda_args.specs.Rules as rules;
 ghost use Rattle.linda_args.specs.Rules.{IsCommand};
 
 use super::Task;
-use super::args::{bare_command, flag, required_positional, with_arg};
-use super::options::{EXPLAIN, EXPLAIN_END, explains, is_set};
+use super::args::bare_command;
+use super::no_task::NoTask;
+use super::options::{EXPLAIN_END, explains, is_set, text_of};
+use super::table::{ArgForm, Bond, Entry, with_entries};
+use clap::builder::ValueParser;
 use clap::{ArgMatches, Command};
 use linda_inspect::Lists;
 use std::alloc::{AllocError, Global};
@@ -23,43 +26,67 @@ pub(super) fn inspect_command<'a>(alloc: Global) -> Result<Command<'a>, AllocErr
 {
     let about =
         "Show what the store in a folder holds, and whether it would be served; nothing is written";
-    let folder = required_positional(alloc, DIR, "DIR", "The folder of the store");
-    let first = bare_command(alloc, INSPECT, about, INSPECTING).arg(folder);
-    let second = with_arg(first, flag(alloc, TUPLES, "A line for each tuple"));
-    let help = "A line for each client, with its kept reply";
-    let third = with_arg(second, flag(alloc, CLIENTS, help));
-    let help = "One JSON object instead of the lines";
-    let fourth = with_arg(third, flag(alloc, JSON, help));
-    with_arg(fourth, flag(alloc, EXPLAIN, EXPLAIN_END))
+    let bare = bare_command(alloc, INSPECT, about, INSPECTING);
+    with_entries(alloc, bare, &ENTRIES)
 }
+
+/// Its arguments.
+const ENTRIES: [Entry; 5] = [
+    Entry {
+        name: "dir",
+        value: "DIR",
+        help: "The folder of the store",
+        form: ArgForm::Word,
+        parser: ValueParser::String,
+        bond: Bond::Required,
+    },
+    Entry {
+        name: "tuples",
+        value: "",
+        help: "A line for each tuple",
+        form: ArgForm::Flag,
+        parser: ValueParser::Bool,
+        bond: Bond::Optional,
+    },
+    Entry {
+        name: "clients",
+        value: "",
+        help: "A line for each client, with its kept reply",
+        form: ArgForm::Flag,
+        parser: ValueParser::Bool,
+        bond: Bond::Optional,
+    },
+    Entry {
+        name: "json",
+        value: "",
+        help: "One JSON object instead of the lines",
+        form: ArgForm::Flag,
+        parser: ValueParser::Bool,
+        bond: Bond::Optional,
+    },
+    EXPLAIN_END,
+];
 
 /// What is found below `inspect`.
-pub(super) fn inspect_of(alloc: Global, below: &ArgMatches) -> Result<Option<Task>, AllocError>
-    ensures { IfOk result (λ found. IfSome found (InspectsBy (options_of (found_of below.now)))) }
+///
+/// # Errors
+///
+/// `NoTask` if memory runs out.
+pub(super) fn inspect_of(alloc: Global, below: &ArgMatches) -> Result<Task, NoTask>
+    ensures { IfOk result (IsOf (codes "inspect") (options_of (found_of below.now))) }
 {
-    let Some(text) = below.get_str(DIR) else {
-        return Ok(None);
-    };
-    let dir = String::from_str(alloc, text)?;
+    let dir = text_of(alloc, below, "dir")?;
     let lists = Lists {
-        tuples: is_set(below, TUPLES),
-        clients: is_set(below, CLIENTS),
+        tuples: is_set(below, "tuples"),
+        clients: is_set(below, "clients"),
     };
-    Ok(Some(Task::Inspect {
+    Ok(Task::Inspect {
         dir,
         lists,
-        json: is_set(below, JSON),
+        json: is_set(below, "json"),
         explain: explains(below),
-    }))
+    })
 }
-
-const DIR: &str = "dir";
-
-const TUPLES: &str = "tuples";
-
-const CLIENTS: &str = "clients";
-
-const JSON: &str = "json";
 
 const INSPECTING: &str = "Examples:\n  \
     mkdir store\n  \

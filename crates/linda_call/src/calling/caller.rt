@@ -2,12 +2,13 @@
 //! written.
 
 mod kept_replies;
+mod next_alarm;
 mod puts;
 
 ghost use Rattle.std.specs.Prelude.{◌≤◌, length};
 ghost use Rattle.linda_client.specs.declared.limits.TheConstants.{MAX_SERVERS};
 
-use super::clock::{is_late, ticks_in};
+use super::clock::{is_late, pause_for_welcome, pause_until, ticks_in};
 use super::fault::CallFault;
 use super::manner::Manner;
 use super::party::Party;
@@ -17,6 +18,7 @@ use linda_net_proxy::{EventInbox, ServerEvent, ServerLink};
 use linda_shell_text::{Request, behind_word, read_request, write_outcome, write_refusal};
 use linda_text::skip_blanks;
 use linda_wire::Message;
+use next_alarm::next_alarm;
 use std::alloc::Global;
 use std::io::Write;
 use std::sync::Wait;
@@ -86,7 +88,8 @@ impl Caller<'_> {
             let Some(server) = self.party.first_unmet() else {
                 return Ok(());
             };
-            if let Some((server, arrival)) = self.inbox.take(rt) {
+            let now = self.ticks(rt)?;
+            if let Some((server, arrival)) = self.inbox.take(rt, pause_for_welcome(now)) {
                 self.handle_arrival(rt, alloc, server, arrival, writer)?;
             } else if is_late(self.ticks(rt)?) {
                 return Err(CallFault::NoConnection(server));
@@ -200,30 +203,33 @@ impl Caller<'_> {
         writer: &mut W,
     ) -> Result<(), CallFault> {
         self.tick(rt, alloc, writer)?;
+        let alarm = next_alarm(alloc, &request, self.ticks(rt)?)?;
         match self.party.ask(alloc, request) {
             Ok(reaction) => {
                 if self.perform_reaction(rt, alloc, reaction, writer)? {
                     return Ok(());
                 }
-                self.wait(rt, alloc, writer)
+                self.wait(rt, alloc, alarm, writer)
             }
             Err(fault) => self.refuse(alloc, fault, writer),
         }
     }
 
-    // Waits for the outcome of what was asked for.
+    // Waits for the outcome of what was asked for, of which this alarm comes first.
     fn wait<S: Wait + Clock, W: Write>(
         &mut self,
         rt: &S,
         alloc: Global,
+        alarm: Option<u64>,
         writer: &mut W,
     ) -> Result<(), CallFault> {
         for _ in rt.forever() {
-            let is_done = match self.inbox.take(rt) {
+            let pause = pause_until(self.ticks(rt)?, alarm);
+            let is_done = match self.inbox.take(rt, pause) {
                 Some((server, arrival)) => self.handle_arrival(rt, alloc, server, arrival, writer)?,
-                None => self.tick(rt, alloc, writer)?,
+                None => false,
             };
-            if is_done {
+            if is_done || self.tick(rt, alloc, writer)? {
                 return Ok(());
             }
         }

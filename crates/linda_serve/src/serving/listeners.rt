@@ -37,17 +37,6 @@ pub(super) fn keep_socket_open(listeners: &ListeningSockets) -> Option<UnixListe
     socket.try_clone().ok()
 }
 
-/// The listener of a port whose connections have two threads each, if the plan wants that.
-pub(super) fn by_threads<'a>(
-    listeners: &'a ListeningSockets,
-    plan: &ServePlan,
-) -> Option<&'a TcpListener> {
-    if !plan.by_threads || listeners.socket.is_some() {
-        return None;
-    }
-    listeners.port.as_ref()
-}
-
 /// Listens on a port of this machine. As many connections may wait there as the system allows.
 ///
 /// # Errors

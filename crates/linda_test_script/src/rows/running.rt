@@ -5,25 +5,20 @@ use std::io;
 use std::io::{ErrorKind, Input};
 use std::process::ExitCode;
 
-/// The exit status if a row did not come as it says.
-const OTHERWISE: u8 = 1;
-
 /// The exit status if standard input or output fails, or memory runs out.
 const REFUSED: u8 = 3;
 
-/// Plays the rows on standard input, and writes what came on standard output: the same text, if
-/// each row came as it says. On standard error are how many rows there are, and those that did not,
-/// each with its first line that came otherwise.
+/// Plays the rows on standard input. On standard output are those that came otherwise than they
+/// say, each with its first line that did, and at the end how many came as they say.
 ///
-/// The exit status is 0 if what came is the text that was read; 1 if it is not; 3, with one line on
-/// standard error, if standard input or output fails or memory runs out.
+/// The exit status is 0; it is 3, with one line on standard error, if standard input or output
+/// fails or memory runs out.
 pub fn run_rows<R: Input + Print + Eprint + AllocGlobal, P: Player>(
     rt: &R,
     player: &mut P,
 ) -> ExitCode {
-    match rows_come_so(rt, player) {
-        Ok(true) => ExitCode::SUCCESS,
-        Ok(false) => ExitCode::from(OTHERWISE),
+    match print_rows(rt, player) {
+        Ok(()) => ExitCode::SUCCESS,
         Err(fault) => {
             let memory = fault.kind() == ErrorKind::OutOfMemory;
             let _ = rt.eprintln(if memory { "memory" } else { "io" });
@@ -32,17 +27,15 @@ pub fn run_rows<R: Input + Print + Eprint + AllocGlobal, P: Player>(
     }
 }
 
-// Whether what came is the text that was read; it is written, and what is reported of it.
-fn rows_come_so<R: Input + Print + Eprint + AllocGlobal, P: Player>(
+// Plays the rows, and writes what came of them.
+fn print_rows<R: Input + Print + Eprint + AllocGlobal, P: Player>(
     rt: &R,
     player: &mut P,
-) -> io::Result<bool> {
+) -> io::Result<()> {
     let rows = io::read_to_string(rt.alloc(), rt.reader())?;
     let Ok(played) = play_rows(rt.alloc(), player, rows.as_str()) else {
         return Err(io::Error::from(ErrorKind::OutOfMemory));
     };
-    rt.print(played.came.as_str())?;
-    rt.eprint(played.others.as_str())?;
-    eprintln!(rt; "{} rows", played.rows)?;
-    Ok(played.came.as_str() == rows.as_str())
+    rt.print(played.others.as_str())?;
+    println!(rt; "{} rows as wanted", played.as_wanted)
 }

@@ -29,12 +29,7 @@ impl RowTexts {
         self.next_line
     }
 
-    /// The text that came.
-    pub(super) fn came(&self) -> &str {
-        self.came.as_str()
-    }
-
-    /// The text that came, for a player to write after it.
+    /// What came so far, for a player to write after it.
     pub(super) fn came_mut(&mut self) -> &mut String {
         &mut self.came
     }

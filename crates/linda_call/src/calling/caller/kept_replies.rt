@@ -2,6 +2,7 @@
 
 use super::{Caller, write_line};
 use crate::calling::asking::{is_answer, kept_ask};
+use crate::calling::clock::LONGEST_PAUSE;
 use crate::calling::fault::CallFault;
 use crate::calling::kept::{kept_reply_line, write_none};
 use linda_net_proxy::ServerEvent;
@@ -47,7 +48,7 @@ impl Caller<'_> {
         }
         self.send(rt, alloc, server, &kept_ask(number))?;
         for _ in rt.forever() {
-            match self.inbox.take(rt) {
+            match self.inbox.take(rt, LONGEST_PAUSE) {
                 None => {}
                 Some((from, ServerEvent::Came(reply))) if is_answer(from, &reply, server, number) =>
                     {

@@ -5,6 +5,7 @@ ghost use Rattle.std.specs.Prelude.{◌≡◌};
 ghost use Rattle.linda_call.specs.Ring as spec;
 
 use super::{Caller, write_line};
+use crate::calling::clock::LONGEST_PAUSE;
 use crate::calling::fault::CallFault;
 use crate::calling::kept::write_without_id;
 use crate::calling::ring::{MOST, PutEvent, PutStatus};
@@ -81,7 +82,7 @@ impl Caller<'_> {
         }
     }
 
-    /// Hears what comes next, if something does within a millisecond.
+    /// Hears what comes next, if something does within a second.
     ///
     /// # Errors
     ///
@@ -92,7 +93,7 @@ impl Caller<'_> {
         alloc: Global,
         writer: &mut W,
     ) -> Result<(), CallFault> {
-        match self.inbox.take(rt) {
+        match self.inbox.take(rt, LONGEST_PAUSE) {
             Some((server, arrival)) => self.hear_beside(rt, alloc, server, arrival, writer),
             None => Ok(()),
         }

@@ -1,6 +1,0 @@
-mod copies;
-mod groups;
-mod memory;
-mod script;
-mod steps;
-mod words;
