@@ -5,6 +5,7 @@ It is no tool by itself. Frames are those of examples/client.py, which is writte
 
 from __future__ import annotations
 
+import collections
 import os
 import socket
 import subprocess
@@ -25,13 +26,13 @@ PIECE = 65_536
 RENEWAL, NO_TICKET = 0.2, 1_000_000
 
 
-# The sockets of `free_port`.
-HELD: list[socket.socket] = []
+# The newest sockets of `free_port`.
+HELD: "collections.deque[socket.socket]" = collections.deque(maxlen=256)
 
 
 def free_port() -> int:
-    """A port that nobody listens on, and that the system gives to no other process while this one lives: it is bound here, and never listened on. Who is
-    told its number may listen there, as a server does, and once nobody listens any more, connections are refused."""
+    """A port that nobody listens on, and that the system gives to no other process while this one lives (and asks for 255 more at most): it is bound here,
+    and never listened on. Who is told its number may listen there, as a server does, and once nobody listens any more, connections are refused."""
     held = socket.socket()
     held.setsockopt(socket.SOL_SOCKET, socket.SO_REUSEADDR, 1)
     held.bind(("127.0.0.1", 0))
@@ -114,7 +115,8 @@ def rest(pid: int) -> None:
 
 
 def begin(folder: Path, port: int, program: Path = PROGRAM, words: tuple[str, ...] = ()) -> "subprocess.Popen[str]":
-    return subprocess.Popen([program, "serve", "--port", str(port), "--dir", str(folder), *words], stdin=subprocess.DEVNULL,
+    """A server as a process, at a port that stays its own after it if none is named."""
+    return subprocess.Popen([program, "serve", "--port", str(port or free_port()), "--dir", str(folder), *words], stdin=subprocess.DEVNULL,
                             stdout=subprocess.PIPE, stderr=subprocess.PIPE, text=True)
 
 

@@ -9,7 +9,7 @@ import client as frames
 from played.calls import Call
 from played.peers import connection
 from played.program import PATIENCE, PROGRAM, TOP, equal, run, wait_until
-from played.servers import Server, free_port
+from played.servers import Server
 
 
 def one_client(folder):
@@ -148,8 +148,7 @@ def a_worker_in_a_shell(folder):
     """The call of square.sh, in docs/GUIDE.md, ends with a shell that is killed: it takes nothing more, and its number is free. A worker whose server is gone
     ends with 1."""
     lines = next(block.lines for block in blocks.blocks(TOP / "docs/GUIDE.md") if block.file() == "square.sh")
-    # (a call goes on asking at the port of a server that was killed: nobody else's server may listen there)
-    with Server(folder, free_port()) as server:
+    with Server(folder) as server:
         script, said = folder / "square.sh", folder / "said"
         script.write_text("\n".join(lines).replace("./linda", str(PROGRAM)).replace("7000", str(server.port)) + "\n")
         boss = Call(1, server.port)

@@ -17,10 +17,10 @@ SNAPSHOT_RECORDS = 1_024
 
 
 class Server:
-    """A server on a folder. `ready` waits for its line; `kill` is kill -9."""
+    """A server on a folder, at a port that stays its own after it (`free_port`) if none is named. `ready` waits for its line; `kill` is kill -9."""
 
     def __init__(self, folder, port=0, *words, before=None):
-        where = () if port is None else ("--port", str(port))
+        where = () if port is None else ("--port", str(port or free_port()))
         self.process = subprocess.Popen([PROGRAM, "serve", *where, "--dir", str(folder), *map(str, words)], preexec_fn=before,
                                         stdout=subprocess.PIPE, stderr=subprocess.PIPE, text=True)
         self.heard = ""

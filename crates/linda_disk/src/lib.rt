@@ -2,9 +2,9 @@
 //! can do all of it.
 //!
 //! `Disk` says of each call what a read gives after it and what a crash may leave after it, in the
-//! words of `specs/View`, `specs/Image` and `specs/Disk`; `docs/DISK.md` of the repository holds
-//! them against the model of a disk. `MemDisk` meets it, and comes out of a crash in each of the
-//! three ways of `Torn`. `FileDisk` is a file of the operating system, of which it keeps a record
+//! words of `specs/View`, `specs/Image` and `specs/Disk`; the README beside this folder holds them
+//! against the model of a disk. `MemDisk` meets it, and comes out of a crash in each of the three
+//! ways of `Torn`. `FileDisk` is a file of the operating system, of which it keeps a record
 //! of what it read and of its calls.
 #![tactic(auto)]
 

@@ -1,4 +1,4 @@
-//! Layouts: the bytes of one value of each kind, worked by hand from `docs/FORMATS.md`.
+//! Layouts: the bytes of one value of each kind, worked by hand from `docs/PROTOCOL.md`.
 //!
 //! A format has one definition, by which its writer and its reader are proved: with two fields of
 //! it swapped both are proved again, and each reads what the other wrote. Here are equations of

@@ -2,7 +2,7 @@
 //!
 //! Real are the clients, `Client` of `linda_client`, the servers, `Durable` of `linda_server` over
 //! two disks in memory, and the frames between them (`linda_wire`). The code that drives a client
-//! keeps to the rules of `docs/EVENTS.md` and `docs/FORMATS.md`. One event is one of these
+//! keeps to the rules of `docs/PROTOCOL.md`. One event is one of these
 //! (`src/clients/events.rt`):
 //!
 //! - One of 2 to 8 clients connects, puts a tuple, waits for up to four things at once (inputs,

@@ -35,7 +35,7 @@
 //! end connections: if what it does differs then, it stops, and is opened again. What it answered
 //! has to be there.
 //!
-//! `src/servers/model.rt` is the table "What a server answers" of `docs/FORMATS.md` over plain
+//! `src/servers/model.rt` is the table "What a server answers" of `docs/PROTOCOL.md` over plain
 //! lists: tuples, kept replies, waits. `src/servers/words.rt` spells frames by that page, and
 //! `src/servers/bank.rt` counts the bytes of banks by its part "Banks". None of them uses the
 //! server's code.

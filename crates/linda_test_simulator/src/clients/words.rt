@@ -1,5 +1,5 @@
 //! Tuples and templates of a run, without memory of their own, and which of them match by
-//! `docs/FORMATS.md`.
+//! `docs/PROTOCOL.md`.
 
 use linda_tuple::{Atom, Pattern, Template, Text, Tuple};
 use std::alloc::{AllocError, Global};

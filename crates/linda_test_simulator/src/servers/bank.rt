@@ -1,4 +1,4 @@
-//! Bank of a server in a run: how many bytes of it are taken, by "Banks" of `docs/FORMATS.md`, and
+//! Bank of a server in a run: how many bytes of it are taken, by "Banks" of `docs/PROTOCOL.md`, and
 //! what finds no room in it.
 
 use crate::servers::words::{Said, Told};

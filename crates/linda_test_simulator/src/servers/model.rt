@@ -1,4 +1,4 @@
-//! Model of a server, by the table "What a server answers" of `docs/FORMATS.md`: a list of tuples,
+//! Model of a server, by the table "What a server answers" of `docs/PROTOCOL.md`: a list of tuples,
 //! a list of kept replies, and a queue of waits.
 
 use crate::servers::bank::{Bank, deed_len, last_len, snapshot_len};

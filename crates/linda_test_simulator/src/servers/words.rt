@@ -1,5 +1,5 @@
 //! Messages and replies of a run, without memory of their own, and the bytes that they have by
-//! `docs/FORMATS.md`.
+//! `docs/PROTOCOL.md`.
 
 use linda_tuple::{Atom, Pattern, Template, Tuple};
 use linda_wire::Message;
