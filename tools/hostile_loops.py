@@ -26,6 +26,8 @@ import time
 from pathlib import Path
 from typing import Callable, Iterator
 
+import clocks
+from played.program import writes_fail_beyond
 from served import PIECE, PROGRAM, Peer, frames, free_port
 
 MIB = 1 << 20
@@ -33,6 +35,8 @@ MIB = 1 << 20
 WIDE = ("y" * 4_095,) * 32
 # How many seconds a load goes on, and how often a wait above its bound is measured.
 SECONDS, TRIES = 2.0, 4
+# The seconds of a minute, by the clock of the machine and by a faster one.
+MINUTE, SHORT_MINUTE = 60, 3
 # Stores are in memory, if the system has such a folder: then no figure is one of its disk.
 SHARED = "/dev/shm" if os.access("/dev/shm", os.W_OK) else None
 
@@ -56,12 +60,13 @@ class Play:
         return self.next
 
     @contextlib.contextmanager
-    def server(self, *words: str, err: int | None = subprocess.DEVNULL, before: Callable[[], None] | None = None) -> Iterator["Served"]:
+    def server(self, *words: str, err: int | None = subprocess.DEVNULL, before: Callable[[], None] | None = None, times: int = 1) -> Iterator["Served"]:
+        """A server, and its clock goes so many times as fast."""
         with tempfile.TemporaryDirectory(prefix="linda-hostile-", dir=SHARED) as name:
             folder = Path(name) / "store"
             folder.mkdir()
             process = subprocess.Popen([self.program, "serve", "--port", str(self.port()), "--dir", folder, *words], stdin=subprocess.DEVNULL,
-                                       stdout=subprocess.PIPE, stderr=err, text=True, preexec_fn=before)
+                                       stdout=subprocess.PIPE, stderr=err, text=True, preexec_fn=before, env=None if times == 1 else clocks.faster(Path(name), times))
             try:
                 assert process.stdout
                 line = process.stdout.readline()
@@ -413,17 +418,11 @@ def ends_of_those_who_never_read(play: Play) -> str:
     return "what is held, and the socket, are free after " + ", ".join(said)
 
 
-def small_files() -> None:
-    """No file may have more than 2,000 bytes: a write beyond fails."""
-    signal.signal(signal.SIGXFSZ, signal.SIG_IGN)
-    resource.setrlimit(resource.RLIMIT_FSIZE, (2_000, 2_000))
-
-
 def a_server_that_is_down(play: Play) -> str:
     """A server whose device failed ends by itself, and says so in its log."""
     ours, theirs = os.pipe()
     with open(ours) as log:
-        with play.server("--log", err=theirs, before=small_files) as server:
+        with play.server("--log", err=theirs, before=writes_fail_beyond(2_000)) as server:
             os.close(theirs)
             idle, peer = server.peer(2), server.peer(1)
             began = time.monotonic()
@@ -484,25 +483,6 @@ def a_log_that_nobody_reads(play: Play) -> str:
         os.close(theirs)
 
 
-def a_folder_that_is_gone(play: Play) -> str:
-    """A server whose folder was removed ends within a minute and some seconds."""
-    with tempfile.TemporaryDirectory(prefix="linda-hostile-") as name, open(Path(name) / "log", "w+") as log:
-        with play.server("--log", err=log.fileno()) as server:
-            peer = server.peer(1)
-            peer.ask(frames.out(1, "a"))
-            for path in server.folder.iterdir():
-                path.unlink()
-            server.folder.rmdir()
-            began = time.monotonic()
-            try:
-                status = server.process.wait(timeout=75)
-            except subprocess.TimeoutExpired:
-                raise Difference("a server whose folder is gone is there 75 s later") from None
-            took = time.monotonic() - began
-        log.seek(0)
-        return f"ended {took:.0f} s after its folder was removed, status {status}: {log.read().splitlines()[-2:]}"
-
-
 def a_crowd_at_once(play: Play) -> str:
     """A thousand connections that come at once are let in at once: none has to try again after a second."""
     count = 1_000
@@ -558,7 +538,7 @@ def a_status_without_files(play: Play) -> str:
     """A server that may have no file more answers what is asked of its status."""
     status = play.port() or free_port()
     with play.server("--status", str(status), before=few_files) as server:
-        peers = []
+        peers: list[socket.socket] = []
         for _ in range(80):
             peers.append(socket.create_connection(("127.0.0.1", server.port)))
         time.sleep(0.5)
@@ -571,6 +551,8 @@ def a_status_without_files(play: Play) -> str:
                     raise Late(f"no answer in 3 s, {server.files()} files open") from None
                 if not answer.startswith(b"HTTP/1.1 200"):
                     raise Difference(f"the answer is {answer[:40]!r}")
+            # (what this one leaves goes to a connection that waits at the port, unless it is kept back for the next one here)
+            time.sleep(0.2)
         for peer in peers:
             peer.close()
         return f"/metrics is answered with {server.files()} files open of 64"
@@ -580,7 +562,7 @@ def a_status_without_files(play: Play) -> str:
 GROUPS: dict[str, tuple[Callable[[Play], str], ...]] = {
     "waits": (one_reader_of_large_tuples, readers_of_large_tuples, putters_of_large_tuples, asks_that_look_at_all, a_crowd_at_once),
     "ends": (leases_of_a_stopped_server, ends_of_those_who_never_read, a_server_that_is_down, a_log_that_nobody_reads, a_socket_of_another_server,
-             a_status_without_files, a_folder_that_is_gone),
+             a_status_without_files),
 }
 CHECKS: dict[str, Callable[[Play], str]] = {check.__name__: check for group in GROUPS.values() for check in group}
 

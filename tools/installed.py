@@ -50,6 +50,8 @@ SCRIPTS = (
     ("postrm upgrade 9.9.9", [RELOAD], []),
     ("postrm remove", [RELOAD], []),
 )
+# The versions of a wheel's METADATA that have its fields.
+METADATA = ("2.1", "2.2", "2.3", "2.4")
 # The exposure, in tenths, that systemd may see in a unit.
 EXPOSURE = "15"
 
@@ -81,6 +83,9 @@ class Installed:
         sums = {name: base64.urlsafe_b64encode(hashlib.sha256(data).digest()).decode().rstrip("=") for name, data in members.items()}
         if rows != {**{name: f"sha256={sums[name]},{len(data)}" for name, data in members.items()}, record: ","}:
             self.wrong.append(f"{wheel.name}: its RECORD does not have its members")
+        told = re.findall(r"^Metadata-Version: (.*)$", members[record.replace("RECORD", "METADATA")].decode(), re.M)
+        if len(told) != 1 or told[0] not in METADATA:
+            self.wrong.append(f"{wheel.name}: its Metadata-Version is {told}, and those with its fields are {', '.join(METADATA)}")
 
     # ---- the archive
 
@@ -181,6 +186,7 @@ class Installed:
         if not shutil.which("dpkg") or not is_possible(*NO_SYSTEMD, "true"):
             self.left_out.append("the package, for which dpkg and namespaces of users are needed")
             return
+        self.look_at_needs(package)
         self.look_at_scripts(package)
         self.look_at_bare_root(package)
         root = self.new_root("root")
@@ -215,6 +221,16 @@ class Installed:
             self.wrong.append(f"{package.name}: a purge leaves the program or the link of its unit, or removes a space")
         if library.exists():
             self.wrong.append(f"{package.name}: a purge leaves {library.relative_to(root)}, which Python still imports")
+
+    def look_at_needs(self, package: Path) -> None:
+        """It is installed only beside a C library that has all that its programs call."""
+        needs = subprocess.run(["dpkg-deb", "--field", package, "Depends"], capture_output=True, text=True, check=True).stdout
+        with subprocess.Popen(["dpkg-deb", "--fsys-tarfile", package], stdout=subprocess.PIPE) as tar, tarfile.open(fileobj=tar.stdout, mode="r|") as archive:
+            programs = {it.name: archive.extractfile(it).read() for it in archive if "/bin/" in it.name and it.isfile()}        # type: ignore[union-attr]
+        called = [tuple(map(int, it.split(b"."))) for data in programs.values() for it in re.findall(rb"GLIBC_(\d+\.\d+)", data)]
+        told = re.findall(r"libc6 \(>= ([\d.]+)\)", needs)
+        if not called or len(told) != 1 or tuple(map(int, told[0].split("."))) < max(called):
+            self.wrong.append(f"{package.name}: {', '.join(programs)} need libc6 {'.'.join(map(str, max(called, default=())))}, and it depends on {needs.strip()}")
 
     def page_with_program(self, page: Path) -> Path:
         """The page of the package, which names the folder of the program."""

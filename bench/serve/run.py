@@ -4,6 +4,8 @@
     bench/serve/run.py [ROUNDS] [SECONDS]     rounds (3) over all cells, SECONDS seconds each (1)
         --program 'FILE [WORD..]'   the program, and further words for its `serve`; ./linda if none is given.
                                     Each further one is a further column
+        --against FILE              FILE, the program of another version, as a further column; how many times as many requests as
+                                    it this one takes, and that as the line of its version in bench/RESULTS.md
         --beside redis              Redis as a further column, if redis-server is here: it appends each write to its
                                     log and syncs that before it answers (`appendfsync always`). A put is RPUSH, a
                                     take LPOP, and a client that waits says BLPOP. Only loads and idle connections are played
@@ -58,6 +60,7 @@ import tempfile
 import time
 from collections import defaultdict
 from dataclasses import dataclass, field
+from datetime import date
 from multiprocessing.sharedctypes import Synchronized
 from pathlib import Path
 from typing import Callable, Iterator
@@ -105,6 +108,12 @@ EARLIER = 1_000_000
 DEEDS_OF_A_RECORD = 64
 SNAPSHOT_TAKEN = re.compile(r" snapshot result taken milliseconds (\d+)")
 PRIORITY = 5
+
+
+# The page of results, the cells of its table of versions, and the last line of its head.
+RESULTS = TOP / "bench/RESULTS.md"
+AGAINST = ("put, 1 client", "put, 64 clients", "put, 1 client with 64 under way", "put and take, 4 clients", "put and take, 16 clients", "put and take, 64 clients")
+AGAINST_HEAD = "|---|---|---|---|---|---|---|---|---|\n"
 
 
 class Missing(Exception):
@@ -375,6 +384,28 @@ def ways_of(programs: list[str], beside: list[str]) -> list[Way]:
     return ways
 
 
+def version_of(program: Path) -> str:
+    said = subprocess.run([program, "--version"], capture_output=True, text=True, check=True).stdout
+    return re.findall(r"\d+\.\d+\.\d+", said)[0]
+
+
+def against(own: Way, other: Way, found: dict[tuple[str, str], Found]) -> dict[str, float]:
+    """By cell how many times as many requests the first takes as the other one, for an append and sync: of each round, and the median of these."""
+    pairs = {name: (found[name, own.name]["fast"], found[name, other.name]["fast"]) for name in LOADS if (name, own.name) in found and (name, other.name) in found}
+    return {name: statistics.median(mine / theirs for mine, theirs in zip(*pair)) for name, pair in pairs.items() if all(pair)}
+
+
+def keep_line(line: str, page: str) -> str:
+    """The page with this line of a version in its table, in the place of one that the version has there."""
+    before, head, after = page.partition(AGAINST_HEAD)
+    if not head:
+        raise ValueError(f"bench/RESULTS.md has no table of versions: {AGAINST_HEAD!r}")
+    table, gap, rest = after.partition("\n\n")
+    version = line.split("|")[1]
+    rows = [row for row in table.splitlines() if row and row.split("|")[1] != version]
+    return before + head + "\n".join(["", *rows, line]).replace("\n", "", 1) + (gap + rest if gap else "\n")
+
+
 def raise_limit() -> None:
     """Lets processes have as many open files as the cells need, or else as many as this user may have."""
     _, hard = resource.getrlimit(resource.RLIMIT_NOFILE)
@@ -390,13 +421,16 @@ def main() -> int:
     options.add_argument("rounds", type=int, nargs="?", default=3)
     options.add_argument("seconds", type=float, nargs="?", default=1.0)
     options.add_argument("--program", action="append", default=[])
+    options.add_argument("--against", type=Path)
     options.add_argument("--beside", action="append", choices=[REDIS], default=[])
     options.add_argument("--only", action="append", default=[])
     options.add_argument("--realtime", action="store_true")
     given = options.parse_args()
     if given.beside and not redis.is_here():
         options.error(f"there is no {redis.PROGRAM}")
-    ways = ways_of(given.program, given.beside)
+    if given.against and (given.program or given.beside):
+        options.error("--against is for this program and another one")
+    ways = ways_of([os.path.relpath(PROGRAM), str(given.against)] if given.against else given.program, given.beside)
     names = [name for name in (*LOADS, *IDLE, START, PAUSE, CROWD) if any(text in name for text in given.only or [""])]
     if given.rounds < 1 or given.seconds < 0.05 or not names:
         options.error("no round, no slice of 50 ms, or no cell")
@@ -436,6 +470,12 @@ def main() -> int:
             print(f"| {name} | {' | '.join(shown(cell) if measure in cell else '' for cell in row)} |")
     for (name, way_name), why in missing.items():
         print(f"\nnot measured: {name}, {way_name}: {why}")
+    if given.against:
+        times, versions = against(*ways, found), [version_of(way.program) for way in ways]
+        print(f"\n{versions[0]} takes so many times as many requests as {versions[1]}: {', '.join(f'{name}: {value:.2f}' for name, value in times.items())}")
+        if all(name in times for name in AGAINST):
+            line = f"| {versions[0]} | {versions[1]} | {date.today()} | {' | '.join(f'{times[name]:.2f}' for name in AGAINST)} |"
+            RESULTS.write_text(keep_line(line, RESULTS.read_text()))
     return int(any(not isinstance(why, Forbidden) for why in missing.values()))
 
 

@@ -2,7 +2,7 @@
 /**
  * The tests of linda_space.mjs: over servers of the program, and against recorded sessions.
  *
- *     clients/node/test_linda_space.mjs
+ *     clients/node/test_linda_space.mjs [TEXT..]      all tests, or those that have one of these texts in their names
  *
  * The program is the one that LINDA names, `linda` at the top of the repository if it is not set. The recorded sessions
  * are those of examples/vectors.json, which tools/client-sessions makes from the documents: there a test plays the
@@ -270,8 +270,8 @@ const outcome = (base, kind, labels, raised, got = null, binds = [], value = nul
 async function encrypted(scene, port) {
     const [key, certificate] = ['key', 'certificate'].map((name) => path.join(scene.folder, name));
     const words = ['req', '-x509', '-newkey', 'ec', '-pkeyopt', 'ec_paramgen_curve:P-256', '-nodes', '-subj', '/CN=linda', '-addext', 'subjectAltName=DNS:linda'];
-    const { status, stderr } = spawnSync('openssl', [...words, '-keyout', key, '-out', certificate], { encoding: 'utf8' });
-    assert.equal(status, 0, stderr);
+    const [status] = await once(spawn('openssl', [...words, '-keyout', key, '-out', certificate], { stdio: 'ignore' }), 'close');
+    assert.equal(status, 0);
     scene.encrypted = 0;
     const listener = tls.createServer({ key: readFileSync(key), cert: readFileSync(certificate) }, (stream) => {
         scene.encrypted += 1;
@@ -304,8 +304,15 @@ function warnings(scene, text) {
     return heard;
 }
 
+/** Groups of tests that mostly wait, and so are played beside each other. Others, in which this program does nothing else for seconds, come after them. */
+const GROUPS = [];
+const beside = (name, work) => GROUPS.push([name, work]);
+
+/** Whether a test of this name is left out. */
+const isLeftOut = (name) => process.argv.length > 2 && !process.argv.slice(2).some((text) => name.includes(text));
+
 /** A test with a scene of its own. */
-const play = (name, work) => test(name, { timeout: LIMIT }, (context) => work(new Scene(context)));
+const play = (name, work) => test(name, { timeout: LIMIT, skip: isLeftOut(name) }, (context) => work(new Scene(context)));
 
 // ---- recorded sessions
 
@@ -485,7 +492,7 @@ class Player {
 describe('recorded sessions', () => {
     const sessions = parsed(readFileSync(path.join(TOP, 'examples/vectors.json'), 'utf8')).clients;
 
-    test('all', { timeout: LIMIT }, async () => {
+    test('all', { timeout: LIMIT, skip: isLeftOut('all') }, async () => {
         assert.ok(sessions.length >= 200);
         const wrong = [];
         for (const [place, session] of sessions.entries()) {
@@ -502,7 +509,7 @@ describe('recorded sessions', () => {
 
 // ---- over servers of the program
 
-describe('over servers', { concurrency: 4 }, () => {
+beside('over servers', () => {
     play('puts, reads and takes', async (scene) => {
         const one = await scene.space(await scene.serve(), 7, { fresh: true });
         const { server, id, kind, tuple } = await one.out(['a', 3, 'x', true]);
@@ -1115,7 +1122,7 @@ describe('over servers', { concurrency: 4 }, () => {
 
 // ---- waits, and what an error leaves pending
 
-describe('waits', { concurrency: 4 }, () => {
+beside('waits', () => {
     play('a Hello that is never answered', async (scene) => {
         const fake = await scene.fake((peer) => peer.expect(hello()).then(() => peer.end()));
         await failsAfter(1_500, Space.connect([fake.port], { client: 7, ...SHORT }), NoConnection, { server: 0 });
@@ -1399,7 +1406,7 @@ describe('waits', { concurrency: 4 }, () => {
     play('a take is aborted', async (scene) => {
         const server = await scene.serve();
         const one = await scene.space(server), other = await scene.space(server, 8);
-        const taking = one.choose([In('a', INT).nack(3), In('b').nack(4)], { signal: AbortSignal.timeout(100) });
+        const taking = one.choose([In('a', INT).nack(3), In('b').nack(4)], { signal: AbortSignal.timeout(1_000) });
         const fault = await fails(taking, Aborted, { pending: null, name: 'AbortError' });
         assert.equal(fault.cause.name, 'TimeoutError');
         assert.deepEqual(one.abandon(), [3, 4]);
@@ -1413,7 +1420,7 @@ describe('waits', { concurrency: 4 }, () => {
         const server = await scene.serve();
         const one = await scene.space(server);
         await server.stop();
-        await fails(one.out(['a', 1], { signal: AbortSignal.timeout(100) }), Aborted, { pending: 'out' });
+        await fails(one.out(['a', 1], { signal: AbortSignal.timeout(1_000) }), Aborted, { pending: 'out' });
         await fails(one.take(['a', INT]), Busy);
         server.goOn();
         assert.deepEqual([await one.again(), await one.take(['a', INT])], [new Stored(0, 1, ['a', 1]), ['a', 1]]);
@@ -1643,11 +1650,11 @@ describe('waits', { concurrency: 4 }, () => {
     });
 
     play('a hold is renewed', async (scene) => {
-        const server = await scene.serve('one', 0, '--lease', '2');
+        const server = await scene.serve('one', 0, '--lease', '3');
         const one = await scene.space(server), other = await scene.space(server, 8);
         await one.out(['job', 1]);
         const held = await one.hold(['job', INT]);
-        for (let times = 0; times < 12; times += 1) {           // at most 4 seconds pass before a lease of 2 seconds has run out
+        for (let times = 0; times < 16; times += 1) {           // at most 6 seconds pass before a lease of 3 seconds has run out
             await sleep(400);
             held.renew();
         }
@@ -1783,7 +1790,7 @@ const lostHold = async (scene, space, server, tag = 'job') => {
     return [held, again];
 };
 
-describe('holds', { concurrency: 4 }, () => {
+beside('holds', () => {
     play('isHeld', async (scene) => {
         let server = await scene.serve();
         const one = await scene.space(server);
@@ -2160,7 +2167,7 @@ describe('a number in use', { concurrency: 4 }, () => {
 
 // ---- several at once
 
-describe('several at once', { concurrency: 4 }, () => {
+beside('several at once', () => {
     play('outs and takes over two servers', async (scene) => {
         const servers = [await scene.serve('left'), await scene.serve('right')];
         const one = await scene.space(servers, 7), other = await scene.space(servers, 8);
@@ -2524,7 +2531,7 @@ class Program {
     }
 }
 
-describe('work', { concurrency: 4 }, () => {
+beside('work', () => {
     play('puts results', async (scene) => {
         const server = await scene.serve(), one = await scene.space(server), boss = await scene.space(server, 8);
         await boss.outMany([['job', 0], ['job', 1], ['job', 2], ['job', 3], ['job', 4]]);
@@ -2888,7 +2895,7 @@ describe('work', { concurrency: 4 }, () => {
             if (isAway) throw new Error('away');
             return net.connect({ port, host: '127.0.0.1', noDelay: true });
         };
-        const one = await scene.space(server, 7, { connect, patience: 300 });
+        const one = await patient(() => scene.space(server, 7, { connect, patience: 300 }));
         const options = { stop: Rd('stop'), onerror: (fault) => faults.push(fault) };
         const working = one.work(['job', INT], (job) => ['done', job[1]], options);
         await sleep(50);
@@ -2974,7 +2981,7 @@ const noteOf = (server, client) => path.join(STATE, `${sumOf(`ports ${server.por
 const notedOf = (id, item, port, failed = 0) => (
     `${id} ${sumOf(Buffer.concat([Buffer.from('0200036a6f6202', 'hex'), Buffer.of(1), number(item), Buffer.of(1), number(failed)]))} ${port}`);
 
-describe('jobs that end their worker', { concurrency: 4 }, () => {
+beside('jobs that end their worker', () => {
     play('are counted by the next one', async (scene) => {
         const server = await scene.serve(), boss = await scene.space(server, 8), file = noteOf(server, 7);
         const text = (template, options) => `import { INT, Space, TRIES } from 'linda-space';
@@ -3148,6 +3155,63 @@ describe('jobs that end their worker', { concurrency: 4 }, () => {
 });
 
 /** By itself: it holds the event loop, and tests beside it would miss their times. */
+beside('programs that end, and timers', () => {
+    const BEGIN = `
+        import { INT, Pool, Space } from 'linda-space';
+        const port = Number(process.argv[2]);
+        const timers = () => process.getActiveResourcesInfo().filter((name) => name === 'Timeout').length;
+        process.on('warning', ({ name }) => console.log(name));
+        const space = await Space.connect([port]), pool = new Pool([port], { client: [100, 101], size: 1 });
+        await space.outMany([['held', 1], ['held', 2], ['job', 1], ['job', 2]]);
+    `;
+    /** What a program says that ends by itself once it has nothing to do: this text after those lines, with the port of a server. */
+    const said = async (scene, text) => {
+        const server = await scene.serve();
+        const program = new Program(scene, BEGIN + text, [server.port], { env: { ...process.env, LINDA_STATE: path.join(scene.folder, 'state') } });
+        const end = setTimeout(() => program.child.kill('SIGKILL'), LONG / 2);
+        const [status, signal] = await program.ended;
+        clearTimeout(end);
+        assert.deepEqual([status, signal], [0, null], `it is there after ${LONG / 2000} s: ${program.said}`);
+        return program.said;
+    };
+
+    play('no timer is left of a call that has ended', async (scene) => {
+        assert.equal(await said(scene, `
+            await space.take(['job', INT], { timeout: 3_600_000 });
+            await pool.take(['job', INT], { timeout: 3_600_000 });
+            const offer = await pool.hold(['held', 1]);
+            const late = pool.look(['never'], { timeout: 3_600_000 });
+            offer.release();
+            await late;
+            console.log(timers());
+        `), '0\n');
+    });
+
+    // (its number is one of a file, which a lock of this program keeps)
+    play('a program ends that has a number, holds tuples and keeps one', async (scene) => {
+        assert.equal(await said(scene, `
+            await space.hold(['held', 1], { keep: 50 });
+            await space.hold(['held', 2]);
+            await pool.hold(['job', 1], { keep: 50 });
+            console.log('at its end');
+        `), 'at its end\n');
+    });
+
+    play('a time of more than 24 days is no time of a millisecond', async (scene) => {
+        assert.equal(await said(scene, `
+            const long = 40 * 24 * 3_600_000, over = new AbortController();
+            const waits = [space.take(['never'], { timeout: long, signal: over.signal })];
+            const offer = await pool.hold(['held', 1], { keep: long });
+            waits.push(pool.take(['never'], { timeout: long, signal: over.signal }));
+            await new Promise((done) => { setTimeout(done, 100); });
+            over.abort();
+            console.log((await Promise.allSettled(waits)).map(({ reason }) => reason.name).join());
+            await space.work(['job', INT], () => new Promise((done) => { setTimeout(done, 20); }), { limit: long, grace: long, timeout: 0 });
+            console.log('at its end');
+        `), 'AbortError,AbortError\nat its end\n');
+    });
+});
+
 describe('work that holds the event loop', () => {
     play('a function that is late has failed', async (scene) => {
         const server = await scene.serve(), one = await scene.space(server);
@@ -3175,7 +3239,7 @@ describe('work that holds the event loop', () => {
     });
 });
 
-describe('a pool', { concurrency: 4 }, () => {
+beside('a pool', () => {
     play('one signal for many calls', async (scene) => {
         const heard = [], hear = ({ name }) => { if (name === 'MaxListenersExceededWarning') heard.push(name); };
         process.on('warning', hear);
@@ -3479,13 +3543,13 @@ describe('a pool', { concurrency: 4 }, () => {
         const { choose } = Space.prototype, hour = 3_600_000;
         const left = new Promise((resolve) => {
             Space.prototype.choose = function seen(branches, limits) {
-                if (branches[0].template[0] === 'none') resolve(limits.timeout);
+                if (branches[0]?.template?.[0] === 'counted') resolve(limits.timeout);
                 return choose.call(this, branches, limits);
             };
         });
         scene.closed.push(() => { Space.prototype.choose = choose; });
         const abort = new AbortController();
-        const waiting = fails(pool.choose([In('none')], { timeout: hour, signal: abort.signal }), Aborted);
+        const waiting = fails(pool.choose([In('counted')], { timeout: hour, signal: abort.signal }), Aborted);
         // (after it began and before it has a member, however late each line comes)
         const begin = performance.now();
         await sleep(100);
@@ -3500,8 +3564,9 @@ describe('a pool', { concurrency: 4 }, () => {
         assert.equal(await pool.look(['late']), null);
         // Each block has a member, and puts by another one: none is free.
         const blocks = range(2, 4).map((item) => pool.holding(['job', item], {}, () => pool.out(['done', item], { timeout: 200 })));
-        const [{ reason }] = (await Promise.allSettled(blocks)).filter(({ status }) => status === 'rejected');
-        assert.ok(reason instanceof TimedOut && reason.message === unserved.message, reason.stack);
+        // (once the first has failed its member is free, so that the other one may wait for its server)
+        const faults = (await Promise.allSettled(blocks)).filter(({ status }) => status === 'rejected').map(({ reason }) => reason);
+        assert.ok(faults.some((fault) => fault instanceof TimedOut && fault.message === unserved.message), faults.map(String).join());
         assert.equal(await pool.purge(['job', INT]), 2);
     });
 
@@ -3627,7 +3692,7 @@ describe('a pool', { concurrency: 4 }, () => {
 
 // ---- client numbers
 
-describe('client numbers', { concurrency: 4 }, () => {
+beside('client numbers', () => {
     play('ports as texts', async (scene) => {
         const { port } = await scene.serve();
         for (const [place, text] of [`localhost:${port}`, `127.0.0.1:${port}`].entries()) {
@@ -3752,7 +3817,7 @@ describe('client numbers', { concurrency: 4 }, () => {
     });
 
     const skip = process.platform === 'linux' ? false : 'there are no such sockets';
-    test('a number stays with its space while its server is away', { skip, timeout: LIMIT }, async (context) => {
+    test('a number stays with its space while its server is away', { skip: skip || isLeftOut('a number stays with its space while its server is away'), timeout: LIMIT }, async (context) => {
         const scene = new Scene(context), ports = [];
         let left = await scene.serve('left'), right = await scene.serve('right');
         ports.push(left.port, right.port);
@@ -3860,7 +3925,7 @@ describe('client numbers', { concurrency: 4 }, () => {
         let greeted = 0;
         const connect = () => {
             greeted += 1;
-            if (greeted === 10) looker.stream.destroy();
+            if (greeted === 3) looker.stream.destroy();
             return net.connect({ port, host: '127.0.0.1', noDelay: true });
         };
         const one = await Space.connect([port], { numbers: file }), two = await Space.connect([port], { numbers: file, connect });
@@ -3963,4 +4028,10 @@ describe('packed values', () => {
         await one.out(['note', ...pack([1, 'x'], 1)]);
         assert.deepEqual(unpack((await one.read(['note', TEXT])).slice(1)), [1, 'x']);
     });
+});
+
+// ---- all
+
+describe('beside each other', { concurrency: 2 }, () => {
+    for (const [name, work] of GROUPS) describe(name, { concurrency: 4 }, work);
 });

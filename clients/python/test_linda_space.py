@@ -42,12 +42,69 @@ import client as frames  # noqa: E402
 
 PROGRAM = Path(os.environ.get("LINDA", TOP / "linda"))
 PATIENCE = 60
+# The processes that play tests.
+LANES = 4
 MOST_CLIENTS = 65_536
 
 
 def setUpModule() -> None:
     """Makes Ctrl-C raise KeyboardInterrupt, though a shell that begins this in the background lets it be ignored."""
     signal.signal(signal.SIGINT, signal.default_int_handler)
+
+
+class Next(unittest.TestSuite):
+    """The groups of tests that come out of a pipe, by their numbers, which other processes read too: each group goes to one of them."""
+
+    def __init__(self, numbers: int, groups: List[List[unittest.TestCase]]) -> None:
+        super().__init__()
+        self.numbers, self.groups, self._cleanup = numbers, groups, False
+
+    def __iter__(self) -> Iterator[unittest.TestCase]:
+        while number := os.read(self.numbers, 2):
+            yield from self.groups[int.from_bytes(number, "big")]
+
+
+class Lanes:
+    """Plays tests in several processes at once: most of the time they wait."""
+
+    def run(self, suite: unittest.TestSuite) -> unittest.TestResult:
+        def tests_of(it: Any) -> Iterator[unittest.TestCase]:
+            if isinstance(it, unittest.TestSuite):
+                for one in it:
+                    yield from tests_of(one)
+            else:
+                yield it
+
+        tests, lanes, whole = list(tests_of(suite)), {}, unittest.TestResult()
+        # (those of made-up ports have the same numbers there, which only one process of the machine may have at a time)
+        together = [test for test in tests if isinstance(test, OverPairs)]
+        groups = [it for it in (together, *([test] for test in tests if test not in together)) if it]
+        ours, theirs = os.pipe()
+        os.write(theirs, b"".join(number.to_bytes(2, "big") for number in range(len(groups))))
+        os.close(theirs)
+        for _ in range(min(LANES, len(groups))):
+            said = tempfile.TemporaryFile("w+")
+            if (pid := os.fork()) == 0:
+                status = 1
+                try:
+                    status = int(not unittest.TextTestRunner(said).run(Next(ours, groups)).wasSuccessful())
+                    said.flush()
+                finally:
+                    os._exit(status)
+            lanes[pid] = said
+        for pid, said in lanes.items():
+            whole.testsRun += 1
+            if os.waitpid(pid, 0)[1] != 0:
+                whole.failures.append((suite, f"lane {whole.testsRun}"))
+            said.seek(0)
+            sys.stderr.write(said.read())
+        print(f"{len(tests)} tests in {len(lanes)} lanes: {len(whole.failures)} of these failed", file=sys.stderr)
+        return whole
+
+
+def main() -> None:
+    """Plays all tests of the program that runs, or those of its words."""
+    unittest.main("__main__", testRunner=Lanes())
 
 
 class Server:
@@ -171,8 +228,8 @@ class Going:
         except BaseException as fault:
             self.ends.put((None, fault))
 
-    def end(self) -> Any:
-        value, fault = self.ends.get(timeout=PATIENCE)
+    def end(self, timeout: float = PATIENCE) -> Any:
+        value, fault = self.ends.get(timeout=timeout)
         if fault is not None:
             raise fault
         return value
@@ -1958,4 +2015,4 @@ class Recorded(unittest.TestCase):
 
 
 if __name__ == "__main__":
-    unittest.main()
+    main()

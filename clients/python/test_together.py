@@ -25,6 +25,7 @@ import unittest
 import weakref
 from collections import deque
 from contextlib import ExitStack
+from types import SimpleNamespace
 from typing import Any, Awaitable, Callable, List, Tuple
 from unittest import mock
 
@@ -44,6 +45,8 @@ def setUpModule() -> None:
 
 
 OFFER, TAKEN = b"\x13", b"\x15"
+# The seconds in which what is woken goes on, beside other work.
+SOON = 15
 FULL, GAP, OLD = 6, 5, 4
 
 
@@ -414,6 +417,12 @@ class Cut(OverPairs):
 
 
 class Pools(WithServers):
+    def until(self, is_so: Callable[[], bool]) -> None:
+        end = time.monotonic() + PATIENCE
+        while not is_so():
+            self.assertLess(time.monotonic(), end)
+            time.sleep(0.001)
+
     def pool(self, server: Any, numbers: Any = range(100, 132), **how: Any) -> Pool:
         pool = Pool([server.port], numbers, **how)
         self.addCleanup(pool.close)
@@ -495,6 +504,72 @@ class Pools(WithServers):
             offer.accept()
         self.assertEqual(late.end(), (0, 2))
         self.assertEqual(pool.take_many("job", INT, count=3), [("job", 3)])
+
+    def test_a_call_that_is_interrupted_in_its_turn_lets_the_next_one_have_it(self) -> None:
+        """Two calls wait for the one member. The first is interrupted just as it has its turn: then the second one has the member, which looks by itself only
+        once an hour here."""
+        pool = self.pool(self.serve(), size=1)
+        pool.out("job", 1)
+        firsts: List[threading.Thread] = []
+
+        class Turn:
+            """A lock by which a call waits for its turn; that of the first one is interrupted."""
+
+            def __init__(self) -> None:
+                self.lock = threading.Lock()
+
+            def acquire(self, timeout: float = -1) -> bool:
+                is_mine = self.lock.acquire(timeout=timeout)
+                if timeout != -1 and threading.current_thread() in firsts:
+                    raise KeyboardInterrupt
+                return is_mine
+
+            def release(self) -> None:
+                self.lock.release()
+
+        def first() -> Any:
+            firsts.append(threading.current_thread())
+            return pool.look("nothing")
+
+        hold = pool.hold("job", INT)
+        hold.__enter__()
+        with mock.patch("linda_space.pool.threading", SimpleNamespace(Lock=Turn)), mock.patch("linda_space.pool.LOOK", 3_600.0):
+            calls = []
+            for call in (first, lambda: pool.look("nothing")):
+                calls.append(Going(call))
+                self.until(lambda: len(pool._waiting) == len(calls))
+            hold.__exit__(None, None, None)
+            with self.assertRaises(KeyboardInterrupt):
+                calls[0].end()
+            self.assertIsNone(calls[1].end(SOON))
+
+    def test_a_member_whose_call_failed_is_not_lent_at_once(self) -> None:
+        """Neither one whose call failed for want of a server, nor one that could not finish what it had pending: for a while others are lent before it."""
+        server = self.serve()
+        for is_pending in (False, True):
+            pool = self.pool(server, size=2)
+            pool.out("job", 1)
+            with pool.hold("job", INT):
+                pool.out("another", 1)                              # (so there are two)
+            lent: List[Space] = []
+
+            def look(space: Space, *_: Any, **__: Any) -> None:
+                lent.append(space)
+                if len(lent) == 1:
+                    raise NoConnection(0, 1)
+
+            def finish(space: Space, *_: Any, **__: Any) -> None:
+                lent.append(space)
+                if len(lent) == 1:
+                    raise NoConnection(0, 1)
+
+            patches = mock.patch.object(pool, "_finish", finish) if is_pending else mock.patch.object(Space, "look", look)
+            with mock.patch("linda_space.pool.AWAY", 3_600.0), patches:
+                with self.assertRaises(NoConnection):
+                    pool.look("nothing")
+                for _ in range(3):
+                    pool.look("nothing")
+            self.assertEqual([member is lent[0] for member in lent], [True, False, False, False])
 
     def test_what_is_pending_is_waited_for_no_longer_than_patience(self) -> None:
         server = self.serve()
@@ -1194,6 +1269,50 @@ class Async(WithServers):
                     self.assertIsInstance(ended[2], tuple)
         run(course)
 
+    def test_a_member_whose_call_failed_is_lent_last(self) -> None:
+        port = self.serve().port
+
+        async def course() -> None:
+            async with aio.Pool([port], range(100, 200), size=2) as pool:
+                await pool.out("job", 1)
+                async with pool.hold("job", INT):
+                    await pool.out("another", 1)                    # (so there are two)
+                lent: List[aio.Space] = []
+
+                async def look(space: aio.Space, *_: Any, **__: Any) -> None:
+                    lent.append(space)
+                    if len(lent) == 1:
+                        raise NoConnection(0, 1)
+
+                with mock.patch.object(aio.Space, "look", look):
+                    with self.assertRaises(NoConnection):
+                        await pool.look("nothing")
+                    for _ in range(3):
+                        await pool.look("nothing")
+                self.assertEqual([member is lent[0] for member in lent], [True, False, False, False])
+        run(course)
+
+    def test_no_timer_is_left_of_a_wait_that_ended(self) -> None:
+        port = self.serve().port
+
+        async def course() -> None:
+            loop, timers = asyncio.get_running_loop(), []
+
+            def later(*words: Any) -> asyncio.TimerHandle:
+                timers.append(begin(*words))
+                return timers[-1]
+
+            async with aio.Space([port], 7) as space, aio.Pool([port], range(100, 200), size=1) as pool:
+                begin = loop.call_later
+                with mock.patch.object(loop, "call_later", later):
+                    for number in range(5):
+                        await space.out("job", number)
+                        self.assertEqual(await space.take("job", number, timeout=PATIENCE), ("job", number))
+                        self.assertEqual(await asyncio.gather(*(pool.out("job", number, timeout=PATIENCE) for _ in range(2))), [(0, mock.ANY)] * 2)
+            self.assertGreater(len(timers), 10)
+            self.assertEqual([timer for timer in timers if not timer.cancelled()], [])
+        run(course)
+
     def test_aclose_is_cancelled(self) -> None:
         """The task that waits in it is cancelled then, and the pool is closed."""
         port = self.serve().port
@@ -1240,4 +1359,4 @@ class Async(WithServers):
 
 if __name__ == "__main__":
     del OverPairs
-    unittest.main()
+    test_linda_space.main()

@@ -32,6 +32,7 @@ from unittest import mock
 import test_linda_space
 from test_linda_space import PATIENCE, Going, Peer, Server, WithServers, frames, logged, welcome
 
+from linda_space.limits import RENEWAL
 from linda_space import numbers as client_numbers, working
 from linda_space import (
     ANY, INT, TEXT, TRIES, Busy, Choose, Closed, Forked, Gone, In, NoConnection, NoNumber, NumberInUse, Offer, Outcome, OutOfRange, Pool, Rd, Refused, Restored,
@@ -41,9 +42,19 @@ HERE = Path(__file__).resolve().parent
 
 
 def setUpModule() -> None:
-    """What workers log of failures that are wanted here is not printed."""
+    """What workers log of failures that are wanted here is not printed. And an alarm comes to the main thread or waits: other threads, also those that an earlier
+    test left, block it. So a function that blocks it in the main thread cannot be ended by it."""
     test_linda_space.setUpModule()
     logging.disable(logging.CRITICAL)
+    threading.Thread.run = deaf                                 # type: ignore[method-assign]
+
+
+RUN = threading.Thread.run
+
+
+def deaf(thread: threading.Thread) -> None:
+    signal.pthread_sigmask(signal.SIG_BLOCK, [signal.SIGALRM])
+    RUN(thread)
 
 
 def in_a_child(call: Callable[[], Any]) -> str:
@@ -184,6 +195,26 @@ class Holds(WithServers):
             self.assertIsNone(space.take("never", timeout=6))
             self.assertEqual(offer.accept(), ("lock", 1))
         self.assertIsNone(taking.end())
+
+    def test_each_server_has_its_own_time_of_renewal(self) -> None:
+        """A call that waits, and holds at two servers, says something to each once nothing was sent to it for `RENEWAL` seconds, whenever something was sent to
+        the other one."""
+        servers = [self.serve("left"), self.serve("right")]
+        space = self.space(*servers)
+        server, _ = space.out("lock", 1)
+        other, _ = space.out("lock", 2)
+        self.assertNotEqual(server, other)
+        with space.hold("lock", 1), space.hold("lock", 2):
+            now = time.monotonic()
+            for late in (server, other):
+                renewed: List[int] = []
+                with mock.patch.object(space._machine, "renew_at", renewed.extend), mock.patch.object(space._links[server], "said", now), \
+                        mock.patch.object(space._links[other], "said", now):
+                    space._links[late].said = now - RENEWAL + 0.125
+                    self.assertEqual((space._renew_all(now), renewed), (now + 0.125, []))
+                    space._links[late].said = now - RENEWAL
+                    space._renew_all(now)
+                    self.assertEqual(renewed, [late])
 
     def test_keep(self) -> None:
         server = self.serve("one", 0, "--lease", "2")
@@ -1326,4 +1357,4 @@ class Tries(WithWorkers):
 
 
 if __name__ == "__main__":
-    unittest.main()
+    test_linda_space.main()

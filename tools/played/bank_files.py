@@ -177,3 +177,35 @@ def a_bank_begun_anew_meanwhile(folder):
         if is_between:
             met += 1
             equal(out.splitlines()[0], f"left LND2 generation 3 bytes {len(new)}")
+
+
+def banks_that_are_replaced(folder):
+    """A server whose file is removed, moved or replaced goes down, whatever other names the file has: it would write where nobody looks."""
+    def remove(bank):
+        bank.unlink()
+
+    def move(bank):
+        bank.parent.rename(bank.parent.with_name(f"{bank.parent.name}, moved"))
+
+    def replace(bank):
+        (other := bank.with_name("other")).write_bytes(bank.read_bytes())
+        other.rename(bank)
+
+    def link(bank):
+        bank.with_name("second name").hardlink_to(bank)
+        bank.unlink()
+
+    for way in (remove, move, replace, link):
+        for side in ("left", "right"):
+            own = folder / f"{way.__name__} {side}"
+            own.mkdir()
+            with Server(own, 0, "--log") as server:
+                send, receive = connection(server.port)
+                send(frames.hello(1, True) + frames.out(1, "a"))
+                equal([receive(), receive()], ["Welcome last 0", "Stored number 1, id 1"])
+                way(own / f"{side}.bank")
+                status, _, err = server.end()
+            lines = [line for line in err.splitlines() if " removed " in line]
+            # (a folder that is moved has neither bank: the left one is said)
+            equal((status, [line.split(" ", 1)[1] for line in lines]), (3, [f"removed bank {'left' if way is move else side}"]))
+            equal(err.splitlines()[-1], "store: down")

@@ -16,9 +16,9 @@ WELCOME, STORED, OFFER, TAKEN, GONE, REFUSED, LEFT = 0x11, 0x12, 0x13, 0x15, 0x1
 class Call:
     """A client on a command line, which is given a line and waits for what it prints."""
 
-    def __init__(self, number, *words):
+    def __init__(self, number, *words, around=None):
         self.process = subprocess.Popen([PROGRAM, "call", "--client", str(number), *map(str, words)],
-                                        stdin=subprocess.PIPE, stdout=subprocess.PIPE, stderr=subprocess.PIPE, text=True)
+                                        stdin=subprocess.PIPE, stdout=subprocess.PIPE, stderr=subprocess.PIPE, text=True, env=around)
 
     def say(self, line):
         self.process.stdin.write(line + "\n")

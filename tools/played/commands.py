@@ -5,6 +5,7 @@ import subprocess
 import time
 
 import blocks
+import clocks
 import client as frames
 from played.calls import Call
 from played.peers import connection
@@ -186,12 +187,14 @@ def last_of_two_servers(folder):
 
 
 def a_server_that_never_answers(folder):
-    """Something listens and says nothing: after ten seconds the call gives it up."""
+    """Something listens and says nothing: after ten seconds, here of a clock that goes five times as fast, the call gives it up."""
+    times = 5
     with Server(folder) as server, socket.create_server(("127.0.0.1", 0)) as silent:
         for number, ports in ((1, [silent.getsockname()[1]]), (2, [server.port, silent.getsockname()[1]])):
             began = time.monotonic()
-            equal(run("call", "--client", number, *ports, given='out ("a")\n'), (3, "", f"server {len(ports) - 1}: no connection\n"))
-            equal(9.5 < time.monotonic() - began < 9.5 + PATIENCE, True)
+            equal(run("call", "--client", number, *ports, given='out ("a")\n', around=clocks.faster(folder, times)),
+                  (3, "", f"server {len(ports) - 1}: no connection\n"))
+            equal(9.5 < times * (time.monotonic() - began) < 9.5 + times * PATIENCE, True)
 
 
 def numbers_of_lines(folder):
@@ -220,10 +223,10 @@ def ticks_of_the_clock(folder):
 def an_idle_call_without_its_server(folder):
     """The server is away for longer than the tries of a line, and nothing is asked meanwhile."""
     with Server(folder) as server:
-        caller = Call(9, server.port)
+        caller = Call(9, server.port, around=clocks.faster(folder, 10))
         equal(caller.ask('out ("a", 1)'), "9 stored 0 1")
         server.kill()
-        time.sleep(25)
+        time.sleep(25 / 10)
         equal(caller.process.poll(), None)
         with Server(folder, server.port):
             equal(caller.ask('sync in ("a", ?i)'), '9 took 0 1 ("a", 1) binds [1] labels [] raised []')

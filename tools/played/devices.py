@@ -1,20 +1,19 @@
 """Checks of devices that fail: a server that goes down ends all its connections, and then itself."""
 
-import resource
 import socket
 import time
 
 import banks
 import client as frames
 from played.peers import Peer, has_by_rest, keys_that_are_free
-from played.program import SOON, equal, most
+from played.program import SOON, equal, writes_fail_beyond
 from played.servers import SNAPSHOT_RECORDS, Server, free_port, is_refused
 
 
 def connections_of_a_failed_device(folder):
     """If the server goes down, what is not answered is refused Down, every connection ends, one that was never greeted too, and no other is accepted: the
     server ends by itself."""
-    with Server(folder, free_port(), before=lambda: most(resource.RLIMIT_FSIZE, 2000)) as server:
+    with Server(folder, free_port(), before=writes_fail_beyond(2000)) as server:
         with keys_that_are_free(server.port):
             silent, half, waiting = Peer(server.port), Peer(server.port), Peer(server.port, 8)
             half.send(frames.hello(9, True)[:5])
@@ -38,7 +37,7 @@ def a_failed_device_beside_a_peer_that_never_reads(folder):
     bank = banks.spell_bank(1, banks.State(2, {1: frames.spell_items("wide", ("x" * 4_095,) * 32)}))
     (folder / "left.bank").write_bytes(bank)
     (folder / "right.bank").write_bytes(b"\0")
-    with Server(folder, before=lambda: most(resource.RLIMIT_FSIZE, len(bank) + 2_000)) as server:
+    with Server(folder, before=writes_fail_beyond(len(bank) + 2_000)) as server:
         with keys_that_are_free(server.port):
             stuck = Peer(server.port, 2)
         # (so little is kept for it that what the server has spelled for it has no room there when it goes down)
@@ -58,7 +57,7 @@ def a_failed_device_is_told_past_a_stuck_peer(folder):
     """A client does not read the 8 MB that are due to it. The server goes down by the put of another, and the connections of all others end at once,
     whatever becomes of that client."""
     wide = ["x" * 4_095] * 32
-    with Server(folder, before=lambda: most(resource.RLIMIT_FSIZE, 200_000)) as server:
+    with Server(folder, before=writes_fail_beyond(200_000)) as server:
         stuck, other, waiting = Peer(server.port, 1), Peer(server.port, 2), Peer(server.port, 3)
         equal(waiting.ask(frames.ask(1, True, "never"), frames.out(0, "a")), "Refused Old, detail 0")
         stuck.send(*[frames.ask(ticket, False, "wide", *[frames.ANY] * 32) for ticket in range(1, 65)])
@@ -82,7 +81,7 @@ def a_snapshot_ends_a_server(folder):
     size = len(frames.spell_items("a", ()))
     # (a snapshot has more bytes of a client with one tuple than the record of its put, so only the snapshot reaches this length)
     room = 33 + 1_200 * (1 + 4 + 13 + size)
-    with Server(folder, before=lambda: most(resource.RLIMIT_FSIZE, room)) as server:
+    with Server(folder, before=writes_fail_beyond(room)) as server:
         silent, waiting = Peer(server.port), Peer(server.port, 5_000)
         equal(waiting.ask(frames.ask(1, True, "never"), frames.out(0, "a")), "Refused Old, detail 0")
         # (the last one makes it due)
@@ -102,7 +101,7 @@ def a_failed_device_ends_a_crowd(folder):
     for who in (0, 99):
         own = folder / str(who)
         own.mkdir()
-        with Server(own, 0, before=lambda: most(resource.RLIMIT_FSIZE, 2_000)) as server:
+        with Server(own, 0, before=writes_fail_beyond(2_000)) as server:
             peers, others = [], []
             for client in range(100):
                 # (each tenth has one before it that goes, so keys of both loops are free)

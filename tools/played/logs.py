@@ -13,16 +13,26 @@ import banks
 import client as frames
 from played.lines import BANK, TIME, log_lines
 from played.peers import Peer, connection, ended, puts
-from played.program import PATIENCE, equal, most, wait_until
+from played.program import PATIENCE, Late, equal, most, wait_until, writes_fail_beyond
 from played.servers import Server, free_port
 from served import rest, use_of
 
+# How many times as fast the clock of a server goes whose minutes are waited for.
+TIMES = 6
 # The bytes of address space in which a server can begin, and could not have two threads for each of sixty connections.
 LITTLE_ROOM = 200 * 2**20
 
 
+def is_in_first_minute(began, times=TIMES, left=5):
+    """The first minute of a server that began then is not over: what was played is in one line of its log. So many seconds of it are left."""
+    if (gone := time.monotonic() - began) > (60 - left) / times:
+        raise Late(f"what belongs to one minute took {gone:.1f} s")
+
+
 def logs(folder):
-    with Server(folder, 0, "--sessions", "5", "--lease", "5", "--log") as server:
+    times = 2
+    with Server(folder, 0, "--sessions", "5", "--lease", "10", "--log", times=times) as server:
+        began = time.monotonic()
         idle = [Peer(server.port), Peer(server.port), Peer(server.port, 9)]
         puts(server.port, 7, 1100)
         equal(idle[2].ask(frames.out(1, "b")), "Stored number 1, id 1101")
@@ -32,6 +42,7 @@ def logs(folder):
             equal(idle[2].ask(frames.accept(number, number, place)).split(",")[:2], [f"Taken number {number}", f" id {place}"])
         late = Peer(server.port, 8)
         equal(late.ask(frames.ask(1, True, "a", 9)), 'Offer ticket 1, id 9, tuple ("a", 9)')
+        is_in_first_minute(began, times, 20)
         server.hears(" late 1\n")
         for peer in idle:
             peer.close()
@@ -51,6 +62,17 @@ def logs(folder):
                   rf"end cause sessions connections 0 deeds 0 tuples 1099 clients 2 next 1102 {BANK}")
 
 
+def logs_of_a_start(folder):
+    """A snapshot that is taken at a start has a line of its own, after the first one; a start without one has none."""
+    with Server(folder) as server:
+        peer = Peer(server.port, 7)
+        for number in range(1, 31):
+            equal(peer.ask(frames.out(number, "a", "x" * 4_000)), f"Stored number {number}, id {number}")
+    for lines in ([r"opened port \d+ bank right generation 2 .*", rf"snapshot result taken milliseconds \d+ {BANK}"], [r"opened port \d+ bank right generation 2 .*"]):
+        with Server(folder, 0, "--log", "--sessions", "0") as server:
+            log_lines(server.end()[2], *lines, r"end cause sessions connections 0 .*")
+
+
 def logs_of_a_failed_device(folder):
     """The file of the bank in use takes no more: the log says which bank that is."""
     for side, generation in (("left", 1), ("right", 2)):
@@ -59,7 +81,7 @@ def logs_of_a_failed_device(folder):
         (own / "left.bank").write_bytes(b"")
         (own / "right.bank").write_bytes(b"")
         (own / f"{side}.bank").write_bytes(banks.spell_bank(generation, banks.State()))
-        with Server(own, 0, "--log", before=lambda: most(resource.RLIMIT_FSIZE, 2000)) as server:
+        with Server(own, 0, "--log", before=writes_fail_beyond(2000)) as server:
             send, receive = connection(server.port)
             send(frames.hello(7, True) + b"".join(frames.out(number, "a", "x" * 200) for number in range(1, 20)))
             while receive() != "Refused Down, detail 0":
@@ -76,13 +98,13 @@ def logs_of_a_bank_without_room(folder):
     """A bank of the first form that can have no snapshot, since no generation is left: what has no spelling in it is refused Full, which the log counts."""
     (folder / "left.bank").write_bytes(b"\1LND1" + frames.spell_number(2**64 - 1) + frames.spell_number(16, 4) + frames.spell_number(1) + bytes(9))
     (folder / "right.bank").write_bytes(b"\0")
-    with Server(folder, 0, "--log") as server:
-        peer = Peer(server.port, 7)
-        time.sleep(0.5)
+    with Server(folder, 0, "--log", times=TIMES) as server:
+        began, peer = time.monotonic(), Peer(server.port, 7)
         full = "Refused Full, detail 0"
         equal(peer.ask(frames.out(1, "x" * 256)), full)
-        time.sleep(0.5)
+        server.hears(" full records ")
         equal([peer.ask(frames.leave(1)), peer.ask(frames.out(1, "a")), peer.ask(frames.out(2, "x" * 300))], [full, "Stored number 1, id 1", full])
+        is_in_first_minute(began)
         server.hears(" minute ")
         equal(peer.ask(frames.out(2, "x" * 256)), full)
         server.hears(" minute ")
@@ -126,7 +148,7 @@ def logs_of_refusals(folder):
     (folder / "left.bank").write_bytes(banks.spell_bank(1, state))
     (folder / "right.bank").write_bytes(b"\0")
     status = free_port()
-    with Server(folder, 0, "--log", "--status", status, "--lease", 1) as server:
+    with Server(folder, 0, "--log", "--status", status, "--lease", 1, times=TIMES) as server:
         held, hear = connection(server.port)
         held(frames.hello(7, False))
         equal(hear(), "Welcome last 1")
@@ -158,7 +180,7 @@ def logs_of_refusals(folder):
                 took = time.monotonic() - since
                 is_counted.set()
                 asking.result()
-            assert took >= 1, "a number in use is counted within a second"
+            assert took >= 1 / TIMES, "a number in use is counted within a second"
             return counted() - before
 
         def refused(reply, *messages, ends=False):
@@ -167,8 +189,9 @@ def logs_of_refusals(folder):
             equal([receive() for _ in messages], [reply] * len(messages))
             if ends:
                 ended(receive)
-            time.sleep(0.4)
+            time.sleep(0.4 / TIMES)
 
+        began = time.monotonic()
         for _ in range(3):
             refused("Refused Busy, detail 0", frames.hello(7, False))
         refused("Refused TooManyClients, detail 65536", *[frames.hello(70_000, True)] * 2)
@@ -179,6 +202,7 @@ def logs_of_refusals(folder):
             refused("Refused Malformed, detail 0", frames.frame(b""), ends=True)
         equal(counted(), 0)
         first = asks_on()
+        is_in_first_minute(began)
         server.hears(" minute ")
         second = asks_on()
         server.hears(" minute ")

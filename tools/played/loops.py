@@ -2,7 +2,6 @@
 
 import os
 import re
-import resource
 import signal
 import socket
 import time
@@ -11,7 +10,7 @@ from pathlib import Path
 import client as frames
 from played.leases import LEASE, ends_after
 from played.peers import Peer, again, has_by_rest, keys_that_are_free
-from played.program import SOON, equal, most, wait_until
+from played.program import SOON, equal, wait_until, writes_fail_beyond
 from played.servers import Server
 
 LONG = ["x" * 4_000] * 30
@@ -48,7 +47,7 @@ def loops_share_a_crowd(folder):
 def keys_that_are_free_at_both_loops(folder):
     """At both loops, of which the first keys are free: a client that waits hears of a put and of a leave at the other loop, a lease ends, and so do all
     connections when the server is down."""
-    with Server(folder, 0, "--lease", LEASE, before=lambda: most(resource.RLIMIT_FSIZE, 2_000)) as server:
+    with Server(folder, 0, "--lease", LEASE, before=writes_fail_beyond(2_000)) as server:
         first = [Peer(server.port) for _ in range(60)]
         wait_until(lambda: sockets_of_loops(server), [33, 28])
         at = [], []
@@ -111,7 +110,7 @@ def connections_that_are_given_up(folder):
 def loops_wake_each_other(folder):
     """What is for a loop at which nothing happens comes there at once: what a put at the other loop sends, what a client held that goes there, a
     connection, and that the server is down."""
-    with Server(folder, before=lambda: most(resource.RLIMIT_FSIZE, 2_000)) as server:
+    with Server(folder, before=writes_fail_beyond(2_000)) as server:
         near, holder = Peer(server.port, 1), Peer(server.port, 3)
         idle = [Peer(server.port) for _ in range(30)]
         far = Peer(server.port, 2)

@@ -100,7 +100,9 @@ def room_is_written_ahead(folder):
         equal(peer.ask(frames.out(1, "a", 1)), "Stored number 1, id 1")
         time.sleep(0.5)
         data, used = bank_of(folder, "left")
-        equal(len(data), used + 1)
+        # (the first record has more room made than it needs)
+        if not used < len(data) <= used + 66_000:
+            raise AssertionError(f"{len(data)} bytes, of which {used} are used")
         until = time.monotonic() + SOON
         # (a snapshot is due after 1,024 records, so they come together)
         while (folder / "left.bank").stat().st_size < 1_048_576:
@@ -124,21 +126,50 @@ def room_is_written_ahead(folder):
         equal(peer.ask(frames.out(number + 1, "a", 0)), f"Stored number {number + 1}, id {number + 1}")
 
 
-def a_disk_without_room_ahead(folder):
-    """If the disk has no room for what is written ahead, the file is cut to what it was, and the server goes on."""
-    room = 600_000
-    with Server(folder, before=lambda: most(resource.RLIMIT_FSIZE, room)) as server:
-        peer, number, until = Peer(server.port, 1), 0, time.monotonic() + SOON
-        written = lambda: int(re.search(r"^wchar: (\d+)", Path(f"/proc/{server.process.pid}/io").read_text(), re.M)[1])  # noqa: E731
-        while written() < room:
-            if time.monotonic() > until:
-                raise AssertionError(f"after {number} puts nothing is written ahead")
-            peer.send(*[frames.out(number + at, "a", number + at) for at in range(1, 65)])
-            for _ in range(64):
+def a_disk_that_is_full(folder):
+    """On a disk that has no room for more, puts and takes of few tuples go on for ever; if there are many, puts are refused Full, and no server goes down: takes
+    go on, and then puts. A kill loses nothing."""
+    text = "x" * 4_000
+    # (each of its two files may have so many bytes: 180 tuples have as many)
+    full = lambda: most(resource.RLIMIT_FSIZE, 1_500_000)  # noqa: E731
+    with Server(folder, before=full) as server:
+        peer, number, there = Peer(server.port, 1), 0, []
+
+        def put():
+            nonlocal number
+            if (reply := peer.ask(frames.out(number + 1, "job", text, text))).startswith("Stored"):
                 number += 1
-                equal(peer.hear(), f"Stored number {number}, id {number}")
-            time.sleep(0.005)
-        time.sleep(0.5)
-        data, used = bank_of(folder, "left")
-        equal(len(data), used + 1)
-        equal(peer.ask(frames.out(number + 1, "a", 0)), f"Stored number {number + 1}, id {number + 1}")
+                there.append(int(reply.rsplit(" ", 1)[1]))
+                return True
+            return equal(reply, "Refused Full, detail 0")
+
+        def take():
+            nonlocal number
+            equal(peer.ask(frames.ask(1, True, "job", frames.TEXT, frames.TEXT)).startswith(f"Offer ticket 1, id {there[0]},"), True)
+            if (reply := peer.ask(frames.accept(number + 1, 1, there[0]))).startswith("Taken"):
+                number += 1
+                there.pop(0)
+                return True
+            equal(reply, "Refused Full, detail 0")
+            return peer.send(frames.cancel(1))
+
+        for _ in range(70):
+            equal(put(), True)
+        for _ in range(700):
+            equal((put(), take()), (True, True))
+        while put():
+            equal(len(there) < 200, True)
+        if len(there) < 120:
+            raise AssertionError(f"only {len(there)} tuples of 8 KB have room in 1.5 MB")
+        wait_until(take, True)
+        for _ in range(9):
+            wait_until(take, True)
+        wait_until(put, True)
+        server.process.kill()
+        server.end()
+    for _ in range(2):
+        with Server(folder, before=full) as server:
+            peer = Peer(server.port)
+            equal(peer.ask(frames.hello(1, False)), f"Welcome last {number}")
+            equal((take(), put()), (True, True))
+    equal(sorted(banks.verdict(*banks.folder_bytes(folder)).state.bag), there)

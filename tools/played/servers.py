@@ -9,6 +9,7 @@ import subprocess
 import time
 from pathlib import Path
 
+import clocks
 from played.program import PATIENCE, PROGRAM, SOON
 from served import free_port  # noqa: F401
 
@@ -17,12 +18,14 @@ SNAPSHOT_RECORDS = 1_024
 
 
 class Server:
-    """A server on a folder, at a port that stays its own after it (`free_port`) if none is named. `ready` waits for its line; `kill` is kill -9."""
+    """A server on a folder, at a port that stays its own after it (`free_port`) if none is named. `ready` waits for its line; `kill` is kill -9. Its clock goes
+    so many times as fast as that of the machine."""
 
-    def __init__(self, folder, port=0, *words, before=None):
+    def __init__(self, folder, port=0, *words, before=None, times=1):
         where = () if port is None else ("--port", str(port or free_port()))
+        around = None if times == 1 else clocks.faster(folder, times)
         self.process = subprocess.Popen([PROGRAM, "serve", *where, "--dir", str(folder), *map(str, words)], preexec_fn=before,
-                                        stdout=subprocess.PIPE, stderr=subprocess.PIPE, text=True)
+                                        stdout=subprocess.PIPE, stderr=subprocess.PIPE, text=True, env=around)
         self.heard = ""
         line = self.process.stdout.readline()
         assert line.startswith("ready "), (line, self.process.stderr.read())

@@ -25,7 +25,7 @@ def snapshots_of_a_server(folder):
 
 
 def a_snapshot_is_put_off(folder):
-    """A start gives back the room of a snapshot that was cut off; and the next snapshot, though there are records enough, waits for half as many bytes of
+    """A start gives back the room of a snapshot that was cut off in a file that is shorter than the bank; and the next snapshot, though there are records enough, waits for half as many bytes of
     records."""
     with Server(folder) as server:
         puts(server.port, 7, 1_023)
@@ -33,7 +33,8 @@ def a_snapshot_is_put_off(folder):
     (folder / "right.bank").write_bytes(bytes(10_000))
     with Server(folder) as server:
         peer, number, (_, size) = Peer(server.port, 8), 0, bank_of(folder, "left")
-        equal((folder / "right.bank").read_bytes(), b"\0")
+        # (what is left of it is closed gates, and the file is as long as the bank)
+        equal((folder / "right.bank").read_bytes() == bytes(size + 1), True)
         while (more := bank_of(folder, "left")[1] - size) < 4_000:
             for number in range(number + 1, number + 11):
                 equal(peer.ask(frames.out(number, "b", number)), f"Stored number {number}, id {1_023 + number}")

@@ -7,6 +7,7 @@ import socket
 import subprocess
 
 import client as frames
+from played.peers import Peer
 from played.program import PATIENCE, PROGRAM, equal, refused_as_words, run
 from played.servers import Server, free_port
 from played.streams import fails_at_streams, status_of
@@ -213,6 +214,18 @@ def explained_faults(folder):
     port = free_port()
     equal(said(["call", "--client", 7, port]), (3, "server 0: no connection\n"))
     equal(said(["call", "--client", 7, "--explain", port]), (3, f"server 0: no connection\n{port}: Connection refused (os error 111)\n"))
+    served = folder / "served"
+    served.mkdir()
+    with Server(served) as server:
+        for _ in range(2):
+            known = said(["call", "--client", 7, "--explain", server.port], 'out ("a")\n')
+        equal(known, (3, f"server 0: refused 2 1\n{server.port}: the client number was used before: give --again, or another number\n"))
+        holder = Peer(server.port, 8)
+        equal(said(["call", "--client", 8, "--explain", server.port]),
+              (3, f"server 0: refused 3 0\n{server.port}: another program has the client number now\n"))
+        holder.close()
+        equal(said(["serve", "--port", 0, "--dir", served, "--explain"]),
+              (3, f"store: in use\n{served}: another server has it open; --wait waits for it\n"))
     path = folder / "none"
     for words in (["serve", "--port", 0, "--dir", path], ["inspect", path]):
         equal(said(words), (3, "store: disk\n"))

@@ -38,7 +38,8 @@ def refused_stores(folder):
     right.unlink()
     left.write_bytes(b"")
     with Server(folder):
-        equal((left.read_bytes(), right.read_bytes()), (whole, b"\0"))
+        # (the other file is as long as the bank)
+        equal((left.read_bytes(), right.read_bytes()), (whole, bytes(34)))
     equal(run("serve", "--port", 0, "--dir", folder / "none")[0], 3)
 
 

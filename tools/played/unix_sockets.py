@@ -80,7 +80,11 @@ def modes_of_a_socket(folder):
             store = folder / f"store{umask}{mode}"
             store.mkdir()
             with Server(store, None, "--socket", path, *words, "--sessions", 0, before=lambda: os.umask(umask)) as server:
-                found = path.lstat().st_mode if path.exists() else None
+                # (it may end at once, and takes its socket with it)
+                try:
+                    found = path.lstat().st_mode
+                except FileNotFoundError:
+                    found = None
                 equal(server.end()[0], 0)
             equal((umask, words, found is None or stat.S_IMODE(found) == mode), (umask, words, True))
             equal(path.exists(), False)

@@ -12,7 +12,7 @@
    (writes, cuts and syncs of both banks, syncs of the folder, counted from 1) or `read`; ACTION is `die` (the process
    is killed when PART thousandths of the call are done), `eio` or `enospc` (the call fails when that part is done).
    `slow 0 MICROSECONDS 0` makes each sync take so long. A call that went wrong is written to the file `fired`, with the
-   side of its bank (`none` of the folder) and its name. SIDE.early is there if a bank was last read while its log was
+   side of its bank (`none` of the folder) and its name (`write`, `room`, `cut`, `sync` or `read`). SIDE.early is there if a bank was last read while its log was
    not empty: what was read then may be gone after a power cut. The file `said` has a line for each name of a log that
    was not empty, or of a SIDE.new that was there, while something was written to the standard output: the server said
    there that it is ready.
@@ -225,10 +225,15 @@ int close(int file) {
     return (int)syscall(SYS_close, file);
 }
 
+/* Room is closed gates, more than one: a write that may find no place on the device. */
+static const char *name_of(const char *bytes, size_t size) {
+    return size > 1 && bytes[0] == 0 && memcmp(bytes, bytes + 1, size - 1) == 0 ? "room" : "write";
+}
+
 ssize_t pwrite(int file, const void *bytes, size_t size, off_t at) {
     if (!side_at(file)) return syscall(SYS_pwrite64, file, bytes, size, at);
     pthread_mutex_lock(&lock);
-    const struct plan *it = planned('c', file, "write");
+    const struct plan *it = planned('c', file, name_of(bytes, size));
     size_t some = it ? size * it->part / 1000 : size;
     ssize_t done = 0;
     keep_undo(file, at, bytes, size, 0);

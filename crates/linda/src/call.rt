@@ -5,7 +5,7 @@ ghost use Rattle.std.specs.Process.{exit_status};
 ghost use Rattle.linda.specs.Statuses.{status_after_call};
 
 use crate::end;
-use crate::explaining::{explain_line, is_wanted, tell_port, tell_socket};
+use crate::explaining::{explain_line, is_wanted, tell_port, tell_refusal, tell_socket};
 use linda_args::{Paths, Ports};
 use linda_call::{CallFault, Manner, call_at_in_manner, call_in_manner};
 use linda_explain::{LineSource, RecentLinesReader};
@@ -45,10 +45,18 @@ pub(crate) fn run_call<
     let code = end_of_call(rt, ended);
     if is_wanted(rt, explain) {
         explain_call(rt, ended, &lines);
-        if let Err(CallFault::NoConnection(server)) = ended {
-            if let Some(port) = ports.as_slice().get(server as usize) {
-                tell_port(rt, threads, *port);
+        match ended {
+            Err(CallFault::NoConnection(server)) => {
+                if let Some(port) = ports.as_slice().get(server as usize) {
+                    tell_port(rt, threads, *port);
+                }
             }
+            Err(CallFault::Refused(server, code, _)) => {
+                if let Some(port) = ports.as_slice().get(server as usize) {
+                    tell_refusal(rt, *port, code);
+                }
+            }
+            _ => {}
         }
     }
     code
@@ -92,10 +100,18 @@ pub(crate) fn run_call_at<
     let code = end_of_call(rt, ended);
     if is_wanted(rt, explain) {
         explain_call(rt, ended, &lines);
-        if let Err(CallFault::NoConnection(server)) = ended {
-            if let Some(path) = paths.as_slice().get(server as usize) {
-                tell_socket(rt, threads, path.as_str());
+        match ended {
+            Err(CallFault::NoConnection(server)) => {
+                if let Some(path) = paths.as_slice().get(server as usize) {
+                    tell_socket(rt, threads, path.as_str());
+                }
             }
+            Err(CallFault::Refused(server, code, _)) => {
+                if let Some(path) = paths.as_slice().get(server as usize) {
+                    tell_refusal(rt, path.as_str(), code);
+                }
+            }
+            _ => {}
         }
     }
     code

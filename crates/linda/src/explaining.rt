@@ -2,6 +2,7 @@
 //! system says of a folder, a port or a socket. It is looked for once the fault was printed, so it
 //! may say nothing.
 
+use crate::refusals::meaning_of;
 use linda_explain::{LineSource, RecentLinesReader, explain};
 use linda_serve_plan::{ServePlan, StatusPlace};
 use std::fmt::Display;
@@ -102,6 +103,22 @@ fn tell_opened(rt: &HostRuntime, path: &str, is_written: bool) -> bool {
 /// Says why a file cannot be opened; an empty path is shown as two quotes. Returns true.
 pub(crate) fn tell_file(rt: &HostRuntime, path: &str, error: Error) -> bool {
     tell(rt, if path.is_empty() { "\"\"" } else { path }, error)
+}
+
+/// Says that another server has the folder of a store open.
+pub(crate) fn tell_in_use(rt: &HostRuntime, folder: &str) {
+    tell(
+        rt,
+        folder,
+        "another server has it open; --wait waits for it",
+    );
+}
+
+/// Says what it means that the server at this place refused something with this code.
+pub(crate) fn tell_refusal<D: Display + Drop>(rt: &HostRuntime, place: D, code: u8) {
+    if let Some(meaning) = meaning_of(code) {
+        tell(rt, place, meaning);
+    }
 }
 
 /// Says where a server cannot listen, and why: on the port, at the socket or for its status.

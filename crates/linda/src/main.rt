@@ -47,6 +47,7 @@ ghost use Rattle.clap.specs.declared.error.kind.ErrorKind.TheVariants as kinds;
 
 mod call;
 mod explaining;
+mod refusals;
 mod script;
 mod status;
 mod store;

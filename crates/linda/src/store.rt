@@ -4,11 +4,12 @@ ghost use Rattle.std.specs.Prelude.{◌≡◌, ◌⊎◌};
 ghost use Rattle.std.specs.Process.{exit_status};
 
 use crate::end;
-use crate::explaining::{is_wanted, tell_folder, tell_listened};
+use crate::explaining::{is_wanted, tell_folder, tell_in_use, tell_listened};
 use linda_inspect::Lists;
 use linda_pipe::REFUSED;
 use linda_serve::{
-    NonBlockingWriter, ServingFault, inspect_folder, inspect_folder_as_json, serve_folder,
+    NonBlockingWriter, ServingFault, SystemLookup, inspect_folder, inspect_folder_as_json,
+    serve_folder,
 };
 use linda_serve_plan::ServePlan;
 use std::net::{Net, TcpListener, TcpStream};
@@ -36,7 +37,16 @@ pub(crate) fn run_serve<
         None
     };
     let sink = unwaited.as_mut();
-    match serve_folder(rt, threads, rt.alloc(), &mut rt.stdout(), sink, plan) {
+    let lookup = SystemLookup::new(rt);
+    match serve_folder(
+        rt,
+        threads,
+        rt.alloc(),
+        &mut rt.stdout(),
+        sink,
+        plan,
+        lookup,
+    ) {
         Ok(()) => ExitCode::SUCCESS,
         Err(cause) => {
             let code = match &mut unwaited {
@@ -64,6 +74,7 @@ fn explain_serve<S: Net<Listener = TcpListener, Stream = TcpStream>>(
     match cause {
         ServingFault::Disk => tell_folder(rt, &plan.folder, true),
         ServingFault::Io => tell_listened(rt, net, plan),
+        ServingFault::InUse => tell_in_use(rt, &plan.folder),
         _ => {}
     }
 }

@@ -81,6 +81,16 @@ impl<D: Disk> Bank<D> {
         self.limit
     }
 
+    /// From now on the bank may have so many bytes. No device call is made.
+    pub fn set_limit(&mut self, limit: usize)
+        ensures limit { self.new.limit ≡ limit }
+        ensures same { (self.new.disk ≡ self.old.disk) × (self.new.form ≡ self.old.form)
+            × (self.new.generation ≡ self.old.generation) × (self.new.end ≡ self.old.end)
+            × (self.new.records ≡ self.old.records) × (self.new.is_spent ≡ self.old.is_spent) }
+    {
+        self.limit = limit;
+    }
+
     /// Ends the use of the bank: `append` returns `Spent` then, and the disk is to be opened again.
     /// No device call is made.
     pub fn retire(&mut self)

@@ -40,7 +40,7 @@ pub fn take_snapshots<D: Disk, L: Ledger, R: Wait + Clock>(
             Some(left) => left,
             None if shared.snapshot_due(rt) => {
                 let millis = take_snapshot(rt, shared, counters, is_over);
-                ahead.begin_anew();
+                ahead.begin_anew(rt, shared);
                 pause_after(millis)
             }
             None => 0,

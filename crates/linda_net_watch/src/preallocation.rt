@@ -21,12 +21,17 @@ pub(crate) const PART: usize = 16;
 /// Records come fast if they take so many bytes between two looks: in a tenth of a second.
 const FAST: usize = 1_024;
 
+/// After how many looks it is tried again, if the disk has no room: a second.
+const LOOKS: u32 = 10;
+
 /// How far the file of the bank in use reaches, as far as this is known, and how many of its bytes
 /// were taken at the last look.
 #[derive(Drop)]
 pub(crate) struct Preallocation {
     used: usize,
     reach: usize,
+    // For how many looks more nothing is tried.
+    rest: u32,
 }
 
 impl Preallocation {
@@ -35,27 +40,41 @@ impl Preallocation {
         Preallocation {
             used: usize::MAX,
             reach: 0,
+            rest: 0,
         }
     }
 
-    /// Another bank is in use.
-    pub(crate) fn begin_anew(&mut self) {
+    /// Another bank is in use: looks how much room there is beside it.
+    pub(crate) fn begin_anew<D: Disk, L: Ledger, R: Wait>(
+        &mut self,
+        rt: &R,
+        shared: &Shared<D, L>,
+    ) {
         self.reach = 0;
+        self.rest = 0;
+        shared.renew_room(rt);
     }
 
     /// Has room written ahead on the bank in use, if records come fast and most of what it had is
-    /// taken. If the disk has no room, none is tried until another bank is in use.
+    /// taken. If the disk has no room, it is tried again each second.
     pub(crate) fn look<D: Disk, L: Ledger, R: Wait + Clock>(
         &mut self,
         rt: &R,
         shared: &Shared<D, L>,
     ) {
         let used = shared.gauge(rt).used;
-        if let Some(to) = aim(self.used, used, self.reach) {
-            self.reach = match shared.preallocate(rt, to) {
-                Ok(true) => to,
-                Ok(false) | Err(_) => usize::MAX,
-            };
+        if self.rest > 0 {
+            self.rest -= 1;
+        } else if shared.is_short(rt) {
+            shared.renew_room(rt);
+            self.reach = 0;
+            self.rest = LOOKS;
+        } else if let Some(to) = aim(self.used, used, self.reach) {
+            if shared.extend(rt, to) {
+                self.reach = to;
+            } else {
+                self.rest = LOOKS;
+            }
         }
         self.used = used;
     }

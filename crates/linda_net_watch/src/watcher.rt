@@ -1,6 +1,6 @@
 //! Notices about a server while its connections are served, and the thread that gives them.
 
-ghost use Rattle.std.specs.Prelude.{◌≡◌, ◌↔◌, ◌≤◌, IsTrue};
+ghost use Rattle.std.specs.Prelude.{◌≡◌, ◌↔◌, ◌+◌, ◌<◌, ◌≤◌, IsTrue};
 ghost use Rattle.linda_net_watch.specs.Alerts.{notice_of_snapshot};
 
 use crate::alert_state::AlertState;
@@ -18,6 +18,9 @@ use std::time::{Clock, Instant};
 /// How long a minute is, in milliseconds.
 const MINUTE: u64 = 60_000;
 
+/// After how many looks it is asked whether what the server writes is kept: a second.
+const LOOKS: u32 = 10;
+
 /// How many troubles there are that are reported when they begin.
 const TROUBLES: u32 = 8;
 
@@ -26,7 +29,7 @@ pub trait Watcher {
     /// This happened, with the numbers of the server and of its connections at that moment.
     fn tell<C: Clock>(&mut self, clock: &C, notice: Notice, gauge: &Gauge, tally: &CounterValues);
 
-    /// Whether what the server writes is kept, as far as the watcher knows: asked once a minute. If
+    /// Whether what the server writes is kept, as far as the watcher knows: asked once a second. If
     /// it is not, the server goes down.
     fn is_kept<C: Clock>(&mut self, _clock: &C) -> bool {
         true
@@ -46,6 +49,7 @@ pub fn watch<D: Disk, L: Ledger, R: Wait + Clock, T: Watcher>(
     let mut seconds = seconds;
     let mut seen = AlertState::new();
     let mut begin = Instant::now(rt).ok();
+    let mut looks: u32 = 0;
     for _ in rt.forever() {
         let over = *is_over.lock(rt);
         seconds.pass(rt, shared);
@@ -61,6 +65,9 @@ pub fn watch<D: Disk, L: Ledger, R: Wait + Clock, T: Watcher>(
             tell(rt, shared, counters, watcher, Notice::Minute);
             seen.end_minute(&tally);
             begin = Instant::now(rt).ok();
+        }
+        looks = looks_after(looks);
+        if looks == 0 {
             end_if_not_kept(rt, shared, watcher);
         }
         thread::sleep(rt, look());
@@ -143,6 +150,17 @@ fn end_if_not_kept<D: Disk, L: Ledger, R: Wait + Clock, T: Watcher>(
     if !is_kept {
         shared.give_up(rt);
     }
+}
+
+// How many looks there were in this second after one more; none if it is over.
+fn looks_after(looks: u32) -> u32
+    ensures more { looks + 1 < 10 → result ≡ looks + 1 }
+    ensures over { 10 ≤ looks + 1 → result ≡ 0 }
+{
+    if looks < LOOKS - 1 {
+        return looks + 1;
+    }
+    0
 }
 
 // Whether a minute is over after so many milliseconds.

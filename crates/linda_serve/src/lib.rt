@@ -19,5 +19,6 @@ pub use inspecting::{inspect_folder, inspect_folder_as_json};
 pub use linda_disk::{FileCall, FileTrouble};
 pub use linda_net::{CounterValues, Gauge, Notice, RefusalReason, RefusalValues, Watcher};
 pub use serving::{
-    Cause, InUse, Log, NonBlockingWriter, ServingFault, open_store, serve_folder, stamp_of,
+    Cause, FileLookup, InUse, Log, NonBlockingWriter, ServingFault, SystemLookup, open_store,
+    serve_folder, stamp_of,
 };

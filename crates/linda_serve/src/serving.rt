@@ -19,7 +19,8 @@ mod waiting;
 ghost use Rattle.std.specs.Prelude.{◌≡◌, ◌<◌, false, OnErr, OnOk};
 ghost use Rattle.linda_shared_accounts.specs.declared.limits.TheConstants.{PARTS};
 
-use banks::WatchedBanks;
+use banks::FolderWatcher;
+pub use banks::{FileLookup, SystemLookup};
 pub use fault::ServingFault;
 use fault::served;
 use heap::keep_heap;
@@ -67,6 +68,9 @@ use waiting::open_when_free;
 /// A socket's file has its mode from the first moment on. One that is left of a server that was
 /// killed is replaced, and it is removed at the end. Anything else at its path stays.
 ///
+/// Each second it looks by `lookup` whether the files of both banks are still there, and goes down
+/// if one is not.
+///
 /// If its records have as many bytes as the last snapshot left in the bank, one is taken first. If
 /// the last one was cut off, or this one cannot be written, its room is given back, and the next
 /// one is put off until there are records of half of that room, or as many as make one due, unless
@@ -88,6 +92,7 @@ pub fn serve_folder<
         + Sync,
     W: Write,
     E: Write + Send,
+    P: FileLookup + Drop + Send,
 >(
     files: &F,
     rt: &S,
@@ -95,23 +100,24 @@ pub fn serve_folder<
     writer: &mut W,
     sink: Option<&mut E>,
     plan: &ServePlan,
+    lookup: P,
 ) -> Result<(), ServingFault> {
     let mut log = Log::new(alloc, sink)?;
     let begun = open_when_free(files, rt, alloc, &mut log, plan)?;
     let Begun { mut server, course } = begun;
     choose_keys(rt, &mut server);
-    log.watch(WatchedBanks::open(files, alloc, &plan.folder)?);
+    let watcher = FolderWatcher::new(lookup, alloc, &plan.folder, log)?;
     let listeners = bind_listeners(files, rt, alloc, plan)?;
     let kept = keep_socket_open(&listeners);
     let own = own_file(files, plan.socket.as_ref());
     let asked = listen_for_status(files, rt, alloc, plan.status.as_ref());
     let held = kept_status(&asked);
     let own_status = own_file_of_status(files, &asked, plan.status.as_ref());
-    let ended = tell_and_serve::<Brand, S, W, E>(
+    let ended = tell_and_serve::<Brand, P, S, W, E>(
         rt,
         alloc,
         writer,
-        log,
+        watcher,
         server,
         course,
         Blank::new(PARTS),
@@ -153,6 +159,7 @@ fn share<L: Ledger, R: Wait>(
 {
     let is_old = server.is_of_old_form();
     let shared = Shared::new(alloc, server, blank)?;
+    shared.keep_room(rt);
     shared.count_from(rt, course.base);
     match course.put_off {
         Some(room) if !is_old => shared.defer_snapshot(rt, room),
@@ -164,6 +171,7 @@ fn share<L: Ledger, R: Wait>(
 // Writes where it listens, and serves.
 fn tell_and_serve<
     L: Ledger + Send + Sync,
+    P: FileLookup + Drop + Send,
     S: Net<Listener = TcpListener, Stream = TcpStream> + Threads + Wait + Clock + Sync,
     W: Write,
     E: Write + Send,
@@ -171,7 +179,7 @@ fn tell_and_serve<
     rt: &S,
     alloc: Global,
     writer: &mut W,
-    log: Log<'_, E>,
+    watcher: FolderWatcher<'_, P, E>,
     server: Durable<FileDisk>,
     course: Course,
     blank: Blank,
@@ -182,7 +190,7 @@ fn tell_and_serve<
     requires up { server.down ≡ false }
     requires blank { (blank.name ≡ L.name) × (blank.parts ≡ L.parts) × (L.parts ≡ PARTS) }
 {
-    let mut log = log;
+    let mut watcher = watcher;
     let asked = asked?;
     let bank = server.in_use();
     let shared: Shared<FileDisk, L> = share(rt, alloc, server, &course, blank)?;
@@ -196,10 +204,11 @@ fn tell_and_serve<
         socket: path,
     };
     let status = status_at(rt, alloc, asked, about, &plan.metrics);
+    let log = watcher.log();
     log.tell_opened(rt, port, path, bank, &shared.gauge(rt));
-    tell_start(rt, &mut log, &course, &shared.gauge(rt));
+    tell_start(rt, log, &course, &shared.gauge(rt));
     tell_ready(alloc, writer, port, path)?;
-    let watcher = Mutex::new(log);
+    let watcher = Mutex::new(watcher);
     let limits = Limits {
         sessions: plan.sessions,
         lease: plan.lease,
@@ -228,19 +237,20 @@ fn tell_start<S: Clock, E: Write>(rt: &S, log: &mut Log<'_, E>, course: &Course,
 }
 
 // Writes the last line of the log: how it ended, and why.
-fn tell_end<L: Ledger, S: Wait + Clock, E: Write>(
+fn tell_end<L: Ledger, P: FileLookup + Drop, S: Wait + Clock, E: Write>(
     rt: &S,
-    log: Log<'_, E>,
+    watcher: FolderWatcher<'_, P, E>,
     shared: Shared<FileDisk, L>,
     ended: Result<(), SharedFault>,
     tally: &CounterValues,
 ) -> Result<(), ServingFault> {
-    let mut log = log;
+    let mut watcher = watcher;
     let gauge = shared.gauge(rt);
     let (left, right) = shared.into_server().into_disks();
-    tell_trouble(rt, &mut log, "left", &left);
-    tell_trouble(rt, &mut log, "right", &right);
-    let removed = u64::from(log.is_removed());
+    let removed = u64::from(watcher.is_removed());
+    let log = watcher.log();
+    tell_trouble(rt, log, "left", &left);
+    tell_trouble(rt, log, "right", &right);
     let failures = left
         .failures()
         .saturating_add(right.failures())

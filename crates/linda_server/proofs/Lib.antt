@@ -5,6 +5,7 @@ pub mod OpeningLaws
 mod ReopeningLaws
 mod SwitchLaws
 mod PreallocationLaws
+mod ReservingLaws
 mod NextLaws
 mod SteppingLaws
 mod RewritesLaws

@@ -107,7 +107,7 @@ module _ {D : Type 0} {g : Ghosts D} where
     pub life : GoesOn (λ (sends : Vec (ℕ × Reply)). sends.items) old result new
 
   -- It wrote the same state anew, or a part of it, or room for it (`renew`, `clear`, `snapshot`,
-  -- `trim`, `begin_snapshot`, `continue_snapshot`, `lengthen`, `preallocate`).
+  -- `trim`, `begin_snapshot`, `continue_snapshot`, `lengthen`, `preallocate`, `reserve`).
   pub record Rewrites {T E : Type 0} (old : Durable D g) (result : Result T E)
       (new : Durable D g) : Type 0 where
     -- Crashes at any moment leave the state.
@@ -155,7 +155,7 @@ module _ {D : Type 0} {g : Ghosts D} where
 
   -- As a node says it: after Down the server is down, and it is Down if the server was down, with
   -- nothing changed; and every life goes on by it (`snapshot`, `trim`, `begin_snapshot`,
-  -- `continue_snapshot`, `preallocate`).
+  -- `continue_snapshot`, `preallocate`, `reserve`).
   pub record Falls {T : Type 0} (old : Durable D g) (result : Result T NodeFault)
       (new : Durable D g) : Type 0 where
     pub down : IsErrOf result nodes.Down → new.down ≡ true

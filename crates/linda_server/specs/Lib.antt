@@ -8,6 +8,7 @@ pub mod Node
 pub mod Reopening
 pub mod Switch
 pub mod Preallocation
+pub mod Reserving
 pub mod Next
 pub mod Lives
 pub mod Handled

@@ -66,8 +66,8 @@ module _ {D : Type 0} {g : Ghosts D} where
     closes : (client : ℕ) (sends : List (ℕ × Reply))
         → sent sends new.store.soft ≡ on_close old.store.state.bag client old.store.soft
         → new.store.state ≡ old.store.state → Call old new [] sends
-    -- of `snapshot`, `renew`, `trim`, `clear`, `begin_snapshot`, `continue_snapshot` and
-    -- `preallocate` (`same`)
+    -- of `snapshot`, `renew`, `trim`, `clear`, `begin_snapshot`, `continue_snapshot`,
+    -- `preallocate` and `reserve` (`same`), and of `set_limit` (`store`)
     rewrites : new.store ≡ old.store → Call old new [] []
 
   -- A call in which a server went down.
@@ -76,8 +76,8 @@ module _ {D : Type 0} {g : Ghosts D} where
     at_work : (xs : List Coming) → new.before.value ≡ old.store.state
         → MayRemain (shown old.before.value old.store old.down old.lost.items) xs new.lost.items
         → Fall old new
-    -- of `snapshot`, `renew`, `trim`, `clear`, `begin_snapshot`, `continue_snapshot` and
-    -- `preallocate` (`lost`), and of `give_up` (`up`)
+    -- of `snapshot`, `renew`, `trim`, `clear`, `begin_snapshot`, `continue_snapshot`,
+    -- `preallocate` and `reserve` (`lost`), and of `give_up` (`up`)
     at_rest : new.before.value ≡ old.store.state → new.lost.items ≡ [] → Fall old new
 
   -- A call that was cut off at some moment, with the deeds that were in hand.
@@ -87,8 +87,8 @@ module _ {D : Type 0} {g : Ghosts D} where
     amid_work : (xs : List Coming) (whole : History)
         → Happens old.store.state old.store.soft xs whole
         → AlwaysLeave old.disks new.disks (IsBeforeOrAfter old.store xs) → Cut old new whole.deeds
-    -- of `close`, `snapshot`, `renew`, `trim`, `clear`, `begin_snapshot`, `continue_snapshot` and
-    -- `preallocate` (`any_moment`)
+    -- of `close`, `snapshot`, `renew`, `trim`, `clear`, `begin_snapshot`, `continue_snapshot`,
+    -- `preallocate` and `reserve` (`any_moment`)
     amid_rest : AlwaysLeave old.disks new.disks (StandsFor old.store.state) → Cut old new []
 
   -- the two disks then

@@ -59,7 +59,8 @@ impl<D: Disk> Disks<Bank<D>, D> {
     ghost use Rattle.std.specs.Prelude.{◌≡◌, true, Some};
     ghost use Rattle.linda_server.specs.Disks.{disks_of, is_there};
     ghost use Rattle.linda_server.specs.Server.{bank_in_use, form_in_use, end_in_use};
-    ghost use Rattle.linda_server.specs.Server.{records_in_use, is_usable};
+    ghost use Rattle.linda_server.specs.Server.{records_in_use, limit_in_use, is_usable};
+    ghost use Rattle.linda_server.specs.Reserving.{HasOtherLimit};
 
     /// The form of the bank in use; if none is in use, that of new banks.
     pub(crate) fn form(&self) -> Form
@@ -102,6 +103,19 @@ impl<D: Disk> Disks<Bank<D>, D> {
                 generation: pair.bank.generation(),
             }),
             Disks::Shut { .. } | Disks::Away => None,
+        }
+    }
+
+    /// The bank in use may have so many bytes from now on.
+    pub(crate) fn set_limit(&mut self, limit: usize)
+        ensures limit { is_usable self.old ≡ true → limit_in_use self.new ≡ limit }
+        ensures same { HasOtherLimit self.old self.new }
+        ensures ready { is_usable self.new ≡ is_usable self.old }
+        ensures there { is_there self.new ≡ is_there self.old }
+    {
+        match self {
+            Disks::InUse(pair) => pair.bank.set_limit(limit),
+            Disks::Shut { .. } | Disks::Away => {}
         }
     }
 

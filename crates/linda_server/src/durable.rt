@@ -3,8 +3,10 @@
 mod create;
 mod fall;
 mod handle;
+mod limiting;
 mod open;
 mod preallocation;
+mod reserving;
 mod serve;
 mod snapshot;
 mod steps;

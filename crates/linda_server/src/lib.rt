@@ -14,6 +14,7 @@ mod next;
 mod preallocation;
 mod progress;
 mod renewal;
+mod reserving;
 mod serving;
 mod stepping;
 mod thread_safety;

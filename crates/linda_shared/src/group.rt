@@ -124,6 +124,7 @@ impl<A: Drop, L: Ledger> MessageGroup<A, L> {
             mut asked,
             mut answered,
         } = self;
+        held.make_room(alloc, &messages);
         let _ = held.handle_all(alloc, &messages, &mut asked, &mut answered);
         messages.reverse();
         ServedGroup {

@@ -205,6 +205,33 @@ impl<D: Disk, L: Ledger> Shared<D, L> {
         answer
     }
 
+    /// From now on records are written only where the bank's file has bytes already, and the other
+    /// file has as many, for the next snapshot: so a device that has no more room refuses deeds as
+    /// Full, and ends no server. No session sees another change.
+    pub fn keep_room<R: Wait>(&self, rt: &R) {
+        self.locked.lock(rt).held.keep_room();
+    }
+
+    /// Whether the device had no more room when it was last asked, so that the bank's limit is what
+    /// its file has.
+    pub fn is_short<R: Wait>(&self, rt: &R) -> bool {
+        self.locked.lock(rt).held.is_short()
+    }
+
+    /// Makes room up to this length of the bank in use before it is needed; returns whether it is
+    /// there. If it is not, and room is kept, a snapshot is due. No session sees a change.
+    pub fn extend<R: Wait>(&self, rt: &R, to: usize) -> bool {
+        let (there, _) = with_locked!(self, rt, |locked| locked.held.extend(self.alloc, to));
+        there
+    }
+
+    /// Looks again how much room there is, after a snapshot, or some time after there was no more.
+    /// If the other file is much longer than the bank in use, it is cut. No session sees a change,
+    /// but what the server finds no room for.
+    pub fn renew_room<R: Wait>(&self, rt: &R) {
+        let _ = with_locked!(self, rt, |locked| locked.held.renew_room(self.alloc));
+    }
+
     /// Forgets the receipts of deeds that were reported, if there are many, and gives back the
     /// memory of some that were forgotten. Each group does so too: this is for a program that
     /// serves, in which no group may come for long. Nothing changes that a session sees.

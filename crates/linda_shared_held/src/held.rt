@@ -17,6 +17,7 @@ mod longest;
 mod measure;
 mod preallocation;
 mod recall;
+mod room;
 mod serve;
 mod settle;
 mod steps;
@@ -39,6 +40,7 @@ ghost use Rattle.linda_shared_accounts.specs.Accounts.{accounts_of};
 ghost use Rattle.linda_shared_accounts.specs.declared.limits.TheConstants.{PARTS};
 ghost use Rattle.std.specs.FinMap as fin;
 
+use crate::room::Room;
 use crate::snapshot_policy::SnapshotPolicy;
 pub use finish::Report;
 use linda_bag::IndexBag;
@@ -74,6 +76,7 @@ pub struct Held<D: Disk, L: Ledger> {
     // For each client that has an outbox the replies that wait there, in order.
     boxes: Outboxes,
     policy: SnapshotPolicy,
+    room: Room,
     recall: Recall,
     // What is remembered for a client was kept for it at the base.
     ghost remembers: { ∥ Remembers base.value recall ∥₁ },
@@ -109,6 +112,7 @@ impl<D: Disk, L: Ledger> Held<D, L> {
             accounts: Accounts::new(alloc, blank),
             boxes: Outboxes::new(alloc),
             policy,
+            room: Room::unkept(),
             recall: Recall::new(alloc),
         }
     }

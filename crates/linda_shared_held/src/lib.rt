@@ -11,6 +11,7 @@ mod admission;
 mod gauge;
 mod held;
 mod limits;
+mod room;
 mod snapshot_policy;
 mod thread_safety;
 

@@ -1,6 +1,5 @@
 //! The log of a server: a line for what happens, `TIME EVENT key value key value ..`.
 
-use super::banks::WatchedBanks;
 use super::minutes::Counted;
 use super::stamp::stamp_now;
 use linda_disk::FileTrouble;
@@ -32,8 +31,6 @@ pub struct Log<'a, W: Write> {
     sink: Option<&'a mut W>,
     text: String,
     before: Counted,
-    banks: Option<WatchedBanks>,
-    is_removed: bool,
 }
 
 impl<'a, W: Write> Log<'a, W> {
@@ -44,19 +41,7 @@ impl<'a, W: Write> Log<'a, W> {
             sink,
             text,
             before: Counted::none(),
-            banks: None,
-            is_removed: false,
         })
-    }
-
-    /// Once a minute the log looks whether these are still in a folder.
-    pub(super) fn watch(&mut self, banks: WatchedBanks) {
-        self.banks = Some(banks);
-    }
-
-    /// Whether it was seen that the file of a bank is in no folder any more.
-    pub(super) fn is_removed(&self) -> bool {
-        self.is_removed
     }
 
     /// Another server has the folder open, and from now on this one waits.
@@ -96,8 +81,8 @@ impl<'a, W: Write> Log<'a, W> {
         self.send(told);
     }
 
-    // The file of a bank is in no folder any more.
-    fn tell_removed<C: Clock>(&mut self, clock: &C, bank: &str) {
+    /// The file of a bank is not in its place any more.
+    pub(super) fn tell_removed<C: Clock>(&mut self, clock: &C, bank: &str) {
         let told = self.spell_removed(clock, bank);
         self.send(told);
     }
@@ -311,18 +296,6 @@ impl<W: Write> Watcher for Log<'_, W> {
     fn tell<C: Clock>(&mut self, clock: &C, notice: Notice, gauge: &Gauge, tally: &CounterValues) {
         let told = self.spell(clock, notice, gauge, tally);
         self.send(told);
-    }
-
-    fn is_kept<C: Clock>(&mut self, clock: &C) -> bool {
-        let Some(banks) = &self.banks else {
-            return true;
-        };
-        let Some(bank) = banks.removed() else {
-            return true;
-        };
-        self.is_removed = true;
-        self.tell_removed(clock, bank);
-        false
     }
 }
 

@@ -17,9 +17,10 @@ const TRIES: u32 = 10;
 const PRIVATE: u32 = 0o700;
 
 /// Listens on a unix socket at a path, whose file has this mode. It is made in a folder that nobody
-/// else may go into, and gets its mode
-/// there, and then its path: so nobody connects whom the mode keeps out. What is left at the path
-/// of a server that was killed is replaced. All else that is there stays.
+/// else may go into, and gets its mode there, and then its path by a hard link, which overwrites
+/// nothing: so nobody connects whom the mode keeps out. What is left at the path of a server that
+/// was killed is replaced; of two servers that do so at the same moment one may lose its path. All
+/// else that is there stays.
 ///
 /// # Errors
 ///

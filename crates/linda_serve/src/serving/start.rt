@@ -1,11 +1,12 @@
 //! A start: the store of a server is opened, and a snapshot of it taken first if one pays by then.
 //! A disk that has no room for one is no reason to serve nobody.
 
-ghost use Rattle.std.specs.Prelude.{◌≡◌, ◌≤◌, ◌&&◌, ◌-◌, ◌/◌, nat_le, false, IfOk, IfSome};
+ghost use Rattle.std.specs.Prelude.{◌≡◌, ◌<◌, ◌≤◌, ◌&&◌, ◌-◌, ◌/◌, nat_le, true, false, IfOk};
+ghost use Rattle.std.specs.Prelude.{IfSome};
 ghost use Rattle.linda_serve.specs.declared.serving.start.TheConstants.{FEW_BYTES};
 
 use super::fault::ServingFault;
-use super::store::{BankFiles, give_back, sync_folder};
+use super::store::{BankFiles, fit_other, give_back, sync_folder};
 use linda_disk::{FileCall, FileDisk, FileTrouble};
 use linda_net_marks::millis_since;
 use linda_server::{Durable, ServeFault};
@@ -55,17 +56,33 @@ enum Hindrance {
 
 /// Opens the store in a folder to serve it.
 ///
-/// If a snapshot was cut off in it, its room is given back, and the next one is put off, for half
-/// as many bytes of records: so the server serves for a while even if it went down in that one,
-/// since the disk had no room for it, and the other half is left when the next one is tried. Else a
-/// snapshot is taken, if the records have at least as many bytes as the bank had when it was new,
-/// and 64 KiB; and the room of the bank before is given back. If it cannot be written, all that is
-/// no bank is given back, and it is tried once more; if that cannot be either, it is put off.
+/// If a snapshot was cut off in it, in a file that is shorter than the bank in use, its room is
+/// given back, and the next one is put off, for half as many bytes of records: so the server serves
+/// for a while even if it went down in that one, since the disk had no room for it, and the other
+/// half is left when the next one is tried. Else a snapshot is taken, if the records have at least
+/// as many bytes as the bank had when it was new, and 64 KiB. If it cannot be written, all that is
+/// no bank is given back, and it is tried once more; if that cannot be either, it is put off. The
+/// other file has as many bytes then as the bank in use, for the next snapshot, or as many as there
+/// is room for.
 ///
 /// # Errors
 ///
 /// As those of `open_store`.
 pub(super) fn open_to_serve<F: Files<File = File>, C: Clock>(
+    files: &F,
+    clock: &C,
+    alloc: Global,
+    folder: &str,
+) -> Result<Begun, ServingFault>
+    ensures up { IfOk result (λ begun. begun.server.down ≡ false) }
+{
+    let Begun { mut server, course } = open_first(files, clock, alloc, folder)?;
+    fit_other(alloc, &mut server)?;
+    Ok(Begun { server, course })
+}
+
+// The same, before the other file is made as long.
+fn open_first<F: Files<File = File>, C: Clock>(
     files: &F,
     clock: &C,
     alloc: Global,
@@ -80,10 +97,10 @@ pub(super) fn open_to_serve<F: Files<File = File>, C: Clock>(
         Some(base) => base,
         None => server.used(),
     };
-    if found.partial_bank.is_some() {
+    let end = server.used();
+    if is_too_short(found.partial_bank, end) {
         return put_off(server, base, found.partial_bank, None);
     }
-    let end = server.used();
     if !is_worth_it(base, end) {
         return Ok(as_it_is(server, base));
     }
@@ -97,6 +114,17 @@ pub(super) fn open_to_serve<F: Files<File = File>, C: Clock>(
             }
             try_again(&banks, clock, alloc, base)
         }
+    }
+}
+
+// Whether the other file is no bank, and has not even so many bytes as the bank in use: a snapshot
+// was cut off for want of room.
+fn is_too_short(partial_bank: Option<u64>, end: usize) -> bool
+    ensures { result ≡ true → IfSome partial_bank (λ len. len < end) }
+{
+    match partial_bank {
+        Some(len) => len < end as u64,
+        None => false,
     }
 }
 
@@ -181,7 +209,7 @@ fn is_worth_it(base: usize, used: usize) -> bool
     more >= FEW_BYTES && more >= base
 }
 
-// Takes a snapshot, and gives back the room of the bank before. If there is no next bank for the
+// Takes a snapshot. If there is no next bank for the
 // state the server goes on in its bank, which took `base` bytes when it was new.
 fn snapshot_first<C: Clock>(
     clock: &C,
@@ -195,32 +223,26 @@ fn snapshot_first<C: Clock>(
     let mut server = server;
     let begin = Instant::now(clock).ok();
     match server.renew(alloc) {
-        Ok(()) => taken(server, millis_since(clock, begin)),
+        Ok(()) => Ok(taken(server, millis_since(clock, begin))),
         Err(ServeFault::Full) => Ok(as_it_is(server, base)),
         Err(ServeFault::Memory) => Err(Hindrance::Fault(ServingFault::Memory)),
         Err(ServeFault::Disk | ServeFault::Down) => Err(hindrance_of(server)),
     }
 }
 
-// A snapshot was taken: gives back the room of the bank before.
-fn taken(server: Durable<FileDisk>, millis: u64) -> Result<Begun, Hindrance>
-    ensures up { IfOk result (λ begun. begun.server.down ≡ false) }
+// A snapshot was taken.
+fn taken(server: Durable<FileDisk>, millis: u64) -> Begun
+    ensures { result.server ≡ server }
 {
-    let mut server = server;
-    match give_back(&mut server) {
-        Err(fault) => Err(Hindrance::Fault(fault)),
-        Ok(()) => {
-            let base = server.used();
-            Ok(Begun {
-                server,
-                course: Course {
-                    base,
-                    put_off: None,
-                    taken: Some(millis),
-                    trouble: None,
-                },
-            })
-        }
+    let base = server.used();
+    Begun {
+        server,
+        course: Course {
+            base,
+            put_off: None,
+            taken: Some(millis),
+            trouble: None,
+        },
     }
 }
 

@@ -16,6 +16,12 @@ use std::os::unix::fs::FileExt;
 /// The file of the left bank.
 pub(crate) const LEFT: &str = "left.bank";
 
+/// How much longer than the bank in use the other file may be at a start.
+const SLACK: usize = 4_194_304;
+
+/// In how many pieces at most it is lengthened: so many make a bank of the greatest length.
+const PIECES: u32 = 256;
+
 /// The file of the right bank.
 pub(crate) const RIGHT: &str = "right.bank";
 
@@ -205,6 +211,30 @@ pub(super) fn give_back(server: &mut Durable<FileDisk>) -> Result<(), ServingFau
     ensures limit { OnOk result (server.new.limit ≡ server.old.limit) }
 {
     let _ = server.trim().is_err();
+    if server.is_down() {
+        return Err(ServingFault::Disk);
+    }
+    Ok(())
+}
+
+/// Has the file of the other disk as many bytes as the bank in use has, as far as the device has
+/// room: so the next snapshot finds room there. It is cut if it has 4 MiB more. The server stays
+/// up.
+///
+/// # Errors
+///
+/// `Disk`: a device failed.
+pub(super) fn fit_other(alloc: Global, server: &mut Durable<FileDisk>) -> Result<(), ServingFault>
+    ensures up { OnOk result (server.new.down ≡ false) }
+{
+    let used = server.used().saturating_add(GATE_BYTES);
+    let mut before = 0;
+    for _ in 0..PIECES {
+        match server.reserve(alloc, used, used.saturating_add(SLACK)) {
+            Ok(len) if before < len && len < used => before = len,
+            _ => break,
+        }
+    }
     if server.is_down() {
         return Err(ServingFault::Disk);
     }

@@ -74,6 +74,17 @@ impl<D: Disk> Durable<D> {
         self.serve_batch(alloc, Messages::One(client, message))
     }
 
+    /// How many bytes of the bank in use the deeds of the messages will need at most, with the gate
+    /// after them: 0 if they make none, or one of them will have no spelling there.
+    pub fn room_for(&self, messages: &[(u32, Message)]) -> usize
+        requires few { length messages.now ≤ MAX_GROUP }
+    {
+        match self.need_of(Messages::Many(messages)) {
+            Some(need) => bytes_of(need),
+            None => 0,
+        }
+    }
+
     // Does what the messages ask.
     fn serve_batch(&mut self, alloc: Global, batch: Messages<'_>) -> Result<Served, ServeFault>
         requires { length (messages_of batch) ≤ MAX_GROUP }
@@ -204,6 +215,18 @@ impl<D: Disk> Durable<D> {
             }
         }
     }
+}
+
+// How many bytes the records of deeds that need this take, and the gate after them; 0 if there are
+// none.
+fn bytes_of(need: Need) -> usize
+    requires { need.deeds ≤ MAX_GROUP }
+{
+    if need.deeds == 0 {
+        return 0;
+    }
+    let heads = RECORD_HEAD * records_for(need.deeds) + GATE_BYTES;
+    need.bytes.saturating_add(heads)
 }
 
 // Whether the records of deeds that need this, and the gate after them, keep within the limit, if

@@ -168,6 +168,7 @@ impl<D: Disk, L: Ledger> Held<D, L> {
         take_snapshot(&mut self.server, alloc)?;
         self.move_base(alloc);
         self.policy = new_policy(&self.server);
+        self.room.begin_anew();
         Ok(())
     }
 

@@ -85,6 +85,7 @@ impl<D: Disk, L: Ledger> Held<D, L> {
             Progress::Done => {
                 self.move_base(alloc);
                 self.policy = new_policy(&self.server);
+                self.room.begin_anew();
             }
             Progress::Idle | Progress::Going => {}
         }

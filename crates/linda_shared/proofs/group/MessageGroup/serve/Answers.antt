@@ -44,7 +44,7 @@ returns-clause-told g c =
     let all : vec_len new ≡ vec_len own.messages = omega (arith, none, more, each) in
     let same : length new.items ≡ length own.messages.items = sym new.ok.0 ∙ (all ∙ own.messages.ok.0) in
     let read = served_read (λ a. a.told) own.messages.items c.reverse.new.self.items new.items c.reverse.ensures.items same in
-    let ms = c.deref.ensures.value in
+    let ms = c.deref-2.ensures.value in
     let down = c.handle_all.new.self.server.down in
     subst (λ (t : List (Effect Receipt)). AreTold g.row.D.Denot g.D.Disk (not down) c.args.self.messages t) (sym read)
     (subst (λ (l : List (ℕ × Message)). AreTold g.row.D.Denot g.D.Disk (not down) l (reverse (map (λ a. a.told) new.items)))
